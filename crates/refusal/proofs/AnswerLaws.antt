@@ -1,11 +1,14 @@
 -- Laws of answers in their turn: no refusal has number 0, so a refusal is never passed over, and an acceptance always is. Rests on no axiom.
-use Prim.Native.Nat.{ℕ}
+use Prim.Native.Nat.{ℕ, suc}
 use mathlib.Core.Path.{_≡_, refl, sym, ap, _∙_}
-use mathlib.Core.Bool.{false}
+use mathlib.Core.Bool.{Bool, true, false, cond}
 use mathlib.Core.List.{List}
+use native.Mathlib.Omega.{arith}
 use lib.Dec.{eqb}
+use borrow.Author.Tests.{eqb-true, eqb-false, eq-eqb}
+use Rattle.lists.specs.Filled.{filled}
 use Rattle.refusal.specs.Table.{numberOf, placeOf}
-use Rattle.refusal.specs.Answer.{Answer, accepted, refused, firstRefusal, verdictAnswer, countedAnswer, settled}
+use Rattle.refusal.specs.Answer.{Answer, accepted, refused, refuseIf, firstRefusal, verdictAnswer, countedAnswer, settled}
 use Rattle.refusal.specs.declared.Refusal.{Refusal}
 use Rattle.refusal.specs.declared.Refusal.the-variants.{ProfileOutOfRange, ProfileInconsistent, NotAnItem, TooLong, IntervalTooShort, IntervalTooLong, NotWholeBytes, MisplacedMark, OutputTooShort, NoLock, EndsEarly, CountOutOfRange, SectorSizeMismatch, MalformedInput}
 use Rattle.refusal.specs.declared.Verdict.{Verdict}
@@ -52,9 +55,43 @@ pub verdict-passes
     : (v : Verdict) (rule later : Answer) → verdictAnswer v ≡ rule → v ≡ Accepted → later ≡ firstRefusal rule later
 verdict-passes v rule later e q = acceptance-passes 0 rule later (sym (ap verdictAnswer q) ∙ e)
 
+pub verdict-accepts : (v : Verdict) (rule : Answer) → verdictAnswer v ≡ rule → v ≡ Accepted → rule .number ≡ 0
+verdict-accepts v rule e q = sym (ap (λ (a : Answer). a .number) (sym (ap verdictAnswer q) ∙ e))
+
 -- a buffer after a refusal is as it was lent
 pub refusal-keeps-the-buffer
     : (r : Refusal) (rule : Answer) (result old : List ℕ)
     → refused (numberOf r) (placeOf r) ≡ rule
     → old ≡ settled rule result old
 refusal-keeps-the-buffer r rule result old e = rw (sym e, number-is-not-zero r)
+
+-- ---- what acceptance says of the tests on the way
+
+both-accept
+    : (t : Bool) (a b : Answer) → eqb (a .number) 0 ≡ t → (cond t b a) .number ≡ 0 → (a .number ≡ 0) × (b .number ≡ 0)
+both-accept true a b e h = (eqb-true _ _ e, h)
+both-accept false a b e h = absurd (eqb-false _ _ e h)
+
+-- where an answer in its turn and the later tests accept together, each does
+pub first-refusal-accepts : (a b : Answer) → firstRefusal a b .number ≡ 0 → (a .number ≡ 0) × (b .number ≡ 0)
+first-refusal-accepts a b h = both-accept (eqb (a .number) 0) a b refl h
+
+-- an answer that accepts is passed over
+pub first-refusal-passes : (a b : Answer) → a .number ≡ 0 → firstRefusal a b ≡ b
+first-refusal-passes a b h = rw (eq-eqb _ 0 h)
+
+-- where a test in its turn let the input pass, it failed, and the later tests accept
+pub refuse-if-accepts
+    : (t : Bool) (n p : ℕ) (later : Answer)
+    → refuseIf t (suc n) p later .number ≡ 0
+    → (t ≡ false) × (later .number ≡ 0)
+refuse-if-accepts true n p later h = absurd (omega arith)
+refuse-if-accepts false n p later h = (refl, h)
+
+pub refuse-if-passes : (t : Bool) (n p : ℕ) (later : Answer) → t ≡ false → refuseIf t n p later ≡ later
+refuse-if-passes t n p later h = rw h
+
+-- a buffer after an acceptance is filled
+pub acceptance-fills-the-buffer
+    : (rule : Answer) (result old : List ℕ) → rule .number ≡ 0 → settled rule result old ≡ filled result old
+acceptance-fills-the-buffer rule result old h = rw (eq-eqb _ 0 h)

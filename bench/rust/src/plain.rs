@@ -1,0 +1,88 @@
+//! The contract of `ism.h` in plain safe Rust, as a baseline for the benchmark: no proof, one pass to check and one to
+//! write.
+
+mod fifo;
+mod reader;
+mod register;
+mod writer;
+
+pub use fifo::*;
+pub use reader::{plain_rust_find, plain_rust_read, plain_rust_read_field};
+pub use writer::{plain_rust_make_sector, plain_rust_write};
+
+use ism::sys::{Answer, Profile};
+
+const MAX_BYTES: usize = 6_400;
+const MAX_INTERVALS: usize = 51_202;
+const MAX_FIELD_BYTES: u64 = 1_030;
+
+fn refused(number: u32, place: usize) -> Answer {
+    Answer { number, place: place as u32, count: 0, used: 0, holds: 0 }
+}
+
+fn counted(count: u64) -> Answer {
+    Answer { number: 0, place: 0, count, used: 0, holds: 0 }
+}
+
+/// Classes 1 narrow, 2, 3, 4, 5 wide.
+#[inline]
+fn classify(p: &Profile, interval: u16) -> u8 {
+    if interval < p.min {
+        1
+    } else if interval < p.b23 {
+        2
+    } else if interval < p.b34 {
+        3
+    } else if interval < p.rpt {
+        4
+    } else {
+        5
+    }
+}
+
+/// The margin, below 0 if the windows miss the cell lengths.
+fn least_distance(p: &Profile) -> i32 {
+    let d = 2 * (i32::from(p.late) - i32::from(p.early));
+    let two = i32::from(p.t1);
+    let three = two + i32::from(p.t0);
+    let four = three + i32::from(p.t0);
+    let [min, b23, b34, rpt] = [p.min, p.b23, p.b34, p.rpt].map(i32::from);
+    let class_2 = (two - d - min).min(b23 - 1 - two);
+    let class_3 = (three - b23).min(b34 - 1 - three - d);
+    let class_4 = (four - b34).min(rpt - 1 - four - d);
+    class_2.min(class_3).min(class_4)
+}
+
+fn check_profile(p: &Profile) -> Result<(), Answer> {
+    let in_range = [
+        (1..=1023).contains(&p.t1),
+        (1..=1023).contains(&p.t0),
+        p.early <= 15,
+        p.normal <= 15,
+        p.late <= 15,
+        (1..=4095).contains(&p.min),
+        (1..=4095).contains(&p.b23),
+        (1..=4095).contains(&p.b34),
+        (1..=4095).contains(&p.rpt),
+    ];
+    if let Some(which) = in_range.iter().position(|fits| !fits) {
+        return Err(refused(1, which + 1));
+    }
+    if p.early > p.normal || p.normal > p.late || least_distance(p) < 0 {
+        return Err(refused(2, 0));
+    }
+    Ok(())
+}
+
+/// One answer from either way out of a function.
+fn either(result: Result<Answer, Answer>) -> Answer {
+    result.unwrap_or_else(|refusal| refusal)
+}
+
+pub fn plain_rust_margin(profile: Profile) -> Answer {
+    either(check_profile(&profile).map(|()| counted(least_distance(&profile) as u64)))
+}
+
+pub fn plain_rust_class(profile: Profile, interval: u16) -> Answer {
+    either(check_profile(&profile).map(|()| counted(u64::from(classify(&profile, interval)))))
+}

@@ -1,0 +1,5 @@
+pub mod ScanLaws
+pub mod InkLaws
+pub mod ListLaws
+pub mod WriterLaws
+pub mod ReaderLaws

@@ -1,0 +1,42 @@
+-- Why `codec::writer::check_list` answers `listRule`: it makes the rule's tests in the rule's order. Rests on no axiom.
+use Rattle.codec.proofs.ListLaws.{rule-of-too-many, rule-of-too-many-bytes, rule-of-foreign, rule-of-accepted}
+use borrow.Author.Needs.{needs}
+use Rattle.codec.proofs.writer.check_list.Statement.{statement}
+use Rattle.codec.proofs.writer.check_list.Tie as tie
+
+returns : tie.Need-returns
+returns c = rule-of-too-many _ (c .if1 .taken)
+
+written-bytes-requires : tie.Need-written-bytes-requires
+written-bytes-requires c κs = search needs
+
+returns-2 : tie.Need-returns-2
+returns-2 c = rule-of-too-many-bytes _ _ (c .before .written-bytes .ensures) (c .if2 .taken)
+
+find-foreign-requires : tie.Need-find-foreign-requires
+find-foreign-requires c κs = search needs
+
+cast-t7 : tie.Need-cast-t7
+cast-t7 c = search needs
+
+returns-3 : tie.Need-returns-3
+returns-3 c =
+    rule-of-foreign _ _ _ (c .before .before .before .before .if1 .left) (c .before .before .before .written-bytes .ensures) (c .before .before .if2 .left)
+    (c .before .find-foreign .ensures) (c .if3 .taken)
+
+returns-4 : tie.Need-returns-4
+returns-4 c =
+    rule-of-accepted _ _ _ (c .before .before .before .before .if1 .left) (c .before .before .before .written-bytes .ensures) (c .before .before .if2 .left)
+    (c .before .find-foreign .ensures) (c .if3 .left)
+
+pub check-list-spec : {M : Type 1} → statement M
+check-list-spec =
+    tie.close
+    (tie.spec
+    returns
+    written-bytes-requires
+    returns-2
+    find-foreign-requires
+    cast-t7
+    returns-3
+    returns-4)

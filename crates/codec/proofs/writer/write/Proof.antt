@@ -1,0 +1,68 @@
+-- Why `codec::writer::write` answers `writeRule`: the profile's refusal decides, then the list's, then what `write_list` answers.
+-- Rests on no axiom.
+use mathlib.Core.Path.{_∙_}
+use Rattle.refusal.proofs.AnswerLaws.{verdict-refuses, verdict-passes, verdict-accepts, refusal-keeps-the-buffer}
+use Rattle.codec.specs.Writer.{writeRule, writeOutput}
+use borrow.Author.Needs.{needs}
+use Rattle.codec.proofs.writer.write.Statement.{statement}
+use Rattle.codec.proofs.writer.write.Tie as tie
+
+check-requires : tie.Need-check-requires
+check-requires c κs = search needs
+
+enum-known-refusal : tie.Need-enum-known-refusal
+enum-known-refusal c = search needs
+
+enum-told : tie.Need-enum-told
+enum-told c = search needs
+
+check-list-requires : tie.Need-check-list-requires
+check-list-requires c κs = search needs
+
+enum-known-refusal-2 : tie.Need-enum-known-refusal-2
+enum-known-refusal-2 c = search needs
+
+enum-told-2 : tie.Need-enum-told-2
+enum-told-2 c = search needs
+
+write-list-requires : tie.Need-write-list-requires
+write-list-requires c κs = (
+  verdict-accepts _ _ (c .before .before .before .before .before .before .check .ensures) (c .before .before .before .before .enum-told .given .1),
+  verdict-accepts _ _ (c .before .before .before .check-list .ensures) (c .before .enum-told2 .given .1),
+)
+
+returns : tie.Need-returns
+unfolding writeRule writeOutput
+returns c =
+    let rule = verdict-refuses _ _ _ _ (c .before .before .before .check .ensures) (c .before .refusal .given .1) in
+    (rule, refusal-keeps-the-buffer (c .before .refusal .given .0 .0) _ _ _ rule)
+
+returns-2 : tie.Need-returns-2
+unfolding writeRule writeOutput
+returns-2 c =
+    let rule =
+    verdict-refuses _ _ _ _ (c .before .before .before .check-list .ensures) (c .before .refusal2 .given .1)
+    ∙ verdict-passes _ _ _ (c .before .before .before .before .before .before .check .ensures) (c .before .before .before .before .enum-told .given .1) in
+    (rule, refusal-keeps-the-buffer (c .before .refusal2 .given .0 .0) _ _ _ rule)
+
+same-length : tie.Need-same-length
+same-length c = search needs
+
+returns-3 : tie.Need-returns-3
+returns-3 c = search needs
+
+pub write-spec : {M : Type 1} → statement M
+write-spec =
+    tie.close
+    (tie.spec
+    check-requires
+    enum-known-refusal
+    enum-told
+    check-list-requires
+    enum-known-refusal-2
+    enum-told-2
+    write-list-requires
+    returns
+    returns-2
+    same-length
+    returns-3)

@@ -1,0 +1,39 @@
+-- Why `codec::writer::write_stream` stores the stream: the bytes' bits, then the closing 0s behind them. Rests on no axiom.
+use mathlib.Core.Path.{sym, subst, _∙_}
+use native.Mathlib.Omega.{arith}
+use denote.Ref.{now}
+use Rattle.symbols.specs.Bits.{allBits}
+use Rattle.symbols.proofs.BytesLaws.{length-of-bits}
+use Rattle.lengths.specs.Pen.{freshPen, Steady}
+use Rattle.lengths.proofs.SteadyLaws.{fresh-pen-is-steady, pen-stays-steady}
+use Rattle.codec.proofs.InkLaws.{inked-at-most}
+use Rattle.codec.proofs.WriterLaws.{stream-in-two-parts}
+use borrow.Author.Needs.{needs}
+use Rattle.codec.proofs.writer.write_stream.Statement.{statement}
+use Rattle.codec.proofs.writer.write_stream.Tie as tie
+
+write-bytes-requires : tie.Need-write-bytes-requires
+write-bytes-requires c κs = search needs
+
+write-closing-requires : tie.Need-write-closing-requires
+write-closing-requires c κs =
+    let start = c .before .before .before .before .before .before .before .args in
+    let wrote = c .before .before .before .write-bytes .ensures in
+    let bits = length-of-bits (now (start .bytes)) in
+    let most = inked-at-most (start .p) (freshPen (start .p)) (allBits (now (start .bytes))) in (
+      subst (Steady (start .p)) (sym (wrote .0))
+          (pen-stays-steady (freshPen (start .p)) (allBits (now (start .bytes))) (fresh-pen-is-steady (start .p) (c .before .before .before .before .before .before .before .pre .0))),
+      omega (arith, wrote .1, c .before .before .before .before .before .before .before .pre .1),
+    )
+
+same-length : tie.Need-same-length
+same-length c = search needs
+
+returns : tie.Need-returns
+returns c =
+    let wrote = c .before .before .before .before .before .before .write-bytes .ensures in
+    c .before .before .write-closing .ensures ∙ stream-in-two-parts _ _ _ _ _ _ (wrote .0) (wrote .1) (wrote .2)
+
+pub write-stream-spec : {M : Type 1} → statement M
+write-stream-spec =
+    tie.close (tie.spec write-bytes-requires write-closing-requires same-length returns)

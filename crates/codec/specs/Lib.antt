@@ -1,0 +1,4 @@
+pub mod Writer
+pub mod Reader
+pub mod Scan
+pub mod Output

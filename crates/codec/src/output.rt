@@ -1,0 +1,21 @@
+// The caller's output.
+ghost use Prim.Native.Nat.{_+_, _<_};
+ghost use mathlib.Core.Path.{_≡_};
+ghost use lib.ListN.{length};
+ghost use Rattle.lists.specs.Filled.{storedAt};
+ghost use Rattle.codec.specs.Output.{ifGiven};
+
+// A number, if one was given, stored at a place where there is room. Answers the next place.
+pub fn put(out: &mut [u16], at: usize, given: bool, number: u16) -> usize
+    requires { ⌜ at < 65536 ⌝ }
+    ensures { λ r. ⌜ (r ≡ at + length (ifGiven given number)) × (now (out .exit) ≡ storedAt (now (out .entry)) at (ifGiven given number)) ⌝ }
+{
+    if given {
+        if at < out.len() {
+            out[at] = number;
+            return at + 1;
+        }
+        return at + 1;
+    }
+    at
+}

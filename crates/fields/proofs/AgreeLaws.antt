@@ -1,0 +1,112 @@
+-- Two lists that agree in the used intervals get equal answers: the cells and the stop of a field hang on the used intervals alone, and
+-- all else hangs on those. Rests on no axiom.
+use Prim.Native.Nat.{ℕ, zero, suc, _≤_}
+use mathlib.Core.Path.{_≡_, refl, sym, ap, _∙_}
+use mathlib.Core.List.{List, [], _∷_, _++_}
+use lib.ListN.{length, take, drop, take-append-drop}
+use Rattle.refusal.specs.Answer.{Answer, settled}
+use Rattle.refusal.proofs.AnswerLaws.{first-refusal-accepts, refuse-if-accepts}
+use Rattle.timing.specs.Profile.{outside, profileRule}
+use Rattle.timing.specs.Class.{classOf, classesOf}
+use Rattle.timing.specs.declared.Profile.{Profile}
+use Rattle.timing.specs.declared.Class.{Class}
+use Rattle.timing.proofs.ClassLaws.{classes-of-none, classes-of-cons, classes-of-append}
+use Rattle.symbols.specs.Bits.{O}
+use Rattle.fields.specs.Field.{bitsWanted, cellsTaken, stopFrom, fieldStop, fieldCells, fieldUsed, fieldBits, fieldItems, fieldHolds, fieldStray, fieldStrayPlace}
+use Rattle.fields.specs.FieldRule.{gatherRule, deliverRule, checkedRule, fieldRule, fieldReading, fieldOutput}
+use Rattle.fields.proofs.TakenLaws.{SameFront, used-decide}
+
+pub classes-of-take : (p : Profile) (k : ℕ) (ds : List ℕ) → classesOf p (take k ds) ≡ take k (classesOf p ds)
+classes-of-take p zero ds = classes-of-none p
+classes-of-take p (suc k) [] = rw classes-of-none
+classes-of-take p (suc k) (d ∷ ds) =
+    classes-of-cons p d (take k ds)
+    ∙ ap (λ (cs : List Class). classOf p d ∷ cs) (classes-of-take p k ds)
+    ∙ rw classes-of-cons
+
+-- ---- what hangs on the cells and the stop
+
+module _
+    (n : ℕ)
+    (cs ds : List Class)
+    (cells : fieldCells ds n ≡ fieldCells cs n)
+    (stop : fieldStop ds n ≡ fieldStop cs n)
+  where
+    same-used : fieldUsed ds n ≡ fieldUsed cs n
+    unfolding fieldUsed
+    same-used = ap length cells
+
+    pub same-items : fieldItems ds n ≡ fieldItems cs n
+    unfolding fieldItems fieldBits
+    same-items = rw cells
+
+    same-holds : fieldHolds ds n ≡ fieldHolds cs n
+    unfolding fieldHolds
+    same-holds = rw same-items
+
+    pub same-gather : gatherRule ds n ≡ gatherRule cs n
+    unfolding gatherRule fieldStray fieldStrayPlace fieldBits
+    same-gather = rw (stop, same-used, cells)
+
+-- ---- the law
+
+module _ (p : Profile) (ds es : List ℕ) (n room : ℕ) where
+  -- the lists agree in the intervals that the first uses
+  abbrev pub AgreeInUsed : Type 0
+  AgreeInUsed = take (fieldUsed (classesOf p ds) n) es ≡ take (fieldUsed (classesOf p ds) n) ds
+
+  pub accepted-stops-nowhere : fieldRule p ds n room .number ≡ 0 → fieldStop (classesOf p ds) n .number ≡ 0
+  unfolding fieldRule checkedRule gatherRule
+  accepted-stops-nowhere e =
+      let after-2 = first-refusal-accepts (profileRule p) _ e .1 in
+      let after-12 = refuse-if-accepts (outside 1 1030 n) 11 0 _ after-2 .1 in
+      let gathered = first-refusal-accepts (gatherRule (classesOf p ds) n) (deliverRule n room) after-12 .0 in
+      first-refusal-accepts (fieldStop (classesOf p ds) n) _ gathered .0
+
+  module _ (accepts : fieldRule p ds n room .number ≡ 0) (agree : AgreeInUsed) where
+    classes-split
+        : classesOf p es
+        ≡ take (fieldUsed (classesOf p ds) n) (classesOf p ds) ++ classesOf p (drop (fieldUsed (classesOf p ds) n) es)
+    classes-split =
+        let used = fieldUsed (classesOf p ds) n in
+        ap (classesOf p) (sym (take-append-drop used es))
+        ∙ classes-of-append p (take used es) (drop used es)
+        ∙ ap (λ (cs : List Class). cs ++ classesOf p (drop used es)) (ap (classesOf p) agree ∙ classes-of-take p used ds)
+
+    same-front : SameFront (classesOf p ds) (classesOf p es) 0 (bitsWanted n) O
+    unfolding fieldUsed fieldCells fieldStop
+    same-front =
+        rw classes-split
+        (used-decide
+        (classesOf p (drop (fieldUsed (classesOf p ds) n) es))
+        (classesOf p ds)
+        0
+        (bitsWanted n)
+        O
+        (accepted-stops-nowhere accepts))
+
+    cells-agree : fieldCells (classesOf p es) n ≡ fieldCells (classesOf p ds) n
+    unfolding fieldCells
+    cells-agree = same-front .cells
+
+    stops-agree : fieldStop (classesOf p es) n ≡ fieldStop (classesOf p ds) n
+    unfolding fieldStop
+    stops-agree = same-front .stop
+
+    rules-agree : (r : ℕ) → fieldRule p es n r ≡ fieldRule p ds n r
+    unfolding fieldRule checkedRule
+    rules-agree r = rw (same-gather n (classesOf p ds) (classesOf p es) cells-agree stops-agree)
+
+    pub used-intervals-decide : fieldReading p es n room ≡ fieldReading p ds n room
+    unfolding fieldReading
+    used-intervals-decide =
+        rw (
+          rules-agree room,
+          same-used n (classesOf p ds) (classesOf p es) cells-agree stops-agree,
+          same-holds n (classesOf p ds) (classesOf p es) cells-agree stops-agree,
+        )
+
+    pub used-intervals-decide-output : (old : List ℕ) → fieldOutput p es n old ≡ fieldOutput p ds n old
+    unfolding fieldOutput
+    used-intervals-decide-output old =
+        rw (rules-agree (length old), same-items n (classesOf p ds) (classesOf p es) cells-agree stops-agree)

@@ -1,0 +1,122 @@
+-- What the search for the first lock finds: the smallest place at which one stands, and adrift means that none does. By induction on the
+-- places that are left. Rests on no axiom.
+use Prim.Native.Nat.{ℕ, zero, suc, _+_, _-_, _<_, _≤_}
+use mathlib.Core.Path.{_≡_, refl, sym, ap, _∙_}
+use mathlib.Core.Bool.{Bool, true, false, cond}
+use mathlib.Core.List.{List}
+use mathlib.Core.Logic.{⊎-elim}
+use native.Mathlib.Nat.{eq-or-lt-of-le, eq-zero-or-pos}
+use native.Mathlib.Omega.{arith}
+use lib.ListN.{length}
+use Rattle.refusal.specs.Answer.{Answer, accepted, refused}
+use Rattle.timing.specs.declared.Class.{Class}
+use Rattle.fields.specs.Lock.{lockAt, firstLock, lockFrom}
+use Rattle.fields.proofs.FinderLaws.{lock-is-within}
+
+-- a lock stands at place t, and at none before it from place k on
+pub record FirstFrom (cs : List Class) (k t : ℕ) : Type 0 where
+  pub from : k ≤ t
+  pub stands : lockAt cs t ≡ true
+  pub before : (j : ℕ) → k ≤ j → j < t → lockAt cs j ≡ false
+
+module _ (cs : List Class) where
+  -- ---- what is found
+
+  first-is : (places k t : ℕ) → t < k + places → FirstFrom cs k t → firstLock cs k places ≡ accepted t
+  unfolding firstLock
+  first-is zero k t h first = absurd (let low = first .from in omega arith)
+  first-is (suc places) k t h first =
+      ⊎-elim
+      (λ here.
+      let lock : lockAt cs k ≡ true = ap (lockAt cs) here ∙ first .stands in
+      rw lock (ap accepted here))
+      (λ on.
+      rw (first .before k (omega arith) on)
+      (first-is places (suc k) t (omega arith)
+      (record {
+        from = on;
+        stands = first .stands;
+        before = λ j low high. first .before j (omega arith) high;
+      })))
+      (eq-or-lt-of-le (first .from))
+
+  pub lock-from-is : (start k : ℕ) → FirstFrom cs (start + 64) k → lockFrom cs start ≡ accepted k
+  unfolding lockFrom
+  lock-from-is start k first =
+      let within = lock-is-within cs k (first .stands) in
+      let low = first .from in
+      first-is (length cs - (start + 64)) (start + 64) k (omega arith) first
+
+  -- ---- what a find means
+
+  found-here-or-later
+      : (t : Bool) (k : ℕ) (later : Answer)
+      → lockAt cs k ≡ t
+      → (later .number ≡ 0 → FirstFrom cs (suc k) (later .count))
+      → cond t (accepted k) later .number ≡ 0
+      → FirstFrom cs k (cond t (accepted k) later .count)
+  found-here-or-later true k later here rest e =
+      record { from = omega arith; stands = here; before = λ j low high. absurd (omega arith) }
+  found-here-or-later false k later here rest e =
+      let first = rest e in
+      record {
+        from = let low = first .from in omega arith;
+        stands = first .stands;
+        before =
+            λ j low high.
+            ⊎-elim
+            (λ same. ap (lockAt cs) (sym same) ∙ here)
+            (λ on. first .before j on high)
+            (eq-or-lt-of-le low);
+      }
+
+  first-found : (places k : ℕ) → firstLock cs k places .number ≡ 0 → FirstFrom cs k (firstLock cs k places .count)
+  unfolding firstLock
+  first-found zero k e = absurd (omega arith)
+  first-found (suc places) k e =
+      found-here-or-later (lockAt cs k) k (firstLock cs (suc k) places) refl (first-found places (suc k)) e
+
+  pub lock-from-found : (start : ℕ) → lockFrom cs start .number ≡ 0 → FirstFrom cs (start + 64) (lockFrom cs start .count)
+  unfolding lockFrom
+  lock-from-found start e = first-found (length cs - (start + 64)) (start + 64) e
+
+  -- ---- what adrift means
+
+  none-here-or-later
+      : (t : Bool) (k : ℕ) (later : Answer) (j : ℕ)
+      → lockAt cs k ≡ t
+      → (later .number ≡ 10 → suc k ≤ j → lockAt cs j ≡ false)
+      → cond t (accepted k) later .number ≡ 10
+      → k ≤ j
+      → lockAt cs j ≡ false
+  none-here-or-later true k later j here rest e low = absurd (omega arith)
+  none-here-or-later false k later j here rest e low =
+      ⊎-elim (λ same. ap (lockAt cs) (sym same) ∙ here) (λ on. rest e on) (eq-or-lt-of-le low)
+
+  none-found
+      : (places k : ℕ) → firstLock cs k places .number ≡ 10 → (j : ℕ) → j < k + places → k ≤ j → lockAt cs j ≡ false
+  unfolding firstLock
+  none-found zero k e j high low = absurd (omega arith)
+  none-found (suc places) k e j high low =
+      none-here-or-later
+      (lockAt cs k)
+      k
+      (firstLock cs (suc k) places)
+      j
+      refl
+      (λ f on. none-found places (suc k) f j (omega arith) on)
+      e
+      low
+
+  no-lock-past-end : (t : Bool) (j : ℕ) → lockAt cs j ≡ t → length cs ≤ j → t ≡ false
+  no-lock-past-end true j e h = absurd (let within = lock-is-within cs j e in omega arith)
+  no-lock-past-end false j e h = refl
+
+  pub adrift-has-no-lock
+      : (start : ℕ) → lockFrom cs start .number ≡ 10 → (j : ℕ) → start + 64 ≤ j → lockAt cs j ≡ false
+  unfolding lockFrom
+  adrift-has-no-lock start e j low =
+      ⊎-elim
+      (λ past. no-lock-past-end (lockAt cs j) j refl (omega arith))
+      (λ inside. none-found (length cs - (start + 64)) (start + 64) e j (omega arith) low)
+      (eq-zero-or-pos (length cs - j))

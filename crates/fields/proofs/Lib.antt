@@ -1,0 +1,10 @@
+pub mod LockLaws
+pub mod FinderLaws
+pub mod TakenLaws
+pub mod EnoughLaws
+pub mod FieldLaws
+pub mod AgreeLaws
+pub mod FrontLaws
+pub mod RuleLaws
+pub mod ReaderLaws
+pub mod FirstLockLaws

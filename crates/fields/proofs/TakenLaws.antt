@@ -1,0 +1,143 @@
+-- Laws of the intervals that a field uses: what follows them is not looked at, and each gives a bit, so that no more are used than bits
+-- are wanted. By induction on the classes. Rests on no axiom.
+use Prim.Native.Nat.{ℕ, zero, suc, _≤_}
+use mathlib.Core.Path.{_≡_, refl, sym, ap, _∙_}
+use mathlib.Core.List.{List, [], _∷_, _++_}
+use native.Mathlib.Omega.{arith}
+use lib.ListN.{length, take, length-append}
+use Rattle.refusal.specs.Answer.{Answer, accepted, refused}
+use Rattle.timing.specs.declared.Class.{Class}
+use Rattle.timing.specs.declared.Class.the-variants.{Narrow, Wide}
+use Rattle.symbols.specs.Bits.{Bit, O, I, G}
+use Rattle.symbols.specs.Reading.{given, lastAfter, readFrom}
+use Rattle.symbols.specs.declared.Cell.{Cell}
+use Rattle.symbols.specs.declared.Cell.the-variants.{Short, Medium, Long}
+use Rattle.intervals.proofs.CellLaws.{ReadAs, by-each-class, by-class-read}
+use Rattle.fields.specs.Field.{wantedAfter, cellsTaken, stopFrom}
+
+-- ---- a cell gives one bit or two
+
+pub read-one-more : (b : Bit) (c : Cell) (cs : List Cell) → readFrom b (c ∷ cs) ≡ given b c ++ readFrom (lastAfter b c) cs
+unfolding readFrom
+read-one-more b c cs = refl
+
+pub read-none : (b : Bit) → readFrom b [] ≡ []
+unfolding readFrom
+read-none b = refl
+
+pub given-at-least-one : (b : Bit) (c : Cell) → 1 ≤ length (given b c)
+unfolding given
+given-at-least-one O Short = omega arith
+given-at-least-one O Medium = omega arith
+given-at-least-one O Long = omega arith
+given-at-least-one I Short = omega arith
+given-at-least-one I Medium = omega arith
+given-at-least-one I Long = omega arith
+given-at-least-one G Short = omega arith
+given-at-least-one G Medium = omega arith
+given-at-least-one G Long = omega arith
+
+pub given-at-most-two : (b : Bit) (c : Cell) → length (given b c) ≤ 2
+unfolding given
+given-at-most-two O Short = omega arith
+given-at-most-two O Medium = omega arith
+given-at-most-two O Long = omega arith
+given-at-most-two I Short = omega arith
+given-at-most-two I Medium = omega arith
+given-at-most-two I Long = omega arith
+given-at-most-two G Short = omega arith
+given-at-most-two G Medium = omega arith
+given-at-most-two G Long = omega arith
+
+-- ---- one interval more
+
+module _ {c : Class} {x : Cell} (read : ReadAs c x) (cs : List Class) (want : ℕ) (b : Bit) where
+  pub taken-one-more
+      : cellsTaken (c ∷ cs) (suc want) b ≡ x ∷ cellsTaken cs (wantedAfter (suc want) b x) (lastAfter b x)
+  unfolding cellsTaken
+  taken-one-more = by-class-read _ _ _ read
+
+  pub stop-one-more
+      : (k : ℕ) → stopFrom (c ∷ cs) k (suc want) b ≡ stopFrom cs (suc k) (wantedAfter (suc want) b x) (lastAfter b x)
+  unfolding stopFrom
+  stop-one-more k = by-class-read _ _ _ read
+
+pub taken-none : (cs : List Class) (b : Bit) → cellsTaken cs 0 b ≡ []
+unfolding cellsTaken
+taken-none [] b = refl
+taken-none (c ∷ cs) b = refl
+
+pub stop-none : (cs : List Class) (k : ℕ) (b : Bit) → stopFrom cs k 0 b ≡ accepted 0
+unfolding stopFrom
+stop-none [] k b = refl
+stop-none (c ∷ cs) k b = refl
+
+-- ---- what follows the used intervals is not looked at
+
+pub record SameFront (cs ds : List Class) (k want : ℕ) (b : Bit) : Type 0 where
+  pub cells : cellsTaken ds want b ≡ cellsTaken cs want b
+  pub stop : stopFrom ds k want b ≡ stopFrom cs k want b
+
+front-grows
+    : {c : Class} {x : Cell} (read : ReadAs c x) (cs ds : List Class) (k want : ℕ) (b : Bit)
+    → SameFront cs ds (suc k) (wantedAfter (suc want) b x) (lastAfter b x)
+    → SameFront (c ∷ cs) (c ∷ ds) k (suc want) b
+front-grows {c} {x} read cs ds k want b rest =
+    record {
+      cells =
+          taken-one-more read ds want b
+          ∙ ap (λ (l : List Cell). x ∷ l) (rest .cells)
+          ∙ sym (taken-one-more read cs want b);
+      stop = stop-one-more read ds want b k ∙ rest .stop ∙ sym (stop-one-more read cs want b k);
+    }
+
+none-wanted : (cs ds : List Class) (k : ℕ) (b : Bit) → SameFront cs ds k 0 b
+none-wanted cs ds k b =
+    record {
+      cells = taken-none ds b ∙ sym (taken-none cs b);
+      stop = stop-none ds k b ∙ sym (stop-none cs k b);
+    }
+
+module _ (xs : List Class) where
+  abbrev Decide : List Class → ℕ → ℕ → Bit → Type 0
+  Decide cs k want b =
+      stopFrom cs k want b .number ≡ 0 → SameFront cs (take (length (cellsTaken cs want b)) cs ++ xs) k want b
+
+  pub used-decide : (cs : List Class) (k want : ℕ) (b : Bit) → Decide cs k want b
+  unfolding stopFrom
+  used-decide [] k zero b e = none-wanted [] _ k b
+  used-decide [] k (suc want) b e = absurd (omega arith)
+  used-decide (c ∷ cs) k zero b e = none-wanted (c ∷ cs) _ k b
+  used-decide (c ∷ cs) k (suc want) b e =
+      by-each-class
+      (λ (d : Class). Decide (d ∷ cs) k (suc want) b)
+      (λ f. absurd (omega arith))
+      (λ d x read f.
+      let want′ : ℕ = wantedAfter (suc want) b x in
+      let fewer : List Class = take (length (cellsTaken cs want′ (lastAfter b x))) cs ++ xs in
+      rw (taken-one-more read cs want b)
+      (front-grows read cs fewer k want b
+      (used-decide cs (suc k) want′ (lastAfter b x) (sym (ap (λ (a : Answer). a .number) (stop-one-more read cs want b k)) ∙ f))))
+      (λ f. absurd (omega arith))
+      c
+      e
+
+-- ---- each interval gives a bit, so no more intervals than bits are used
+
+pub front-decides : (cs : List Class) (k j want : ℕ) (b : Bit) → want ≤ j → SameFront cs (take j cs) k want b
+unfolding cellsTaken stopFrom
+front-decides [] k j zero b h = none-wanted [] _ k b
+front-decides [] k zero (suc want) b h = absurd (omega arith)
+front-decides [] k (suc j) (suc want) b h = record { cells = refl; stop = refl }
+front-decides (c ∷ cs) k j zero b h = none-wanted (c ∷ cs) _ k b
+front-decides (c ∷ cs) k zero (suc want) b h = absurd (omega arith)
+front-decides (c ∷ cs) k (suc j) (suc want) b h =
+    by-each-class
+    (λ (d : Class). SameFront (d ∷ cs) (d ∷ take j cs) k (suc want) b)
+    (record { cells = refl; stop = refl })
+    (λ d x read.
+    let one = given-at-least-one b x in
+    front-grows read cs (take j cs) k want b
+    (front-decides cs (suc k) j (wantedAfter (suc want) b x) (lastAfter b x) (omega arith)))
+    (record { cells = refl; stop = refl })
+    c

@@ -1,0 +1,33 @@
+-- Why `fields::finder::find_lock` answers `findRule`: a refusal of the profile decides, and an acceptance leaves the scan. Rests on no axiom.
+use mathlib.Core.Path.{_∙_}
+use Rattle.refusal.proofs.AnswerLaws.{verdict-refuses, verdict-passes}
+use Rattle.fields.specs.Lock.{findRule}
+use borrow.Author.Needs.{needs}
+use Rattle.fields.proofs.finder.find_lock.Statement.{statement}
+use Rattle.fields.proofs.finder.find_lock.Tie as tie
+
+check-requires : tie.Need-check-requires
+check-requires c κs = search needs
+
+enum-known-refusal : tie.Need-enum-known-refusal
+enum-known-refusal c = search needs
+
+enum-told : tie.Need-enum-told
+enum-told c = search needs
+
+scan-requires : tie.Need-scan-requires
+scan-requires c κs = search needs
+
+returns : tie.Need-returns
+unfolding findRule
+returns c = verdict-refuses _ _ _ _ (c .before .before .before .check .ensures) (c .before .refusal .given .1)
+
+returns-2 : tie.Need-returns-2
+unfolding findRule
+returns-2 c =
+    c .scan .ensures ∙ verdict-passes _ _ _ (c .before .before .before .check .ensures) (c .before .enum-told .given .1)
+
+pub find-lock-spec : {M : Type 1} → statement M
+find-lock-spec =
+    tie.close
+    (tie.spec check-requires enum-known-refusal enum-told scan-requires returns returns-2)

@@ -1,0 +1,136 @@
+-- Why `fields::reader::gather` answers `gatherRule` and stores the field's items: each turn reads one cell of the field, and the ways out
+-- are the rule's cases. Rests on no axiom.
+mod Turn
+use Prim.Native.Nat.{ℕ, _-_, _≤_, _<_}
+use mathlib.Core.Path.{_≡_, sym, ap, _∙_}
+use native.Mathlib.Omega.{arith}
+use lib.ListN.{length, getD}
+use Rattle.timing.specs.Class.{classOf}
+use Rattle.timing.specs.declared.Class.{Class}
+use Rattle.intervals.specs.Cells.{advanced}
+use Rattle.refusal.specs.declared.Refusal.the-variants.{EndsEarly, MisplacedMark}
+use Rattle.symbols.specs.declared.Reading.{Reading}
+use Turn.{Gathering, begins, no-items, count-is-small, turn-ends, turn-stops, turn-goes-on, pass-is-stray, pass-is-whole, pass-stored}
+use borrow.Author.Needs.{needs}
+use Rattle.fields.proofs.reader.gather.Statement.{statement}
+use Rattle.fields.proofs.reader.gather.Tie as tie
+
+abbrev Inv-loop : tie.InvT-loop
+Inv-loop p intervals n out₀ m₀ count₀ k₀ out m count k = Gathering p intervals out₀ n out m count k
+
+abbrev μ-loop : tie.MeasureT-loop
+μ-loop p intervals n out₀ m₀ count₀ k₀ out m count k = length intervals - k
+
+new-requires : tie.Need-new-requires Inv-loop μ-loop
+new-requires c κs = search needs
+
+loop-holds : tie.Need-loop-holds Inv-loop μ-loop
+loop-holds c = rw (c .new .ensures) (begins _ _ _ _)
+
+same-length : tie.Need-same-length Inv-loop μ-loop
+same-length c = c .before .before .before .loop .inv .same-length
+
+returns : tie.Need-returns Inv-loop μ-loop
+returns c =
+    let refusal = turn-ends _ _ _ _ (c .before .before .before .loop .inv) (c .before .if1 .taken) (c .if2 .taken) in
+    (refusal, no-items _ _ _ _ EndsEarly _ refusal)
+
+mul-classify : tie.Need-mul-classify Inv-loop μ-loop
+mul-classify c = search needs
+
+shared-slice-read-classify : tie.Need-shared-slice-read-classify Inv-loop μ-loop
+shared-slice-read-classify c = search needs
+
+classify-requires : tie.Need-classify-requires Inv-loop μ-loop
+classify-requires c κs = search needs
+
+cast-advance : tie.Need-cast-advance Inv-loop μ-loop
+cast-advance c = search needs
+
+advance-requires : tie.Need-advance-requires Inv-loop μ-loop
+advance-requires c κs = search needs
+
+enum-known-refusal : tie.Need-enum-known-refusal Inv-loop μ-loop
+enum-known-refusal c = search needs
+
+same-length-2 : tie.Need-same-length-2 Inv-loop μ-loop
+same-length-2 c = c .before .before .before .before .before .before .before .before .before .loop .inv .same-length
+
+returns-2 : tie.Need-returns-2 Inv-loop μ-loop
+returns-2 c =
+    let tested = c .before .before .before .before .before .before in
+    let turn = tested .before .before .before in
+    let stopped = sym (c .before .refusal .given .1) ∙ c .before .before .before .advance .ensures
+    ∙ ap (λ (class : Class). advanced (turn .loop .m) class (turn .loop .k)) (c .before .before .before .before .classify .ensures) in
+    let refusal = turn-stops _ _ _ _ (turn .loop .inv) _ (tested .before .if1 .taken) (tested .if2 .left) stopped in
+    (refusal, no-items _ _ _ _ (c .before .refusal .given .0 .0) _ refusal)
+
+enum-known-next : tie.Need-enum-known-next Inv-loop μ-loop
+enum-known-next c = search needs
+
+store-requires : tie.Need-store-requires Inv-loop μ-loop
+store-requires c κs =
+    let turn = c .before .before .before .before .before .before .before .before .before .before in
+    count-is-small _ _ _ _ (turn .loop .inv) (c .before .before .before .before .before .before .before .before .if1 .taken) (turn .before .before .before .before .pre .1)
+
+add-k : tie.Need-add-k Inv-loop μ-loop
+add-k c = search needs
+
+loop-less : tie.Need-loop-less Inv-loop μ-loop
+loop-less c = search needs
+
+loop-again : tie.Need-loop-again Inv-loop μ-loop
+loop-again c =
+    let tested = c .before .before .before .before .before .before .before .before .before .before in
+    let turn = tested .before .before .before in
+    let read = sym (c .before .before .before .before .before .next .given .1) ∙ c .before .before .before .before .before .before .before .advance .ensures
+    ∙ ap (λ (class : Class). advanced (turn .loop .m) class (turn .loop .k)) (c .before .before .before .before .before .before .before .before .classify .ensures) in
+    turn-goes-on _ _ _ _ (turn .loop .inv) _ _ _ (tested .before .if1 .taken) (tested .if2 .left) (turn .before .before .before .before .pre .0) read
+    (c .before .before .store .ensures .0) (c .before .before .store .ensures .1)
+
+same-length-3 : tie.Need-same-length-3 Inv-loop μ-loop
+same-length-3 c = c .before .before .before .before .loop .inv .same-length
+
+returns-3 : tie.Need-returns-3 Inv-loop μ-loop
+returns-3 c =
+    let pass = c .before .before .before .before in
+    let refusal = pass-is-stray _ _ _ _ (pass .loop .inv) (c .before .before .if1 .left) (c .if3 .taken) in
+    (refusal, no-items _ _ _ _ (MisplacedMark (pass .loop .m .place)) _ refusal)
+
+same-length-4 : tie.Need-same-length-4 Inv-loop μ-loop
+same-length-4 c = c .before .before .before .before .loop .inv .same-length
+
+returns-4 : tie.Need-returns-4 Inv-loop μ-loop
+returns-4 c =
+    let pass = c .before .before .before .before in (
+      pass-is-whole _ _ _ _ (pass .loop .inv) (c .before .before .if1 .left) (c .if3 .left),
+      λ e. pass-stored _ _ _ _ (pass .loop .inv) (c .before .before .if1 .left),
+    )
+
+pub gather-spec : {M : Type 1} → statement M
+gather-spec =
+    tie.close
+    (tie.spec
+    Inv-loop
+    μ-loop
+    new-requires
+    loop-holds
+    same-length
+    returns
+    mul-classify
+    shared-slice-read-classify
+    classify-requires
+    cast-advance
+    advance-requires
+    enum-known-refusal
+    same-length-2
+    returns-2
+    enum-known-next
+    store-requires
+    add-k
+    loop-less
+    loop-again
+    same-length-3
+    returns-3
+    same-length-4
+    returns-4)

@@ -1,0 +1,220 @@
+-- One turn of the pass over a field: the interval's class stops both the code and the definition, or is a cell that both read; and once
+-- the machine has closed the lead and n bytes, no bit is wanted any more. Rests on no axiom.
+use Prim.Native.Nat.{ℕ, suc, _+_, _-_, _*_, _^_, _≤_, _<_}
+use mathlib.Core.Path.{_≡_, refl, sym, ap, subst, _∙_}
+use mathlib.Core.Bool.{Bool, true, false}
+use mathlib.Core.List.{List, [], _∷_, _++_}
+use native.Mathlib.Numerals.{add-one}
+use native.Mathlib.Omega.{arith}
+use borrow.Author.Tests.{eq-eqb, ne-eqb, eqb-false}
+use lib.Dec.{eqb}
+use lib.ListN.{length, drop, getD, length-append, drop-of-length-le}
+use lib.Seq.{drop-cons}
+use Rattle.lists.specs.Filled.{storedAt}
+use Rattle.lists.proofs.StoreLaws.{stored-none, stored-after-stored, stored-length}
+use Rattle.refusal.specs.Table.{numberOf, placeOf}
+use Rattle.refusal.specs.Answer.{Answer, accepted, refused, firstRefusal, refuseIf}
+use Rattle.refusal.specs.declared.Refusal.{Refusal}
+use Rattle.refusal.specs.declared.Refusal.the-variants.{EndsEarly, MisplacedMark}
+use Rattle.refusal.proofs.AnswerLaws.{number-is-not-zero, refusal-decides, acceptance-passes}
+use Rattle.timing.specs.Class.{classOf, classesOf}
+use Rattle.timing.specs.declared.Profile.{Profile}
+use Rattle.timing.specs.declared.Class.{Class}
+use Rattle.timing.proofs.ClassLaws.{classes-of-cons, classes-of-drop, classes-length}
+use Rattle.symbols.specs.Bytes.{itemsRead}
+use Rattle.symbols.specs.Reading.{readFrom, readBits}
+use Rattle.symbols.specs.Strip.{isStray, strayPlace}
+use Rattle.symbols.specs.Machine.{fresh}
+use Rattle.symbols.specs.Step.{stepped, itemsOf}
+use Rattle.symbols.specs.declared.Cell.{Cell}
+use Rattle.symbols.specs.declared.Reading.{Reading}
+use Rattle.symbols.proofs.ReadsLaws.{Reads, reads-fresh}
+use Rattle.symbols.proofs.StepLaws.{reads-step, items-step}
+use Rattle.symbols.proofs.AnswerLaws.{reads-enough, reads-too-few, reads-items-count, reads-stray, reads-place}
+use Rattle.intervals.specs.Cells.{advanced}
+use Rattle.intervals.specs.declared.Scan.the-variants.{Whole, Stopped}
+use Rattle.intervals.proofs.CellLaws.{GoesOn, goes-on, stops}
+use Rattle.fields.specs.Field.{bitsWanted, fieldStop, fieldCells, fieldUsed, fieldItems, fieldStray, fieldStrayPlace}
+use Rattle.fields.specs.FieldRule.{gatherRule}
+use Rattle.fields.proofs.FieldLaws.{field-items-of-cells, field-stray-of-cells, field-place-of-cells}
+use Rattle.fields.proofs.FrontLaws.{wantedOf, Front, front-starts, front-goes-on, front-ends, front-meets-narrow, front-meets-wide, front-is-whole}
+
+module _ (p : Profile) (ds old : List ℕ) (n : ℕ) where
+  abbrev cs : List Class
+  cs = classesOf p ds
+
+  -- the pass after k intervals
+  pub record Gathering (out : List ℕ) (m : Reading) (count k : ℕ) : Type 0 where
+    pub done : List Cell
+    pub reads : Reads m done
+    pub placed : length done ≡ k
+    pub within : k ≤ length ds
+    pub front : Front cs n done (drop k cs)
+    pub same-length : length out ≡ length old
+    pub counted : count ≡ length (itemsRead (readBits done))
+    pub stored : out ≡ storedAt old 0 (itemsRead (readBits done))
+
+  pub begins : Gathering old fresh 0 0
+  unfolding itemsRead readBits readFrom
+  begins =
+      record {
+        done = [];
+        reads = reads-fresh;
+        placed = refl;
+        within = omega arith;
+        front = front-starts cs n;
+        same-length = refl;
+        counted = refl;
+        stored = sym (stored-none old 0);
+      }
+
+  -- a refusal hands over nothing
+  pub no-items
+      : (r : Refusal) (out : List ℕ)
+      → refused (numberOf r) (placeOf r) ≡ gatherRule cs n
+      → gatherRule cs n .number ≡ 0
+      → out ≡ storedAt old 0 (fieldItems cs n)
+  no-items r out e zero =
+      absurd (eqb-false (numberOf r) 0 (number-is-not-zero r) (ap (λ (a : Answer). a .number) e ∙ zero))
+
+  class-here : (k : ℕ) → k < length ds → drop k cs ≡ classOf p (getD ds k 0) ∷ drop (suc k) cs
+  class-here k h =
+      sym (classes-of-drop p k ds)
+      ∙ ap (classesOf p) (drop-cons ds k 0 h)
+      ∙ classes-of-cons p (getD ds k 0) (drop (suc k) ds)
+      ∙ ap (λ (l : List Class). classOf p (getD ds k 0) ∷ l) (classes-of-drop p (suc k) ds)
+
+  module _ {out : List ℕ} {m : Reading} {count k : ℕ} (so-far : Gathering out m count k) where
+    pub count-is-small : m .rows ≤ n → n ≤ 1030 → count < 65536
+    count-is-small h most =
+        let counted = so-far .counted in
+        let items = reads-items-count m (so-far .done) (so-far .reads) in
+        omega arith
+
+    wanted : m .rows ≤ n → 0 < wantedOf n (so-far .done)
+    wanted h = let few = reads-too-few m (so-far .done) (so-far .reads) n h in omega arith
+
+    pub turn-ends : m .rows ≤ n → length ds ≤ k → refused 11 0 ≡ gatherRule cs n
+    unfolding gatherRule
+    turn-ends h over =
+        let none : drop k cs ≡ [] = drop-of-length-le cs {i = k} (let same = classes-length p ds in omega arith) in
+        refusal-decides
+        EndsEarly
+        (fieldStop cs n)
+        _
+        (sym (front-ends cs n (so-far .done) (wanted h) (rw none at (so-far .front))))
+
+    front-here : k < length ds → Front cs n (so-far .done) (classOf p (getD ds k 0) ∷ drop (suc k) cs)
+    front-here h = rw (class-here k h) at (so-far .front)
+
+    pub turn-stops
+        : (r : Refusal)
+        → m .rows ≤ n
+        → k < length ds
+        → Stopped r ≡ advanced m (classOf p (getD ds k 0)) k
+        → refused (numberOf r) (placeOf r) ≡ gatherRule cs n
+    unfolding gatherRule
+    turn-stops r h inside e =
+        refusal-decides
+        r
+        (fieldStop cs n)
+        _
+        (stops
+        m
+        k
+        (λ (c : Class) (s : Refusal).
+        Front cs n (so-far .done) (c ∷ drop (suc k) cs) → refused (numberOf s) (placeOf s) ≡ fieldStop cs n)
+        (λ f. ap (refused 5) (sym (so-far .placed)) ∙ sym (front-meets-narrow cs n (so-far .done) (wanted h) _ f))
+        (λ f. ap (refused 6) (sym (so-far .placed)) ∙ sym (front-meets-wide cs n (so-far .done) (wanted h) _ f))
+        (classOf p (getD ds k 0))
+        r
+        e
+        (front-here inside))
+
+    pub turn-goes-on
+        : (next : Reading) (new : List ℕ) (count′ : ℕ)
+        → m .rows ≤ n
+        → k < length ds
+        → length ds ≤ 8241
+        → Whole next ≡ advanced m (classOf p (getD ds k 0)) k
+        → count′ ≡ count + length (itemsOf next)
+        → new ≡ storedAt out count (itemsOf next)
+        → Gathering new next count′ (k + 1)
+    turn-goes-on next new count′ h inside most e places store =
+        let on : GoesOn m k (classOf p (getD ds k 0)) next = goes-on m k (classOf p (getD ds k 0)) next e in
+        let x : Cell = on .cell in
+        let more : List Cell = so-far .done ++ (x ∷ []) in
+        let room : length (so-far .done) < 2 ^ 32 = let at = so-far .placed in omega arith in
+        let machine : next ≡ stepped m x (length (so-far .done)) =
+        on .machine ∙ ap (stepped m x) (sym (so-far .placed)) in
+        let items : itemsRead (readBits more) ≡ itemsRead (readBits (so-far .done)) ++ itemsOf next =
+        items-step m (so-far .done) (so-far .reads) room x
+        ∙ ap (λ (r : Reading). itemsRead (readBits (so-far .done)) ++ itemsOf r) (sym machine) in
+        rw add-one
+        (record {
+          done = more;
+          reads = subst (λ (r : Reading). Reads r more) (sym machine) (reads-step m (so-far .done) (so-far .reads) room x);
+          placed = length-append (so-far .done) (x ∷ []) ∙ (let at = so-far .placed in omega arith);
+          within = inside;
+          front = front-goes-on cs n (so-far .done) (wanted h) (on .read) (drop (suc k) cs) (front-here inside);
+          same-length = ap length store ∙ stored-length out count (itemsOf next) ∙ so-far .same-length;
+          counted =
+              places
+              ∙ ap (λ (j : ℕ). j + length (itemsOf next)) (so-far .counted)
+              ∙ sym (length-append (itemsRead (readBits (so-far .done))) (itemsOf next))
+              ∙ ap length (sym items);
+          stored =
+              store
+              ∙ ap (λ (l : List ℕ). storedAt l count (itemsOf next)) (so-far .stored)
+              ∙ stored-after-stored
+              (itemsRead (readBits (so-far .done)))
+              (itemsOf next)
+              old
+              0
+              count
+              (let at = so-far .counted in omega arith)
+              ∙ ap (storedAt old 0) (sym items);
+        })
+
+    whole : n < m .rows → (fieldCells cs n ≡ so-far .done) × (fieldStop cs n ≡ accepted 0)
+    whole h =
+        let enough = reads-enough m (so-far .done) (so-far .reads) n h in
+        front-is-whole cs n (so-far .done) (drop k cs) (omega arith) (so-far .front)
+
+    stops-nowhere : n < m .rows → fieldStop cs n .number ≡ 0
+    stops-nowhere h = ap (λ (a : Answer). a .number) (whole h .1)
+
+    -- the field's cells are those that were read
+    stray-is : n < m .rows → fieldStray cs n ≡ eqb (m .stray) 1
+    stray-is h =
+        field-stray-of-cells cs n (stops-nowhere h)
+        ∙ ap (λ (l : List Cell). isStray (readBits l)) (whole h .0)
+        ∙ sym (reads-stray m (so-far .done) (so-far .reads))
+
+    pub pass-is-stray : n < m .rows → m .stray ≡ 1 → refused 8 (m .place) ≡ gatherRule cs n
+    unfolding gatherRule
+    pass-is-stray h stray =
+        let out-of-place : fieldStray cs n ≡ true = stray-is h ∙ eq-eqb (m .stray) 1 stray in
+        let place : m .place ≡ fieldStrayPlace cs n =
+        reads-place
+        m
+        (so-far .done)
+        (so-far .reads)
+        (sym (reads-stray m (so-far .done) (so-far .reads)) ∙ eq-eqb (m .stray) 1 stray)
+        ∙ ap strayPlace (sym (whole h .0))
+        ∙ sym (field-place-of-cells cs n (stops-nowhere h)) in
+        rw (whole h .1, out-of-place) (ap (refused 8) place)
+
+    pub pass-is-whole : n < m .rows → (m .stray ≡ 1 → ⊥) → accepted k ≡ gatherRule cs n
+    unfolding gatherRule fieldUsed
+    pass-is-whole h fair =
+        let in-place : fieldStray cs n ≡ false = stray-is h ∙ ne-eqb (m .stray) 1 fair in
+        rw (whole h .1, in-place) (ap accepted (sym (ap length (whole h .0) ∙ so-far .placed)))
+
+    pub pass-stored : n < m .rows → out ≡ storedAt old 0 (fieldItems cs n)
+    pass-stored h =
+        so-far .stored
+        ∙ ap (storedAt old 0)
+        (sym
+        (field-items-of-cells cs n (stops-nowhere h)
+        ∙ ap (λ (l : List Cell). itemsRead (readBits l)) (whole h .0)))

@@ -1,0 +1,65 @@
+-- Why `fields::reader::read_field` answers `fieldReading` and leaves `fieldOutput`: the profile's verdict and the range of the count are
+-- its first tests, and the rest is read below them. Rests on no axiom.
+use mathlib.Core.Path.{sym, ap, _∙_}
+use Rattle.refusal.specs.Answer.{verdictAnswer}
+use Rattle.fields.proofs.ReaderLaws.{profile-refuses, count-refuses, checked-settles, count-in-range}
+use borrow.Author.Needs.{needs}
+use Rattle.fields.proofs.reader.read_field.Statement.{statement}
+use Rattle.fields.proofs.reader.read_field.Tie as tie
+
+check-requires : tie.Need-check-requires
+check-requires c κs = search needs
+
+enum-known-refusal : tie.Need-enum-known-refusal
+enum-known-refusal c = search needs
+
+enum-told : tie.Need-enum-told
+enum-told c = search needs
+
+returns : tie.Need-returns
+returns c =
+    count-refuses _ _ _ _ (sym (ap verdictAnswer (c .before .enum-told .given .1)) ∙ c .before .before .before .check .ensures) (c .if1 .taken)
+
+read-checked-requires : tie.Need-read-checked-requires
+read-checked-requires c κs = count-in-range _ (c .before .if1 .left)
+
+returns-2 : tie.Need-returns-2
+returns-2 c =
+    profile-refuses
+    _
+    _
+    _
+    _
+    (c .before .refusal .given .0 .0)
+    (sym (ap verdictAnswer (c .before .refusal .given .1)) ∙ c .before .before .before .check .ensures)
+
+same-length : tie.Need-same-length
+same-length c = search needs
+
+returns-3 : tie.Need-returns-3
+returns-3 c =
+    let tested = c .before .before .before .before in
+    let verdict = tested .before .before .before in
+    let args = verdict .before .before .before .args in
+    let settles =
+    checked-settles
+    (args .p)
+    (args .intervals .now)
+    (args .n)
+    (args .out .now)
+    (sym (ap verdictAnswer (tested .before .enum-told .given .1)) ∙ verdict .check .ensures)
+    (tested .if1 .left) in
+    (c .before .before .read-checked .ensures .0 ∙ settles .0, c .before .before .read-checked .ensures .1 ∙ settles .1)
+
+pub read-field-spec : {M : Type 1} → statement M
+read-field-spec =
+    tie.close
+    (tie.spec
+    check-requires
+    enum-known-refusal
+    enum-told
+    returns
+    read-checked-requires
+    returns-2
+    same-length
+    returns-3)

@@ -1,0 +1,99 @@
+-- Why `fields::reader::read_rest` answers `fieldRest`: it drops as many intervals as the reading used, which a refusal puts at 0.
+-- Rests on no axiom.
+use Prim.Native.Nat.{ℕ, _-_, _≤_}
+use mathlib.Core.Path.{_≡_, sym, ap, _∙_}
+use mathlib.Core.List.{List}
+use native.Mathlib.Omega.{arith}
+use lib.ListN.{length, take, drop, length-drop}
+use lib.Seq.{take-all}
+use Rattle.timing.specs.declared.Profile.{Profile}
+use Rattle.fields.specs.FieldRule.{FieldAnswer, fieldAnswer, fieldReading, fieldRest}
+use Rattle.fields.specs.declared.reader.FieldRead.{FieldRead}
+use Rattle.fields.proofs.ReaderLaws.{used-is-within}
+use borrow.Author.Needs.{needs}
+use Rattle.fields.proofs.reader.read_rest.Statement.{statement}
+use Rattle.fields.proofs.reader.read_rest.Tie as tie
+
+abbrev used-of : FieldRead → ℕ
+used-of r = fieldAnswer r .used
+
+module _ (p : Profile) (ds : List ℕ) (n room used : ℕ) (e : used ≡ fieldReading p ds n room .used) where
+  within : used ≤ length ds
+  within = rw e (used-is-within p ds n room)
+
+  rest-is : drop used ds ≡ fieldRest p ds n room
+  unfolding fieldRest
+  rest-is = ap (λ (k : ℕ). drop k ds) e
+
+  part-is : take (length ds - used) (drop used ds) ≡ fieldRest p ds n room
+  part-is = take-all (length ds - used) (drop used ds) (rw (length-drop used ds) (omega arith)) ∙ rest-is
+
+-- what the reading used, where it was accepted
+used-is
+    : (c : tie.After-known-told)
+    → let read = c .before .before .before .before .before in
+    let args = read .before .before .before .before .args in
+    c .before .used .given .0 .1 .0 ≡ fieldReading (args .p) (args .intervals .now) (args .n) (length (args .out .now)) .used
+used-is c =
+    sym (ap used-of (c .before .used .given .1))
+    ∙ ap (λ (a : FieldAnswer). a .used) (c .before .before .before .before .before .read-field .ensures .0)
+
+used-in-list
+    : (c : tie.After-known-told)
+    → c .before .used .given .0 .1 .0
+    ≤ length (c .before .before .before .before .before .before .before .before .before .args .intervals .now)
+used-in-list c = within _ _ _ _ _ (used-is c)
+
+read-field-requires : tie.Need-read-field-requires
+read-field-requires c κs = search needs
+
+enum-told : tie.Need-enum-told
+enum-told c = search needs
+
+enum-known-used : tie.Need-enum-known-used
+enum-known-used c = search needs
+
+mul-result : tie.Need-mul-result
+mul-result c = omega (arith, used-in-list c, c .before .before .before .before .before .before .before .before .before .good)
+
+sub-result : tie.Need-sub-result
+sub-result c = used-in-list c
+
+part-result-start : tie.Need-part-result-start
+part-result-start c = used-in-list c
+
+part-result-end : tie.Need-part-result-end
+part-result-end c = search needs
+
+same-length : tie.Need-same-length
+same-length c = search needs
+
+returns : tie.Need-returns
+returns c =
+    let read = c .before .before .before .before in
+    let none = sym (ap used-of (c .enum-told .given .1)) ∙ ap (λ (a : FieldAnswer). a .used) (read .read-field .ensures .0) in
+    (rest-is _ _ _ _ 0 none, read .read-field .ensures .1)
+
+same-length-2 : tie.Need-same-length-2
+same-length-2 c = search needs
+
+returns-2 : tie.Need-returns-2
+returns-2 c =
+    let read = c .before .before .before .before .before .before in
+    (part-is _ _ _ _ _ (used-is (c .before)), read .read-field .ensures .1)
+
+pub read-rest-spec : {M : Type 1} → statement M
+read-rest-spec =
+    tie.close
+    (tie.spec
+    read-field-requires
+    enum-told
+    enum-known-used
+    mul-result
+    sub-result
+    part-result-start
+    part-result-end
+    same-length
+    returns
+    same-length-2
+    returns-2)

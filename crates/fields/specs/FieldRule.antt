@@ -1,0 +1,74 @@
+-- Document 01, "Turned-away numbers", field: 1, 2, 12, then 5, 6 or 11 as first met, 8, 9. No lemmas here.
+use Prim.Native.Nat.{ℕ}
+use mathlib.Core.Bool.{Bool, false, cond}
+use mathlib.Core.List.{List}
+use lib.Dec.{eqb, ltb}
+use lib.ListN.{length, drop}
+use Rattle.refusal.specs.Table.{numberOf, placeOf}
+use Rattle.refusal.specs.Answer.{Answer, accepted, refused, refuseIf, firstRefusal, settled}
+use Rattle.timing.specs.Profile.{outside, profileRule}
+use Rattle.timing.specs.Class.{classesOf}
+use Rattle.timing.specs.declared.Profile.{Profile}
+use Rattle.timing.specs.declared.Class.{Class}
+use Rattle.fields.specs.Field.{fieldStop, fieldUsed, fieldItems, fieldHolds, fieldStray, fieldStrayPlace}
+use Rattle.fields.specs.declared.reader.FieldRead.{FieldRead}
+use Rattle.fields.specs.declared.reader.FieldRead.the-variants.{Field, Refused}
+
+-- 5, 6 or 11 as first met, then 8; else the number of intervals used
+unfoldable pub gatherRule : List Class → ℕ → Answer
+gatherRule cs n =
+    firstRefusal (fieldStop cs n)
+    (refuseIf (fieldStray cs n) 8 (fieldStrayPlace cs n)
+    (accepted (fieldUsed cs n)))
+
+-- 9; else the number of items
+unfoldable pub deliverRule : ℕ → ℕ → Answer
+deliverRule n room = refuseIf (ltb room n) 9 0 (accepted n)
+
+-- what is answered under an accepted profile, of a count in range
+unfoldable pub checkedRule : List Class → ℕ → ℕ → Answer
+checkedRule cs n room = firstRefusal (gatherRule cs n) (deliverRule n room)
+
+-- with the number of intervals used, and whether the register is zero after the items: 0 and no on a refusal
+pub record FieldAnswer : Type 0 where
+  pub answer : Answer
+  pub used : ℕ
+  pub holds : Bool
+
+abbrev pub fieldTurnedAway : Answer → FieldAnswer
+fieldTurnedAway a = record { answer = a; used = 0; holds = false }
+
+-- the field reader's answer, as it is declared
+abbrev pub fieldAnswer : FieldRead → FieldAnswer
+fieldAnswer (Field count used holds) = record { answer = accepted count; used = used; holds = holds }
+fieldAnswer (Refused r) = fieldTurnedAway (refused (numberOf r) (placeOf r))
+
+-- and as the rules give it
+abbrev pub answerWith : Answer → ℕ → Bool → FieldAnswer
+answerWith a used holds = cond (eqb (a .number) 0) (record { answer = a; used = used; holds = holds }) (fieldTurnedAway a)
+
+-- the answer and the output under an accepted profile, of a count in range
+unfoldable pub checkedReading : List Class → ℕ → ℕ → FieldAnswer
+checkedReading cs n room = answerWith (checkedRule cs n room) (fieldUsed cs n) (fieldHolds cs n)
+
+unfoldable pub checkedOutput : List Class → ℕ → List ℕ → List ℕ
+checkedOutput cs n old = settled (checkedRule cs n (length old)) (fieldItems cs n) old
+
+-- the field reader's number, place and count
+unfoldable pub fieldRule : Profile → List ℕ → ℕ → ℕ → Answer
+fieldRule p ds n room =
+    firstRefusal (profileRule p)
+    (refuseIf (outside 1 1030 n) 12 0
+    (checkedRule (classesOf p ds) n room))
+
+unfoldable pub fieldReading : Profile → List ℕ → ℕ → ℕ → FieldAnswer
+fieldReading p ds n room =
+    answerWith (fieldRule p ds n room) (fieldUsed (classesOf p ds) n) (fieldHolds (classesOf p ds) n)
+
+-- what the output holds afterwards
+unfoldable pub fieldOutput : Profile → List ℕ → ℕ → List ℕ → List ℕ
+fieldOutput p ds n old = settled (fieldRule p ds n (length old)) (fieldItems (classesOf p ds) n) old
+
+-- the rest of the caller's list, from the first unused interval; on a refusal, the whole list
+unfoldable pub fieldRest : Profile → List ℕ → ℕ → ℕ → List ℕ
+fieldRest p ds n room = drop (fieldReading p ds n room .used) ds

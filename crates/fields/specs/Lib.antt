@@ -1,0 +1,3 @@
+pub mod Lock
+pub mod Field
+pub mod FieldRule

@@ -1,0 +1,142 @@
+// Document 01, "Finding and reading a field": the field reader.
+ghost use Prim.Native.Nat.{_+_, _*_, _≤_};
+ghost use mathlib.Core.Path.{_≡_};
+ghost use lib.ListN.{length, take};
+ghost use Rattle.lists.specs.Filled.{filled, storedAt};
+ghost use Rattle.refusal.specs.Answer.{countedAnswer, settled};
+ghost use Rattle.timing.specs.Class.{classesOf};
+ghost use Rattle.fields.specs.Field.{fieldItems, holdsAfter};
+ghost use Rattle.fields.specs.FieldRule.{gatherRule, deliverRule, fieldAnswer, answerWith, checkedReading, checkedOutput, fieldReading, fieldOutput, fieldRest};
+use intervals::Scan;
+use items::Check;
+use refusal::Counted;
+use refusal::Refusal;
+use refusal::Verdict;
+use symbols::Reading;
+use timing::Profile;
+
+// What a field reads as: how many items it has, how many intervals they used, and whether the register is zero after them.
+pub enum FieldRead {
+    Field {
+        count: usize,
+        used: usize,
+        holds: bool,
+    },
+    Refused(Refusal),
+}
+
+// At most so many intervals from the front.
+fn front(intervals: &[u16], most: usize) -> &[u16]
+    ensures { λ r. ⌜ now r ≡ take most (now (intervals .entry)) ⌝ }
+{
+    if intervals.len() <= most {
+        return intervals;
+    }
+    &intervals[..most]
+}
+
+// One pass over the intervals of n bytes; each gives a bit at least, so 1,030 bytes use 8,241 at most. The items that have room are
+// stored from the front on. Answers how many intervals were used.
+fn gather(p: Profile, intervals: &[u16], n: u32, out: &mut [u16]) -> Counted
+    requires { ⌜ (length (now intervals) ≤ 8241) × (n ≤ 1030) ⌝ }
+    ensures answer { λ r. ⌜ countedAnswer r ≡ gatherRule (classesOf p (now (intervals .entry))) n ⌝ }
+    ensures items { λ r. ⌜ (gatherRule (classesOf p (now (intervals .entry))) n .number ≡ 0 → now (out .exit) ≡ storedAt (now (out .entry)) 0 (fieldItems (classesOf p (now (intervals .entry))) n)) ⌝ }
+{
+    let mut m = Reading::new();
+    let mut count: usize = 0;
+    let mut k: usize = 0;
+    while m.rows <= n {
+        if intervals.len() <= k {
+            return Counted::Refused(Refusal::EndsEarly);
+        }
+        match intervals::advance(m, timing::classify(p, intervals[k]), k as u32) {
+            Scan::Stopped(refusal) => return Counted::Refused(refusal),
+            Scan::Whole(next) => {
+                count = intervals::store(next, out, count);
+                m = next;
+                k += 1;
+            }
+        }
+    }
+    if m.stray == 1 {
+        return Counted::Refused(Refusal::MisplacedMark(m.place));
+    }
+    Counted::Count(k)
+}
+
+// The register is zero after the items.
+fn holds(items: &[u16]) -> bool
+    ensures { λ r. ⌜ r ≡ holdsAfter (now (items .entry)) ⌝ }
+{
+    Check::fresh().after_bytes(items).register == 0
+}
+
+fn copy(items: &[u16], out: &mut [u16])
+    requires { ⌜ length (now items) ≤ length (now out) ⌝ }
+    ensures { λ _. ⌜ now (out .exit) ≡ filled (now (items .entry)) (now (out .entry)) ⌝ }
+{
+    let mut k: usize = 0;
+    while k < items.len() {
+        out[k] = items[k];
+        k += 1;
+    }
+}
+
+// What was gathered, handed over where the output has room for it.
+fn deliver(items: &[u16], used: usize, out: &mut [u16]) -> FieldRead
+    ensures { λ r. ⌜ (fieldAnswer r ≡ answerWith (deliverRule (length (now (items .entry))) (length (now (out .entry)))) used (holdsAfter (now (items .entry)))) × (now (out .exit) ≡ settled (deliverRule (length (now (items .entry))) (length (now (out .entry)))) (now (items .entry)) (now (out .entry))) ⌝ }
+{
+    if out.len() < items.len() {
+        return FieldRead::Refused(Refusal::OutputTooShort);
+    }
+    copy(items, out);
+    FieldRead::Field {
+        count: items.len(),
+        used,
+        holds: holds(items),
+    }
+}
+
+// The items wait in a buffer of their own, as a refusal changes nothing that was lent.
+fn read_checked(p: Profile, intervals: &[u16], n: usize, out: &mut [u16]) -> FieldRead
+    requires { ⌜ n ≤ 1030 ⌝ }
+    ensures answer { λ r. ⌜ fieldAnswer r ≡ checkedReading (classesOf p (now (intervals .entry))) n (length (now (out .entry))) ⌝ }
+    ensures output { λ _. ⌜ now (out .exit) ≡ checkedOutput (classesOf p (now (intervals .entry))) n (now (out .entry)) ⌝ }
+{
+    let mut buffer = [0u16; 1030];
+    match gather(p, front(intervals, 8 * n + 1), n as u32, &mut buffer) {
+        Counted::Refused(refusal) => FieldRead::Refused(refusal),
+        Counted::Count(used) => deliver(&buffer[..n], used, out),
+    }
+}
+
+// 1, 2, 12, then 5, 6 or 11 as first met, 8, 9. On acceptance the items fill the front of the output.
+pub fn read_field(p: Profile, intervals: &[u16], n: usize, out: &mut [u16]) -> FieldRead
+    ensures answer { λ r. ⌜ fieldAnswer r ≡ fieldReading p (now (intervals .entry)) n (length (now (out .entry))) ⌝ }
+    ensures output { λ _. ⌜ now (out .exit) ≡ fieldOutput p (now (intervals .entry)) n (now (out .entry)) ⌝ }
+{
+    match timing::check(p) {
+        Verdict::Refused(refusal) => FieldRead::Refused(refusal),
+        Verdict::Accepted => {
+            if (n < 1) | (1030 < n) {
+                return FieldRead::Refused(Refusal::CountOutOfRange);
+            }
+            read_checked(p, intervals, n, out)
+        }
+    }
+}
+
+// Reads alike, and answers the rest of the caller's list, from the first unused interval; on a refusal, the whole list.
+pub fn read_rest<'a>(p: Profile, intervals: &'a [u16], n: usize, out: &mut [u16]) -> &'a [u16]
+    ensures rest { λ r. ⌜ now r ≡ fieldRest p (now (intervals .entry)) n (length (now (out .entry))) ⌝ }
+    ensures output { λ _. ⌜ now (out .exit) ≡ fieldOutput p (now (intervals .entry)) n (now (out .entry)) ⌝ }
+{
+    match read_field(p, intervals, n, out) {
+        FieldRead::Refused(_) => intervals,
+        FieldRead::Field {
+            count: _,
+            used,
+            holds: _,
+        } => &intervals[used..],
+    }
+}

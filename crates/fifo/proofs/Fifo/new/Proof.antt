@@ -1,0 +1,12 @@
+-- Why `new` answers `fresh`: 0 held is the empty list.
+use mathlib.Core.Path.{refl}
+use Rattle.fifo.specs.State.{itemsOf}
+use Rattle.fifo.proofs.Fifo.new.Statement.{statement}
+use Rattle.fifo.proofs.Fifo.new.Tie as tie
+
+returns : tie.Need-returns
+unfolding itemsOf
+returns c = refl
+
+pub new-spec : {M : Type 1} → statement M
+new-spec = tie.close (tie.spec returns)

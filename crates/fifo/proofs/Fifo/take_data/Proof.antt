@@ -1,0 +1,24 @@
+-- Why `take_data` answers its rule: the processor takes in read mode, which the code's test of the mode tells.
+use mathlib.Core.Path.{_∙_}
+use Rattle.fifo.specs.Rules.{takeRule}
+use Rattle.fifo.proofs.StateLaws.{mode-of-zero-is-write, mode-of-other-is-read}
+use borrow.Author.Needs.{needs}
+use Rattle.fifo.proofs.Fifo.take_data.Statement.{statement}
+use Rattle.fifo.proofs.Fifo.take_data.Tie as tie
+
+given-requires : tie.Need-given-requires
+given-requires c κs = search needs
+
+shift-requires : tie.Need-shift-requires
+shift-requires c κs = search needs
+
+returns : tie.Need-returns
+unfolding takeRule
+returns c = c .given .ensures ∙ rw (mode-of-zero-is-write _ (c .before .if1 .taken))
+
+returns-2 : tie.Need-returns-2
+unfolding takeRule
+returns-2 c = c .shift .ensures ∙ rw (mode-of-other-is-read _ (c .before .if1 .left))
+
+pub take-data-spec : {M : Type 1} → statement M
+take-data-spec = tie.close (tie.spec given-requires shift-requires returns returns-2)

@@ -1,0 +1,5 @@
+pub mod State
+pub mod Sides
+pub mod Rules
+pub mod Runs
+pub mod Claims

@@ -1,0 +1,44 @@
+// Reading a stream interval by interval: the class of each is a cell for the reading machine, or the refusal that stops the pass.
+ghost use Prim.Native.Nat.{_+_, _<_};
+ghost use mathlib.Core.Path.{_≡_};
+ghost use lib.ListN.{length};
+ghost use Rattle.lists.specs.Filled.{storedAt};
+ghost use Rattle.symbols.specs.Step.{itemsOf};
+ghost use Rattle.intervals.specs.Cells.{advanced};
+use refusal::Refusal;
+use symbols::Reading;
+use timing::Class;
+
+// How far a pass came: through all its intervals, or to one that is too short or too long.
+pub enum Scan {
+    Whole(Reading),
+    Stopped(Refusal),
+}
+
+// One interval more, which stands at this place of the caller's list.
+pub fn advance(m: Reading, class: Class, at: u32) -> Scan
+    ensures { λ r. ⌜ r ≡ advanced m class at ⌝ }
+{
+    match class {
+        Class::Narrow => Scan::Stopped(Refusal::IntervalTooShort(at)),
+        Class::Two => Scan::Whole(m.short()),
+        Class::Three => Scan::Whole(m.medium()),
+        Class::Four => Scan::Whole(m.long(at)),
+        Class::Wide => Scan::Stopped(Refusal::IntervalTooLong(at)),
+    }
+}
+
+// The item that the last cell closed, if it closed one, stored at a place where there is room. Answers the next place.
+pub fn store(m: Reading, out: &mut [u16], at: usize) -> usize
+    requires { ⌜ at < 65536 ⌝ }
+    ensures { λ r. ⌜ (r ≡ at + length (itemsOf m)) × (now (out .exit) ≡ storedAt (now (out .entry)) at (itemsOf m)) ⌝ }
+{
+    if m.done {
+        if at < out.len() {
+            out[at] = m.item;
+            return at + 1;
+        }
+        return at + 1;
+    }
+    at
+}

@@ -1,0 +1,27 @@
+-- Why `ism::ism_find` answers as the library does: it hands the arguments over and the answer back. Rests on no axiom.
+use mathlib.Core.Path.{ap, _∙_}
+use denote.Ref.{now}
+use Rattle.timing.specs.declared.Profile.{Profile}
+use Rattle.fields.specs.Lock.{findRule}
+use Rattle.ism.specs.Answers.{given}
+use borrow.Author.Needs.{needs}
+use Rattle.ism.proofs.ism_find.Statement.{statement}
+use Rattle.ism.proofs.ism_find.Tie as tie
+
+profile-requires : tie.Need-profile-requires
+profile-requires c κs = search needs
+
+find-lock-requires : tie.Need-find-lock-requires
+find-lock-requires c κs = search needs
+
+answer-requires : tie.Need-answer-requires
+answer-requires c κs = search needs
+
+returns : tie.Need-returns
+returns c =
+    let start = c .before .before .before .before .args in
+    c .answer .ensures
+    ∙ ap given (c .before .find-lock .ensures ∙ ap (λ (q : Profile). findRule q (now (start .intervals)) (start .start)) (c .before .before .profile .ensures))
+
+pub ism-find-spec : {M : Type 1} → statement M
+ism-find-spec = tie.close (tie.spec profile-requires find-lock-requires answer-requires returns)

@@ -1,0 +1,26 @@
+-- Why `ism::ism_margin` answers as the library does: it hands the arguments over and the answer back. Rests on no axiom.
+use mathlib.Core.Path.{ap, _∙_}
+use Rattle.timing.specs.declared.Profile.{Profile}
+use Rattle.lengths.specs.Margin.{marginRule}
+use Rattle.ism.specs.Answers.{given}
+use borrow.Author.Needs.{needs}
+use Rattle.ism.proofs.ism_margin.Statement.{statement}
+use Rattle.ism.proofs.ism_margin.Tie as tie
+
+profile-requires : tie.Need-profile-requires
+profile-requires c κs = search needs
+
+margin-requires : tie.Need-margin-requires
+margin-requires c κs = search needs
+
+answer-requires : tie.Need-answer-requires
+answer-requires c κs = search needs
+
+returns : tie.Need-returns
+returns c =
+    c .answer .ensures
+    ∙ ap given (c .before .margin .ensures)
+    ∙ ap (λ (q : Profile). given (marginRule q)) (c .before .before .profile .ensures)
+
+pub ism-margin-spec : {M : Type 1} → statement M
+ism-margin-spec = tie.close (tie.spec profile-requires margin-requires answer-requires returns)

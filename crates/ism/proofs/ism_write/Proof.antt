@@ -1,0 +1,37 @@
+-- Why `ism::ism_write` answers as the library does: it hands the arguments over and the answer back. Rests on no axiom.
+use mathlib.Core.Path.{ap, _∙_}
+use denote.Ref.{now}
+use lib.ListN.{length}
+use Rattle.timing.specs.declared.Profile.{Profile}
+use Rattle.codec.specs.Writer.{writeRule, writeOutput}
+use Rattle.ism.specs.Answers.{given}
+use borrow.Author.Needs.{needs}
+use Rattle.ism.proofs.ism_write.Statement.{statement}
+use Rattle.ism.proofs.ism_write.Tie as tie
+
+profile-requires : tie.Need-profile-requires
+profile-requires c κs = search needs
+
+write-requires : tie.Need-write-requires
+write-requires c κs = search needs
+
+answer-requires : tie.Need-answer-requires
+answer-requires c κs = search needs
+
+same-length : tie.Need-same-length
+same-length c = search needs
+
+returns : tie.Need-returns
+returns c =
+    let start = c .before .before .before .before .before .before .before .before .args in
+    let wrote = c .before .before .before .write .ensures in
+    let same = c .before .before .before .before .before .profile .ensures in (
+      c .answer .ensures
+          ∙ ap given
+          (wrote .0 ∙ ap (λ (q : Profile). writeRule q (now (start .items)) (length (now (start .out)))) same),
+      wrote .1 ∙ ap (λ (q : Profile). writeOutput q (now (start .items)) (now (start .out))) same,
+    )
+
+pub ism-write-spec : {M : Type 1} → statement M
+ism-write-spec =
+    tie.close (tie.spec profile-requires write-requires answer-requires same-length returns)

@@ -1,0 +1,166 @@
+// The C interface, as include/ism.h declares it. Each function hands its arguments to the library and its answer back: nothing is
+// computed here.
+ghost use mathlib.Core.Path.{_≡_};
+ghost use lib.ListN.{length};
+ghost use Rattle.refusal.specs.Answer.{countedAnswer};
+ghost use Rattle.timing.specs.Class.{classRule};
+ghost use Rattle.lengths.specs.Margin.{marginRule};
+ghost use Rattle.codec.specs.Writer.{writeRule, writeOutput};
+ghost use Rattle.codec.specs.Reader.{readRule, readOutput};
+ghost use Rattle.fields.specs.Lock.{findRule};
+ghost use Rattle.fields.specs.FieldRule.{fieldAnswer, fieldReading, fieldOutput};
+ghost use Rattle.sectors.specs.Sector.{sectorRule, sectorOutput};
+ghost use Rattle.ism.specs.Answers.{profileOf, given, givenField};
+use fields::reader::FieldRead;
+use refusal::Counted;
+use timing::Clocks;
+use timing::HalfClocks;
+use timing::Profile;
+
+pub mod queue;
+
+#[repr(C)]
+pub struct IsmProfile {
+    pub t1: u16,
+    pub t0: u16,
+    pub early: u16,
+    pub normal: u16,
+    pub late: u16,
+    pub min: u16,
+    pub b23: u16,
+    pub b34: u16,
+    pub rpt: u16,
+}
+
+// Number 0 for accepted. What a function does not give is 0.
+#[repr(C)]
+pub struct IsmAnswer {
+    pub number: u32,
+    pub place: u32,
+    pub count: u64,
+    pub used: u64,
+    pub holds: u32,
+}
+
+fn profile(p: IsmProfile) -> Profile
+    ensures { λ r. ⌜ r ≡ profileOf p ⌝ }
+{
+    Profile {
+        t1: HalfClocks(p.t1),
+        t0: HalfClocks(p.t0),
+        early: Clocks(p.early),
+        normal: Clocks(p.normal),
+        late: Clocks(p.late),
+        min: HalfClocks(p.min),
+        b23: HalfClocks(p.b23),
+        b34: HalfClocks(p.b34),
+        rpt: HalfClocks(p.rpt),
+    }
+}
+
+fn answer(counted: Counted) -> IsmAnswer
+    ensures { λ r. ⌜ r ≡ given (countedAnswer counted) ⌝ }
+{
+    match counted {
+        Counted::Count(count) => IsmAnswer {
+            number: 0,
+            place: 0,
+            count: count as u64,
+            used: 0,
+            holds: 0,
+        },
+        Counted::Refused(refusal) => IsmAnswer {
+            number: refusal.number(),
+            place: refusal.place(),
+            count: 0,
+            used: 0,
+            holds: 0,
+        },
+    }
+}
+
+#[no_mangle]
+pub extern "C" fn ism_margin(p: IsmProfile) -> IsmAnswer
+    ensures { λ r. ⌜ r ≡ given (marginRule (profileOf p)) ⌝ }
+{
+    answer(lengths::margin(profile(p)))
+}
+
+#[no_mangle]
+pub extern "C" fn ism_class(p: IsmProfile, interval: u16) -> IsmAnswer
+    ensures { λ r. ⌜ r ≡ given (classRule (profileOf p) interval) ⌝ }
+{
+    answer(timing::class_number(profile(p), interval))
+}
+
+#[no_mangle]
+pub extern "C" fn ism_write(p: IsmProfile, items: &[u16], out: &mut [u16]) -> IsmAnswer
+    ensures { λ r. ⌜ (r ≡ given (writeRule (profileOf p) (now (items .entry)) (length (now (out .entry))))) × (now (out .exit) ≡ writeOutput (profileOf p) (now (items .entry)) (now (out .entry))) ⌝ }
+{
+    let counted = codec::writer::write(profile(p), items, out);
+    answer(counted)
+}
+
+#[no_mangle]
+pub extern "C" fn ism_read(p: IsmProfile, intervals: &[u16], out: &mut [u16]) -> IsmAnswer
+    ensures { λ r. ⌜ (r ≡ given (readRule (profileOf p) (now (intervals .entry)) (length (now (out .entry))))) × (now (out .exit) ≡ readOutput (profileOf p) (now (intervals .entry)) (now (out .entry))) ⌝ }
+{
+    let counted = codec::reader::read(profile(p), intervals, out);
+    answer(counted)
+}
+
+#[no_mangle]
+pub extern "C" fn ism_find(p: IsmProfile, intervals: &[u16], start: u64) -> IsmAnswer
+    ensures { λ r. ⌜ r ≡ given (findRule (profileOf p) (now (intervals .entry)) start) ⌝ }
+{
+    answer(fields::finder::find_lock(profile(p), intervals, start as usize))
+}
+
+fn field_answer(read: FieldRead) -> IsmAnswer
+    ensures { λ r. ⌜ r ≡ givenField (fieldAnswer read) ⌝ }
+{
+    match read {
+        FieldRead::Field { count, used, holds } => IsmAnswer {
+            number: 0,
+            place: 0,
+            count: count as u64,
+            used: used as u64,
+            holds: holds as u32,
+        },
+        FieldRead::Refused(refusal) => IsmAnswer {
+            number: refusal.number(),
+            place: refusal.place(),
+            count: 0,
+            used: 0,
+            holds: 0,
+        },
+    }
+}
+
+#[no_mangle]
+pub extern "C" fn ism_read_field(
+    p: IsmProfile,
+    intervals: &[u16],
+    bytes: u64,
+    out: &mut [u16],
+) -> IsmAnswer
+    ensures { λ r. ⌜ (r ≡ givenField (fieldReading (profileOf p) (now (intervals .entry)) bytes (length (now (out .entry))))) × (now (out .exit) ≡ fieldOutput (profileOf p) (now (intervals .entry)) bytes (now (out .entry))) ⌝ }
+{
+    let read = fields::reader::read_field(profile(p), intervals, bytes as usize, out);
+    field_answer(read)
+}
+
+#[no_mangle]
+pub extern "C" fn ism_make_sector(
+    track: u8,
+    side: u8,
+    sector: u8,
+    code: u8,
+    bytes: &[u8],
+    out: &mut [u16],
+) -> IsmAnswer
+    ensures { λ r. ⌜ (r ≡ given (sectorRule track side sector code (now (bytes .entry)) (length (now (out .entry))))) × (now (out .exit) ≡ sectorOutput track side sector code (now (bytes .entry)) (now (out .entry))) ⌝ }
+{
+    let counted = sectors::make_sector(track, side, sector, code, bytes, out);
+    answer(counted)
+}

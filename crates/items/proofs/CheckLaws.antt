@@ -1,0 +1,87 @@
+-- Laws of the register's state: it stays within 16 bits, and its own two bytes clear it.
+use Prim.Native.Nat.{ℕ, _+_, _%_, _<_, _≤_}
+use mathlib.Core.Path.{_≡_, refl, ap, _∙_}
+use mathlib.Core.Bool.{true, false, cond}
+use mathlib.Core.List.{List, [], _∷_, _++_}
+use native.Mathlib.Nat.{mod-eq-of-lt}
+use native.Mathlib.Numerals.{add-one}
+use native.Mathlib.Omega.{arith}
+use lib.ListN.{length, getD, drop, drop-of-length-le}
+use lib.Seq.{drop-cons}
+use Rattle.items.specs.Item.{isMark}
+use Rattle.items.specs.Register.{fed, highByte, lowByte}
+use Rattle.items.specs.Written.{fresh, beforeMark, afterMark, afterData, afterByte, afterBytes, checkBytes}
+use Rattle.items.specs.Written.{itemBytes, afterCheck, afterItem}
+use Rattle.items.specs.declared.Check.{Check}
+use Rattle.items.proofs.ItemLaws.{data-is-no-mark}
+use Rattle.items.proofs.RegisterLaws.{fed-bound, fed-own-bytes-is-zero}
+
+-- a state that no mark byte has made, as data bytes leave it
+abbrev pub unmarked : ℕ → Check
+unmarked r = record { register = r; marked = false }
+
+-- ---- bounds
+
+pub high-byte-bound : (r : ℕ) → r < 0x10000 → highByte r < 256
+high-byte-bound r h = omega arith
+
+pub low-byte-bound : (r : ℕ) → lowByte r < 256
+low-byte-bound r = omega arith
+
+pub fresh-bound : fresh .register < 0x10000
+fresh-bound = omega arith
+
+pub after-byte-bound : (c : Check) (w : ℕ) → afterByte c w .register < 0x10000
+unfolding afterByte afterMark afterData
+after-byte-bound c w =
+    elim (isMark w) as (λ t. cond t (afterMark c w) (afterData c w) .register < 0x10000)
+    [ true ↦ fed-bound (beforeMark c) (w % 256) | false ↦ fed-bound (c .register) (w % 256) ]
+
+pub after-bytes-bound : (c : Check) (ws : List ℕ) → c .register < 0x10000 → afterBytes c ws .register < 0x10000
+unfolding afterBytes
+after-bytes-bound c [] h = h
+after-bytes-bound c (w ∷ ws) h = after-bytes-bound (afterByte c w) ws (after-byte-bound c w)
+
+pub after-item-bound : (c : Check) (n : ℕ) → c .register < 0x10000 → afterItem c n .register < 0x10000
+unfolding afterItem
+after-item-bound c n h = after-bytes-bound c (itemBytes c n) h
+
+-- ---- bytes one after the other
+
+pub after-bytes-of-append : (c : Check) (xs ys : List ℕ) → afterBytes c (xs ++ ys) ≡ afterBytes (afterBytes c xs) ys
+unfolding afterBytes
+after-bytes-of-append c [] ys = refl
+after-bytes-of-append c (x ∷ xs) ys = after-bytes-of-append (afterByte c x) xs ys
+
+-- from place k on
+pub after-bytes-from : (c : Check) (ws : List ℕ) (k : ℕ) → k < length ws
+    → afterBytes c (drop k ws) ≡ afterBytes (afterByte c (getD ws k 0)) (drop (k + 1) ws)
+unfolding afterBytes
+after-bytes-from c ws k h = rw (add-one, drop-cons ws k 0)
+
+pub after-bytes-from-end : (c : Check) (ws : List ℕ) (k : ℕ) → length ws ≤ k → afterBytes c (drop k ws) ≡ c
+unfolding afterBytes
+after-bytes-from-end c ws k h = rw (drop-of-length-le ws h)
+
+pub after-data : (c : Check) (w : ℕ) → w < 256 → afterByte c w ≡ unmarked (fed (c .register) w)
+unfolding afterByte afterData
+after-data c w h = rw (data-is-no-mark w h, mod-eq-of-lt h)
+
+-- ---- check bytes
+
+pub after-check-is-zero : (c : Check) → c .register < 0x10000 → afterCheck c ≡ unmarked 0
+unfolding afterCheck afterBytes
+after-check-is-zero c h =
+    let high : ℕ = highByte (c .register) in
+    let low : ℕ = lowByte (c .register) in
+    ap (λ (s : Check). afterByte s low) (after-data c high (high-byte-bound (c .register) h))
+    ∙ after-data (unmarked (fed (c .register) high)) low (low-byte-bound (c .register))
+    ∙ ap unmarked (fed-own-bytes-is-zero (c .register) h)
+
+-- for every list: the two bytes of its own register after it leave 0
+pub crc-of-check-bytes-is-zero : (c : Check) (ws : List ℕ) → c .register < 0x10000
+    → afterBytes c (ws ++ checkBytes (afterBytes c ws)) ≡ unmarked 0
+unfolding afterCheck
+crc-of-check-bytes-is-zero c ws h =
+    after-bytes-of-append c ws (checkBytes (afterBytes c ws))
+    ∙ after-check-is-zero (afterBytes c ws) (after-bytes-bound c ws h)

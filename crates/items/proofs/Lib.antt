@@ -1,0 +1,6 @@
+pub mod XorLaws
+pub mod RegisterLaws
+pub mod ItemLaws
+pub mod CheckLaws
+pub mod WrittenLaws
+pub mod CheckFacts

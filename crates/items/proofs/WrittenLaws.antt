@@ -1,0 +1,148 @@
+-- Laws of written bytes: by induction on the items, the register's state going along.
+use Prim.Native.Nat.{ℕ, _+_, _<_, _≤_}
+use mathlib.Core.Path.{_≡_, refl, sym, ap, ap₂, _∙_}
+use mathlib.Core.Bool.{true, false, cond, _&&_}
+use mathlib.Core.List.{List, [], _∷_, _++_, append-assoc}
+use mathlib.Core.Logic.{⊎-elim}
+use native.Mathlib.Numerals.{add-one}
+use lib.ListN.{length, getD, take, drop, length-append, drop-of-length-le}
+use lib.Seq.{drop-cons, sets}
+use Rattle.lists.specs.Filled.{filled}
+use Rattle.lists.specs.Place.{anywhere, everywhere}
+use Rattle.lists.proofs.PlaceLaws.{everywhere-of-none, everywhere-of-passing, everywhere-of-append}
+use Rattle.lists.proofs.PlaceLaws.{nowhere-fails-at-first, nowhere-in-rest}
+use Rattle.lists.proofs.FilledLaws.{sets-from-front-is-filled, front-of-filled}
+use Rattle.items.specs.Item.{isByte, isCheck, isItem, isForeign, bytesOf, writtenBytes}
+use Rattle.items.specs.Register.{highByte, lowByte}
+use Rattle.items.specs.Written.{fresh, afterByte, afterBytes, checkBytes, itemBytes, afterCheck, afterItem}
+use Rattle.items.specs.Written.{writtenFrom, written}
+use Rattle.items.specs.declared.Check.{Check}
+use Rattle.items.proofs.ItemLaws.{check-or-not, data-is-byte, item-but-no-check-is-byte, not-foreign-is-item}
+use Rattle.items.proofs.ItemLaws.{bytes-have-no-check}
+use Rattle.items.proofs.CheckLaws.{high-byte-bound, low-byte-bound, fresh-bound, after-bytes-of-append}
+use Rattle.items.proofs.CheckLaws.{after-item-bound}
+
+-- ---- one item
+
+pub item-bytes-of-check : (c : Check) (n : ℕ) → isCheck n ≡ true → itemBytes c n ≡ checkBytes c
+unfolding itemBytes
+item-bytes-of-check c n e = rw e
+
+pub item-bytes-of-byte : (c : Check) (n : ℕ) → isCheck n ≡ false → itemBytes c n ≡ n ∷ []
+unfolding itemBytes
+item-bytes-of-byte c n e = rw e
+
+pub after-item-of-check : (c : Check) (n : ℕ) → isCheck n ≡ true → afterItem c n ≡ afterCheck c
+unfolding afterItem afterCheck
+after-item-of-check c n e = ap (afterBytes c) (item-bytes-of-check c n e)
+
+pub after-item-of-byte : (c : Check) (n : ℕ) → isCheck n ≡ false → afterItem c n ≡ afterByte c n
+unfolding afterItem afterBytes
+after-item-of-byte c n e = ap (afterBytes c) (item-bytes-of-byte c n e)
+
+pub length-of-item-bytes : (c : Check) (n : ℕ) → length (itemBytes c n) ≡ bytesOf n
+unfolding itemBytes bytesOf
+length-of-item-bytes c n =
+    elim (isCheck n) as (λ t. length (cond t (checkBytes c) (n ∷ [])) ≡ cond t 2 1) [ true ↦ refl | false ↦ refl ]
+
+item-bytes-are-bytes : (c : Check) (n : ℕ) → c .register < 0x10000 → isItem n ≡ true
+    → everywhere isByte (itemBytes c n) ≡ true
+item-bytes-are-bytes c n h item =
+    ⊎-elim
+    (λ check.
+    rw (item-bytes-of-check c n check)
+    (everywhere-of-passing isByte (highByte (c .register)) (lowByte (c .register) ∷ [])
+    (data-is-byte (highByte (c .register)) (high-byte-bound (c .register) h))
+    ∙ byte-alone (lowByte (c .register)) (data-is-byte (lowByte (c .register)) (low-byte-bound (c .register)))))
+    (λ other. rw (item-bytes-of-byte c n other) (byte-alone n (item-but-no-check-is-byte n item other)))
+    (check-or-not n)
+  where
+    byte-alone : (w : ℕ) → isByte w ≡ true → everywhere isByte (w ∷ []) ≡ true
+    byte-alone w e = everywhere-of-passing isByte w [] e ∙ everywhere-of-none isByte
+
+-- ---- one item after the other
+
+pub written-from-none : (c : Check) → writtenFrom c [] ≡ []
+unfolding writtenFrom
+written-from-none c = refl
+
+pub written-from-item : (c : Check) (n : ℕ) (ns : List ℕ)
+    → writtenFrom c (n ∷ ns) ≡ itemBytes c n ++ writtenFrom (afterItem c n) ns
+unfolding writtenFrom
+written-from-item c n ns = refl
+
+-- from place k on
+pub written-from-place : (c : Check) (ns : List ℕ) (k : ℕ) → k < length ns
+    → writtenFrom c (drop k ns) ≡ itemBytes c (getD ns k 0) ++ writtenFrom (afterItem c (getD ns k 0)) (drop (k + 1) ns)
+written-from-place c ns k h =
+    ap (writtenFrom c) (drop-cons ns k 0 h ∙ ap (λ (j : ℕ). getD ns k 0 ∷ drop j ns) (sym (add-one k)))
+    ∙ written-from-item c (getD ns k 0) (drop (k + 1) ns)
+
+pub written-from-end : (c : Check) (ns : List ℕ) (k : ℕ) → length ns ≤ k → writtenFrom c (drop k ns) ≡ []
+written-from-end c ns k h = ap (writtenFrom c) (drop-of-length-le ns h) ∙ written-from-none c
+
+-- ---- how many
+
+pub length-of-written-from : (c : Check) (ns : List ℕ) → length (writtenFrom c ns) ≡ writtenBytes ns
+unfolding writtenFrom writtenBytes
+length-of-written-from c [] = refl
+length-of-written-from c (n ∷ ns) =
+    length-append (itemBytes c n) (writtenFrom (afterItem c n) ns)
+    ∙ ap₂ _+_ (length-of-item-bytes c n) (length-of-written-from (afterItem c n) ns)
+
+pub length-of-written : (ns : List ℕ) → length (written ns) ≡ writtenBytes ns
+unfolding written
+length-of-written ns = length-of-written-from fresh ns
+
+-- ---- one list after another
+
+pub written-from-of-append : (c : Check) (ms ns : List ℕ)
+    → writtenFrom c (ms ++ ns) ≡ writtenFrom c ms ++ writtenFrom (afterBytes c (writtenFrom c ms)) ns
+unfolding writtenFrom afterItem afterBytes
+written-from-of-append c [] ns = refl
+written-from-of-append c (m ∷ ms) ns =
+    ap (λ (l : List ℕ). itemBytes c m ++ l) (written-from-of-append (afterItem c m) ms ns)
+    ∙ sym (append-assoc (itemBytes c m) (writtenFrom (afterItem c m) ms) _)
+    ∙ ap (λ (s : Check). (itemBytes c m ++ writtenFrom (afterItem c m) ms) ++ writtenFrom s ns)
+    (sym (after-bytes-of-append c (itemBytes c m) (writtenFrom (afterItem c m) ms)))
+
+-- ---- what they are
+
+pub written-from-are-bytes : (c : Check) (ns : List ℕ) → c .register < 0x10000 → anywhere isForeign ns ≡ false
+    → everywhere isByte (writtenFrom c ns) ≡ true
+written-from-are-bytes c [] h e = ap (everywhere isByte) (written-from-none c) ∙ everywhere-of-none isByte
+written-from-are-bytes c (n ∷ ns) h e =
+    ap (everywhere isByte) (written-from-item c n ns)
+    ∙ everywhere-of-append isByte (itemBytes c n) (writtenFrom (afterItem c n) ns)
+    ∙ ap₂ _&&_ (item-bytes-are-bytes c n h (not-foreign-is-item n (nowhere-fails-at-first isForeign n ns e)))
+    (written-from-are-bytes (afterItem c n) ns (after-item-bound c n h) (nowhere-in-rest isForeign n ns e))
+
+pub written-are-bytes : (ns : List ℕ) → anywhere isForeign ns ≡ false → everywhere isByte (written ns) ≡ true
+unfolding written
+written-are-bytes ns e = written-from-are-bytes fresh ns fresh-bound e
+
+pub written-from-of-no-check : (c : Check) (ns : List ℕ) → anywhere isCheck ns ≡ false → writtenFrom c ns ≡ ns
+written-from-of-no-check c [] e = written-from-none c
+written-from-of-no-check c (n ∷ ns) e =
+    written-from-item c n ns
+    ∙ ap₂ _++_ (item-bytes-of-byte c n (nowhere-fails-at-first isCheck n ns e))
+    (written-from-of-no-check (afterItem c n) ns (nowhere-in-rest isCheck n ns e))
+
+pub written-of-no-check : (ns : List ℕ) → anywhere isCheck ns ≡ false → written ns ≡ ns
+unfolding written
+written-of-no-check ns e = written-from-of-no-check fresh ns e
+
+pub written-of-bytes : (ns : List ℕ) → everywhere isByte ns ≡ true → written ns ≡ ns
+written-of-bytes ns e = written-of-no-check ns (bytes-have-no-check ns e)
+
+-- ---- in a buffer that they fit, they fill the front
+
+pub stored-bytes-fill-front : (ns old : List ℕ) → writtenBytes ns ≤ length old
+    → sets old 0 (written ns) ≡ filled (written ns) old
+stored-bytes-fill-front ns old h = sets-from-front-is-filled (written ns) old (rw (length-of-written ns) h)
+
+-- as a caller of `write_bytes` has it: the answer, the buffer after the call and before it
+pub front-of-stored-bytes : (ns : List ℕ) (n : ℕ) (out old : List ℕ)
+    → n ≡ writtenBytes ns → out ≡ sets old 0 (written ns) → writtenBytes ns ≤ length old → take n out ≡ written ns
+front-of-stored-bytes ns n out old p q h =
+    ap₂ take (p ∙ sym (length-of-written ns)) (q ∙ stored-bytes-fill-front ns old h) ∙ front-of-filled (written ns) old

@@ -1,0 +1,53 @@
+-- Laws of exclusive-or that the library lacks: it works digit by digit, and on single digits it is computed.
+use Prim.Native.Nat.{ℕ, zero, suc, _+_, _*_, _/_, _%_, _<_}
+use mathlib.Core.Path.{_≡_, refl, sym, ap, ap₂, _∙_}
+use native.Mathlib.Nat.{div-add-mod', add-zero, zero-mul}
+use native.Mathlib.Omega.{arith}
+use lib.Arith.{bin-ind}
+use lib.Bits.{bitXor, xor-shr, xor-mod, xor-comm, xor-block, xor-self, xor-zero-r}
+
+-- the lowest digit apart
+pub xor-halves : (a b : ℕ) → bitXor a b ≡ bitXor (a / 2) (b / 2) * 2 + bitXor (a % 2) (b % 2)
+xor-halves a b = sym (div-add-mod' (bitXor a b) 2) ∙ ap₂ (λ (q r : ℕ). q * 2 + r) (xor-shr a b 1) (xor-mod a b 1)
+
+xor-assoc-of-digits : (x y z : ℕ) → x < 2 → y < 2 → z < 2 → bitXor (bitXor x y) z ≡ bitXor x (bitXor y z)
+xor-assoc-of-digits zero y z hx hy hz = refl
+xor-assoc-of-digits (suc zero) zero z hx hy hz = refl
+xor-assoc-of-digits (suc zero) (suc zero) zero hx hy hz = refl
+xor-assoc-of-digits (suc zero) (suc zero) (suc zero) hx hy hz = refl
+xor-assoc-of-digits (suc zero) (suc zero) (suc (suc z)) hx hy hz = absurd (omega arith)
+xor-assoc-of-digits (suc zero) (suc (suc y)) z hx hy hz = absurd (omega arith)
+xor-assoc-of-digits (suc (suc x)) y z hx hy hz = absurd (omega arith)
+
+pub xor-assoc : (a b c : ℕ) → bitXor (bitXor a b) c ≡ bitXor a (bitXor b c)
+xor-assoc a =
+    bin-ind (λ (n : ℕ). (b c : ℕ) → bitXor (bitXor n b) c ≡ bitXor n (bitXor b c)) (λ b c. refl)
+    (λ n ih b c.
+    xor-halves (bitXor n b) c
+    ∙ ap₂ (λ (q r : ℕ). bitXor q (c / 2) * 2 + bitXor r (c % 2)) (xor-shr n b 1) (xor-mod n b 1)
+    ∙ ap₂ (λ (q r : ℕ). q * 2 + r) (ih (b / 2) (c / 2))
+    (xor-assoc-of-digits (n % 2) (b % 2) (c % 2) (omega arith) (omega arith) (omega arith))
+    ∙ ap₂ (λ (q r : ℕ). bitXor (n / 2) q * 2 + bitXor (n % 2) r) (sym (xor-shr b c 1)) (sym (xor-mod b c 1))
+    ∙ sym (xor-halves n (bitXor b c))) a
+
+-- two sums of two terms, added
+pub xor-exchange : (a b c d : ℕ) → bitXor (bitXor a b) (bitXor c d) ≡ bitXor (bitXor a c) (bitXor b d)
+xor-exchange a b c d =
+    xor-assoc a b (bitXor c d)
+    ∙ ap (bitXor a) (sym (xor-assoc b c d) ∙ ap (λ (x : ℕ). bitXor x d) (xor-comm b c) ∙ xor-assoc c b d)
+    ∙ sym (xor-assoc a c (bitXor b d))
+
+-- a shift passes through
+pub xor-double : (a b : ℕ) → bitXor a b * 2 ≡ bitXor (a * 2) (b * 2)
+xor-double a b =
+    sym (add-zero (bitXor a b * 2))
+    ∙ sym (xor-block 1 a b 0 0 (omega arith) (omega arith))
+    ∙ ap₂ bitXor (add-zero (a * 2)) (add-zero (b * 2))
+
+-- what a digit switches on
+pub xor-switch : (p x y : ℕ) → x < 2 → y < 2 → bitXor x y * p ≡ bitXor (x * p) (y * p)
+xor-switch p zero y hx hy = ap (λ (q : ℕ). bitXor q (y * p)) (sym (zero-mul p))
+xor-switch p (suc zero) zero hx hy = sym (xor-zero-r (1 * p)) ∙ ap (bitXor (1 * p)) (sym (zero-mul p))
+xor-switch p (suc zero) (suc zero) hx hy = zero-mul p ∙ sym (xor-self (1 * p))
+xor-switch p (suc zero) (suc (suc y)) hx hy = absurd (omega arith)
+xor-switch p (suc (suc x)) y hx hy = absurd (omega arith)

@@ -1,0 +1,86 @@
+-- `find_foreign` scans for the lowest place: an item moves it on by one, the first number that is none ends it.
+use Prim.Native.Nat.{ℕ, _+_, _-_, _≤_, _<_, zero-le}
+use mathlib.Core.Path.{_≡_, sym, _∙_}
+use mathlib.Core.Bool.{true, false}
+use mathlib.Core.List.{List}
+use native.Mathlib.Nat.{zero-add}
+use native.Mathlib.Omega.{arith}
+use denote.Ref.{now}
+use borrow.Author.Count.{falls}
+use borrow.Author.Needs.{needs}
+use lib.ListN.{length, getD, drop}
+use Rattle.lists.specs.Place.{lowest}
+use Rattle.lists.proofs.PlaceLaws.{lowest-from-passing-is-here, lowest-from-failing-is-further, lowest-from-end-is-here}
+use Rattle.items.specs.Item.{isForeign}
+use Rattle.items.proofs.ItemLaws.{item-is-not-foreign, no-item-is-foreign}
+use Rattle.items.proofs.list.find_foreign.Statement.{statement}
+use Rattle.items.proofs.list.find_foreign.Tie as tie
+
+abbrev Inv-loop : tie.InvT-loop
+Inv-loop items k₀ k = (k ≤ length items) × (k + lowest isForeign (drop k items) ≡ lowest isForeign items)
+
+abbrev μ-loop : tie.MeasureT-loop
+μ-loop items k₀ k = length items - k
+
+-- the function's entry
+abbrev entry-of : tie.At-loop Inv-loop μ-loop → tie.Start Inv-loop μ-loop
+entry-of c = c .before .before
+
+loop-holds : tie.Need-loop-holds Inv-loop μ-loop
+loop-holds c = (zero-le, zero-add (lowest isForeign (now (c .before .args .items))))
+
+mul-is-item : tie.Need-mul-is-item Inv-loop μ-loop
+mul-is-item c = omega arith
+
+shared-slice-read-is-item : tie.Need-shared-slice-read-is-item Inv-loop μ-loop
+shared-slice-read-is-item c = c .before .loop-test .taken
+
+is-item-requires : tie.Need-is-item-requires Inv-loop μ-loop
+is-item-requires c κs = search needs
+
+add-k : tie.Need-add-k Inv-loop μ-loop
+add-k c = omega arith
+
+loop-less : tie.Need-loop-less Inv-loop μ-loop
+loop-less c = falls _ _ (c .before .before .before .loop-test .taken)
+
+loop-again : tie.Need-loop-again Inv-loop μ-loop
+loop-again c =
+    let turn : tie.In-loop Inv-loop μ-loop = c .before .before .before in
+    let head = turn .before .loop in
+    let items : List ℕ = now (entry-of (turn .before) .args .items) in
+    let inside : head .k < length items = turn .loop-test .taken in
+    let item : isForeign (getD items (head .k) 0) ≡ false =
+    item-is-not-foreign (getD items (head .k) 0) (sym (c .before .is-item .ensures) ∙ c .if1 .taken) in
+    (omega arith, sym (lowest-from-failing-is-further isForeign items 0 (head .k) inside item) ∙ head .inv .1)
+
+returns : tie.Need-returns Inv-loop μ-loop
+returns c =
+    let turn : tie.In-loop Inv-loop μ-loop = c .before .before .before in
+    let head = turn .before .loop in
+    let items : List ℕ = now (entry-of (turn .before) .args .items) in
+    let foreign : isForeign (getD items (head .k) 0) ≡ true =
+    no-item-is-foreign (getD items (head .k) 0) (sym (c .before .is-item .ensures) ∙ c .if1 .left) in
+    sym (lowest-from-passing-is-here isForeign items 0 (head .k) (turn .loop-test .taken) foreign) ∙ head .inv .1
+
+returns-2 : tie.Need-returns-2 Inv-loop μ-loop
+returns-2 c =
+    let head = c .before .loop in
+    let items : List ℕ = now (entry-of (c .before) .args .items) in
+    sym (lowest-from-end-is-here isForeign items (head .k) (c .loop-test .left)) ∙ head .inv .1
+
+pub find-foreign-spec : {M : Type 1} → statement M
+find-foreign-spec =
+    tie.close
+    (tie.spec
+    Inv-loop
+    μ-loop
+    loop-holds
+    mul-is-item
+    shared-slice-read-is-item
+    is-item-requires
+    add-k
+    loop-less
+    loop-again
+    returns
+    returns-2)

@@ -1,0 +1,129 @@
+// Document 01, "Items and the check register".
+mod list;
+mod table;
+
+pub use list::find_foreign;
+pub use list::write_bytes;
+pub use list::written_bytes;
+ghost use mathlib.Core.Path.{_≡_};
+ghost use Rattle.items.specs.Item.{isMark, isCheck, isItem, bytesOf};
+ghost use Rattle.items.specs.Register.{registerTable, highByte, lowByte};
+ghost use Rattle.items.specs.Written.{fresh, beforeMark, afterByte, afterBytes, afterCheck, afterItem};
+
+pub fn is_mark(n: u16) -> bool
+    ensures { λ r. ⌜ r ≡ isMark n ⌝ }
+{
+    n == 0x1a1 || n == 0x1c2
+}
+
+pub fn is_check(n: u16) -> bool
+    ensures { λ r. ⌜ r ≡ isCheck n ⌝ }
+{
+    n == 512
+}
+
+pub fn is_item(n: u16) -> bool
+    ensures { λ r. ⌜ r ≡ isItem n ⌝ }
+{
+    if n < 256 {
+        return true;
+    }
+    if is_mark(n) {
+        return true;
+    }
+    is_check(n)
+}
+
+// How many written bytes a number counts for, an item or not.
+pub fn bytes_of(n: u16) -> usize
+    ensures { λ r. ⌜ r ≡ bytesOf n ⌝ }
+{
+    if is_check(n) { 2 } else { 1 }
+}
+
+// The check register, and whether the written byte before was a mark byte.
+pub struct Check {
+    pub register: u16,
+    pub marked: bool,
+}
+
+impl Check {
+    pub fn fresh() -> Self
+        ensures { λ r. ⌜ r ≡ fresh ⌝ }
+    {
+        Check {
+            register: 0xffff,
+            marked: false,
+        }
+    }
+
+    // The register that a mark byte passes through.
+    fn before_mark(self) -> u16
+        ensures { λ r. ⌜ r ≡ beforeMark self ⌝ }
+    {
+        if self.marked { self.register } else { 0xffff }
+    }
+
+    fn after_byte(self, table: &[u16; 256], byte: u16) -> Self
+        requires { ⌜ now table ≡ registerTable ⌝ }
+        ensures { λ r. ⌜ r ≡ afterByte self byte ⌝ }
+    {
+        if is_mark(byte) {
+            return Check {
+                register: table::feed(table, self.before_mark(), byte),
+                marked: true,
+            };
+        }
+        Check {
+            register: table::feed(table, self.register, byte),
+            marked: false,
+        }
+    }
+
+    fn after_item(self, table: &[u16; 256], n: u16) -> Self
+        requires { ⌜ now table ≡ registerTable ⌝ }
+        ensures { λ r. ⌜ r ≡ afterItem self n ⌝ }
+    {
+        if is_check(n) {
+            return self.after_check();
+        }
+        self.after_byte(table, n)
+    }
+
+    // The state after written bytes have passed through.
+    pub fn after_bytes(self, bytes: &[u16]) -> Self
+        ensures { λ r. ⌜ r ≡ afterBytes self (now (bytes .entry)) ⌝ }
+    {
+        let table = table::register_table();
+        let mut check = self;
+        let mut k: usize = 0;
+        while k < bytes.len() {
+            check = check.after_byte(&table, bytes[k]);
+            k += 1;
+        }
+        check
+    }
+
+    // The two bytes that a check order writes.
+    pub fn high(self) -> u16
+        ensures { λ r. ⌜ r ≡ highByte (self .register) ⌝ }
+    {
+        self.register / 256
+    }
+
+    pub fn low(self) -> u16
+        ensures { λ r. ⌜ r ≡ lowByte (self .register) ⌝ }
+    {
+        self.register % 256
+    }
+
+    // The state after a check order's two bytes: whatever the register was, they leave 0.
+    pub fn after_check(self) -> Self
+        ensures { λ r. ⌜ r ≡ afterCheck self ⌝ }
+    {
+        Check {
+            register: 0,
+            marked: false,
+        }
+    }
+}

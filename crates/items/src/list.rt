@@ -1,0 +1,80 @@
+// Lists of items: how many bytes they write, which number is no item, and the bytes themselves.
+use crate::Check;
+ghost use mathlib.Core.Path.{_≡_};
+ghost use lib.ListN.{set};
+ghost use lib.Seq.{sets};
+ghost use Rattle.lists.specs.Place.{lowest};
+ghost use Rattle.items.specs.Item.{isForeign, writtenBytes};
+ghost use Rattle.items.specs.Written.{itemBytes, written};
+
+// How many bytes a list writes.
+pub fn written_bytes(items: &[u16]) -> usize
+    ensures { λ r. ⌜ r ≡ writtenBytes (now (items .entry)) ⌝ }
+{
+    let mut count: usize = 0;
+    let mut k: usize = 0;
+    while k < items.len() {
+        count += crate::bytes_of(items[k]);
+        k += 1;
+    }
+    count
+}
+
+// The place of the lowest number that is no item; the length where there is none.
+pub fn find_foreign(items: &[u16]) -> usize
+    ensures { λ r. ⌜ r ≡ lowest isForeign (now (items .entry)) ⌝ }
+{
+    let mut k: usize = 0;
+    while k < items.len() {
+        if crate::is_item(items[k]) {
+            k += 1;
+        } else {
+            return k;
+        }
+    }
+    k
+}
+
+// Past the end nothing is stored.
+fn put(out: &mut [u16], at: usize, byte: u16)
+    ensures { λ _. ⌜ now (out .exit) ≡ set (now (out .entry)) at byte ⌝ }
+{
+    if at < out.len() {
+        out[at] = byte;
+    }
+}
+
+// Stores an item's bytes from `at` on.
+fn put_item(out: &mut [u16], at: usize, check: Check, n: u16)
+    ensures { λ _. ⌜ now (out .exit) ≡ sets (now (out .entry)) at (itemBytes check n) ⌝ }
+{
+    if crate::is_check(n) {
+        let high = check.high();
+        let low = check.low();
+        if at < out.len() {
+            put(out, at, high);
+            put(out, at + 1, low);
+        }
+    } else {
+        put(out, at, n);
+    }
+}
+
+// Stores a list's bytes from the front of `out` on, as far as it reaches, and answers how many the list has.
+pub fn write_bytes(items: &[u16], out: &mut [u16]) -> usize
+    ensures count { λ r. ⌜ r ≡ writtenBytes (now (items .entry)) ⌝ }
+    ensures output { λ _. ⌜ now (out .exit) ≡ sets (now (out .entry)) 0 (written (now (items .entry))) ⌝ }
+{
+    let table = crate::table::register_table();
+    let mut check = Check::fresh();
+    let mut at: usize = 0;
+    let mut k: usize = 0;
+    while k < items.len() {
+        let n = items[k];
+        put_item(out, at, check, n);
+        check = check.after_item(&table, n);
+        at += crate::bytes_of(n);
+        k += 1;
+    }
+    at
+}

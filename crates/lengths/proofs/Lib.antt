@@ -1,0 +1,15 @@
+pub mod LetterLaws
+pub mod RunLaws
+pub mod StreamLaws
+pub mod NearLaws
+pub mod WindowLaws
+pub mod WitnessLaws
+pub mod MarginLaws
+pub mod ShiftLaws
+pub mod PenLaws
+pub mod SteadyLaws
+pub mod PlaceLaws
+pub mod CountLaws
+pub mod CellCountLaws
+pub mod BrokenLaws
+pub mod PapersMargin

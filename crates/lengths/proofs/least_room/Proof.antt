@@ -1,0 +1,83 @@
+-- Why `lengths::least_room` answers `marginOf`: it takes the definition's minima with the swing that the points give,
+-- and in an accepted profile no sum wraps. Rests on no axiom.
+use native.Mathlib.Omega.{arith}
+use borrow.Author.Needs.{needs}
+use Rattle.timing.proofs.ProfileLaws.{kept}
+use Rattle.lengths.specs.Margin.{marginOf}
+use Rattle.lengths.proofs.least_room.Statement.{statement}
+use Rattle.lengths.proofs.least_room.Tie as tie
+
+room-requires : tie.Need-room-requires
+room-requires c κs = search needs
+
+in-half-clocks-requires : tie.Need-in-half-clocks-requires
+in-half-clocks-requires c κs = let k = kept _ (c .before .pre) in omega arith
+
+add-three : tie.Need-add-three
+add-three c = let k = kept _ (c .before .before .before .pre) in omega arith
+
+mul-four : tie.Need-mul-four
+mul-four c = let k = kept _ (c .before .before .before .before .pre) in omega arith
+
+add-four : tie.Need-add-four
+add-four c = let k = kept _ (c .before .before .before .before .before .pre) in omega arith
+
+room-requires-2 : tie.Need-room-requires-2
+room-requires-2 c κs = search needs
+
+room-in-requires : tie.Need-room-in-requires
+room-in-requires c κs = search needs
+
+add-room-in : tie.Need-add-room-in
+add-room-in c = let k = kept _ (c .before .before .before .before .before .before .before .pre) in omega arith
+
+room-in-requires-2 : tie.Need-room-in-requires-2
+room-in-requires-2 c κs = search needs
+
+add-room-in-2 : tie.Need-add-room-in-2
+add-room-in-2 c = let k = kept _ (c .before .before .before .before .before .before .before .before .pre) in omega arith
+
+room-in-requires-3 : tie.Need-room-in-requires-3
+room-in-requires-3 c κs = search needs
+
+least-requires : tie.Need-least-requires
+least-requires c κs = search needs
+
+least-requires-2 : tie.Need-least-requires-2
+least-requires-2 c κs = search needs
+
+returns : tie.Need-returns
+unfolding marginOf
+returns c =
+    let in-four = c .before .before in
+    let in-two = in-four .before .before in
+    let swung = in-two .before .before .before .before .before in
+    rw (
+      c .least2 .ensures,
+      c .before .least .ensures,
+      in-four .room-in3 .ensures,
+      in-four .before .room-in2 .ensures,
+      in-two .room-in .ensures,
+      in-two .before .room2 .ensures,
+      swung .in-half-clocks .ensures,
+      swung .before .room .ensures,
+    )
+
+pub least-room-spec : {M : Type 1} → statement M
+least-room-spec =
+    tie.close
+    (tie.spec
+    room-requires
+    in-half-clocks-requires
+    add-three
+    mul-four
+    add-four
+    room-requires-2
+    room-in-requires
+    add-room-in
+    room-in-requires-2
+    add-room-in-2
+    room-in-requires-3
+    least-requires
+    least-requires-2
+    returns)

@@ -1,0 +1,7 @@
+pub mod Lengths
+pub mod Stream
+pub mod Near
+pub mod Margin
+pub mod Claims
+pub mod Pen
+pub mod Letters

@@ -1,0 +1,4 @@
+pub mod PlaceLaws
+pub mod FilledLaws
+pub mod TableLaws
+pub mod StoreLaws

@@ -1,0 +1,156 @@
+-- Why `script::read_bytes` keeps the bytes of a line: the fields that are left are bytes where those from the first on are, and they come after
+-- the items that the buffer holds. Rests on no axiom.
+use Prim.Native.Nat.{ℕ, _+_, _-_, _≤_}
+use mathlib.Core.Path.{_≡_, refl, sym, _∙_, ap}
+use mathlib.Core.List.{List, _∷_}
+use native.Mathlib.Omega.{arith}
+use borrow.Author.Needs.{needs}
+use lib.ListN.{length, take, drop}
+use Rattle.lists.specs.Place.{everywhere}
+use Rattle.text.specs.Hex.{isHexByte}
+use Rattle.script.specs.Line.{raised}
+use Rattle.script.specs.Read.{joined, fieldsAfter}
+use Rattle.script.proofs.FieldLaws.{field-ends-in-line, fields-next}
+use Rattle.script.proofs.ByteLaws.{bytes-of-no-byte, bytes-after-byte, byte-kept, bytes-from-tab, no-bytes-at-the-end, bytes-at-the-end, all-bytes-kept}
+use Rattle.text.proofs.HexLaws.{malformed-is-no-byte, value-is-byte}
+use Rattle.script.proofs.BufferLaws.{faulty-read, items-read}
+use Rattle.script.proofs.items.read_bytes.Statement.{statement}
+use Rattle.script.proofs.items.read_bytes.Tie as tie
+
+abbrev Inv-loop : tie.InvT-loop
+Inv-loop line from base buffer₀ count at₀ n₀ buffer at n =
+    (at ≤ length line)
+    × (length buffer ≡ length buffer₀)
+    × (n ≤ length buffer)
+    × (everywhere isHexByte (fieldsAfter (drop at line)) ≡ everywhere isHexByte (fieldsAfter (drop from line)))
+    × (joined buffer n (raised base (fieldsAfter (drop at line))) ≡ joined buffer₀ count (raised base (fieldsAfter (drop from line))))
+
+abbrev μ-loop : tie.MeasureT-loop
+μ-loop line from base buffer₀ count at₀ n₀ buffer at n = length line - at
+
+-- the field that was found
+next : (c : tie.After-find Inv-loop μ-loop)
+    → let line = c .before .before .before .before .before .before .args .line .now in
+    let at = c .before .before .loop .at in
+    let end = c .find .result in
+    fieldsAfter (drop at line) ≡ take (end - (at + 1)) (drop (at + 1) line) ∷ fieldsAfter (drop end line)
+next c =
+    fields-next (c .before .before .before .before .before .before .args .line .now) (c .before .before .loop .at) (c .find .result)
+    (c .before .loop-test .taken)
+    (c .find .ensures)
+
+returns : tie.Need-returns Inv-loop μ-loop
+returns c = faulty-read _ _ _ (no-bytes-at-the-end _ _ (c .if1 .taken))
+
+loop-holds : tie.Need-loop-holds Inv-loop μ-loop
+loop-holds c = (omega arith, refl, omega arith, refl, refl)
+
+add-start : tie.Need-add-start Inv-loop μ-loop
+add-start c = omega arith
+
+find-requires : tie.Need-find-requires Inv-loop μ-loop
+find-requires c κs = tt
+
+sub-parse-byte : tie.Need-sub-parse-byte Inv-loop μ-loop
+sub-parse-byte c = omega (arith, c .find .ensures)
+
+part-parse-byte-start : tie.Need-part-parse-byte-start Inv-loop μ-loop
+part-parse-byte-start c = omega (arith, c .find .ensures)
+
+part-parse-byte-end : tie.Need-part-parse-byte-end Inv-loop μ-loop
+part-parse-byte-end c = field-ends-in-line (c .before .before .before .before .before .before .args .line .now) (c .before .before .loop .at) (c .find .result) (c .before .loop-test .taken) (c .find .ensures)
+
+parse-byte-requires : tie.Need-parse-byte-requires Inv-loop μ-loop
+parse-byte-requires c κs = tt
+
+enum-told : tie.Need-enum-told Inv-loop μ-loop
+enum-told c = search needs
+
+same-length : tie.Need-same-length Inv-loop μ-loop
+same-length c = omega arith
+
+returns-2 : tie.Need-returns-2 Inv-loop μ-loop
+returns-2 c =
+    let found = c .before .before .before .before in
+    let at = found .before .before in
+    let start = at .before .before .before in
+    let args = start .before .args in
+    let no-byte = malformed-is-no-byte _ (sym (c .before .before .parse-byte .ensures) ∙ c .enum-told .given .1) in
+    faulty-read _ _ _
+    (bytes-from-tab (args .line .now) (args .from) (at .before .if1 .left)
+    ∙ sym (at .loop .inv .3)
+    ∙ ap (everywhere isHexByte) (next found)
+    ∙ bytes-of-no-byte _ _ no-byte)
+
+enum-known-b : tie.Need-enum-known-b Inv-loop μ-loop
+enum-known-b c = search needs
+
+cast-push : tie.Need-cast-push Inv-loop μ-loop
+cast-push c = search needs
+
+add-push : tie.Need-add-push Inv-loop μ-loop
+add-push c = search needs
+
+push-requires : tie.Need-push-requires Inv-loop μ-loop
+push-requires c κs = omega arith
+
+loop-less : tie.Need-loop-less Inv-loop μ-loop
+loop-less c =
+    let found = c .before .before .before .before .before .before .before .before .before in
+    omega (arith, found .find .ensures, found .before .loop-test .taken)
+
+loop-again : tie.Need-loop-again Inv-loop μ-loop
+loop-again c =
+    let parsed = c .before .before .before .before .before in
+    let found = parsed .before .before .before .before in
+    let at = found .before .before in
+    let args = at .before .before .before .before .args in
+    let push = c .before .before .push in
+    let byte = value-is-byte _ _ (sym (parsed .before .before .parse-byte .ensures) ∙ parsed .b .given .1) in (
+      field-ends-in-line (args .line .now) (at .loop .at) (found .find .result) (found .before .loop-test .taken) (found .find .ensures),
+      push .kept .0 ∙ at .loop .inv .1,
+      push .ensures .fits,
+      sym (bytes-after-byte _ _ (byte .0)) ∙ sym (ap (everywhere isHexByte) (next found)) ∙ at .loop .inv .3,
+      byte-kept _ _ (args .base) _ (at .loop .n) _ (at .loop .buffer) _ (byte .1) (push .kept .0) (push .ensures)
+          ∙ ap (λ (fields : List (List ℕ)). joined (at .loop .buffer) (at .loop .n) (raised (args .base) fields)) (sym (next found))
+          ∙ at .loop .inv .4,
+    )
+
+same-length-2 : tie.Need-same-length-2 Inv-loop μ-loop
+same-length-2 c = omega arith
+
+returns-3 : tie.Need-returns-3 Inv-loop μ-loop
+returns-3 c =
+    let at = c .before in
+    let args = at .before .before .before .before .args in
+    items-read _ _ _ _
+    (bytes-from-tab (args .line .now) (args .from) (at .before .if1 .left)
+    ∙ sym (at .loop .inv .3)
+    ∙ bytes-at-the-end (args .line .now) (at .loop .at) (c .loop-test .left))
+    (all-bytes-kept (args .line .now) (at .loop .at) (args .base) _ _ _ (c .loop-test .left) (at .loop .inv .2) (at .loop .inv .4))
+
+pub read-bytes-spec : {M : Type 1} → statement M
+read-bytes-spec =
+    tie.close
+    (tie.spec
+    Inv-loop
+    μ-loop
+    returns
+    loop-holds
+    add-start
+    find-requires
+    sub-parse-byte
+    part-parse-byte-start
+    part-parse-byte-end
+    parse-byte-requires
+    enum-told
+    same-length
+    returns-2
+    enum-known-b
+    cast-push
+    add-push
+    push-requires
+    loop-less
+    loop-again
+    same-length-2
+    returns-3)

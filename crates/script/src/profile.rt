@@ -1,0 +1,63 @@
+// The first line: `profile` and nine decimals.
+use crate::ProfileLine;
+use text::Decimal;
+use timing::Clocks;
+use timing::HalfClocks;
+use timing::Profile;
+ghost use mathlib.Core.Path.{_≡_};
+ghost use lib.ListN.{length, drop};
+ghost use Rattle.script.specs.Line.{profileFrom, profileRead};
+ghost use Rattle.script.specs.Read.{NumbersRead, fieldsAfter};
+
+// The decimals that stand from a tab on, if they are as many as the buffer has places.
+pub fn read_numbers(line: &[u8], from: usize, numbers: &mut [u16]) -> bool
+    ensures { λ r. ⌜ NumbersRead (fieldsAfter (drop from (now (line .entry)))) (length (now (numbers .entry))) r (now (numbers .exit)) ⌝ }
+{
+    let mut at = from;
+    let mut k = 0;
+    while at < line.len() {
+        if k == numbers.len() {
+            return false;
+        }
+        let start = at + 1;
+        let end = text::find(line, start, b'\t');
+        match text::parse_decimal(&line[start..end]) {
+            Decimal::Malformed => return false,
+            Decimal::Number(n) => numbers[k] = n,
+        }
+        k += 1;
+        at = end;
+    }
+    k == numbers.len()
+}
+
+// Nine numbers in the profile's order.
+pub fn profile_of(numbers: &[u16; 9]) -> Profile
+    ensures { λ r. ⌜ r ≡ profileFrom (now (numbers .entry)) ⌝ }
+{
+    Profile {
+        t1: HalfClocks(numbers[0]),
+        t0: HalfClocks(numbers[1]),
+        early: Clocks(numbers[2]),
+        normal: Clocks(numbers[3]),
+        late: Clocks(numbers[4]),
+        min: HalfClocks(numbers[5]),
+        b23: HalfClocks(numbers[6]),
+        b34: HalfClocks(numbers[7]),
+        rpt: HalfClocks(numbers[8]),
+    }
+}
+
+// The profile of a line.
+pub fn read_profile(line: &[u8]) -> ProfileLine
+    ensures { λ r. ⌜ r ≡ profileRead (now (line .entry)) ⌝ }
+{
+    let end = text::find(line, 0, b'\t');
+    if text::same(&line[..end], b"profile") {
+        let mut numbers = [0u16; 9];
+        if read_numbers(line, end, &mut numbers) {
+            return ProfileLine::Given(profile_of(&numbers));
+        }
+    }
+    ProfileLine::Faulty
+}

@@ -1,0 +1,81 @@
+-- How many items and written bytes a sector has: 114 items and 116 written bytes beside its data. Rests on no axiom.
+use Prim.Native.Nat.{ℕ, suc, _+_}
+use mathlib.Core.Path.{_≡_, refl, sym, ap, ap₂, _∙_}
+use mathlib.Core.Bool.{Bool, true, false, not, _||_, true≢false}
+use mathlib.Core.List.{List, [], _∷_, _++_}
+use native.Mathlib.Omega.{arith}
+use borrow.Author.Tests.{eqb-true, not-false}
+use lib.Dec.{eqb, ltb}
+use lib.ListN.{length, replicate}
+use Rattle.lists.specs.Place.{everywhere}
+use Rattle.lists.proofs.PlaceLaws.{everywhere-passes-at-first, everywhere-in-rest}
+use Rattle.items.specs.Item.{isByte, isCheck, bytesOf, writtenBytes}
+use Rattle.items.proofs.ItemLaws.{byte-is-no-check, bytes-of-others-is-1}
+use Rattle.sectors.specs.Sector.{sectorSize, opening, identity, sectorItems, isMisfit}
+use Rattle.sectors.proofs.SectorLaws.{sector-length}
+
+written-bytes-of-append : (ms ns : List ℕ) → writtenBytes (ms ++ ns) ≡ writtenBytes ms + writtenBytes ns
+unfolding writtenBytes
+written-bytes-of-append [] ns = omega arith
+written-bytes-of-append (m ∷ ms) ns = rw (written-bytes-of-append ms ns) (omega arith)
+
+byte-counts-one : (n : ℕ) → isByte n ≡ true → bytesOf n ≡ 1
+byte-counts-one n e = bytes-of-others-is-1 n (byte-is-no-check n e)
+
+bytes-count-one-each : (ns : List ℕ) → everywhere isByte ns ≡ true → writtenBytes ns ≡ length ns
+unfolding writtenBytes
+bytes-count-one-each [] e = refl
+bytes-count-one-each (n ∷ ns) e =
+    ap₂ _+_ (byte-counts-one n (everywhere-passes-at-first isByte n ns e)) (bytes-count-one-each ns (everywhere-in-rest isByte n ns e))
+    ∙ omega arith
+
+module _ (track side sector code : ℕ) (bytes : List ℕ) where
+  -- every number that the caller gives is a byte
+  abbrev pub AllBytes : Type 0
+  AllBytes = everywhere isByte (track ∷ side ∷ sector ∷ code ∷ bytes) ≡ true
+
+  pub sector-written-bytes : AllBytes → writtenBytes (sectorItems track side sector code bytes) ≡ length bytes + 116
+  unfolding sectorItems opening identity writtenBytes bytesOf isCheck
+  sector-written-bytes e =
+      let after-track = everywhere-in-rest isByte track (side ∷ sector ∷ code ∷ bytes) e in
+      let after-side = everywhere-in-rest isByte side (sector ∷ code ∷ bytes) after-track in
+      let after-sector = everywhere-in-rest isByte sector (code ∷ bytes) after-side in
+      rw (
+        written-bytes-of-append (bytes ++ (512 ∷ [])) (replicate 54 0x4e),
+        written-bytes-of-append bytes (512 ∷ []),
+        byte-counts-one track (everywhere-passes-at-first isByte track (side ∷ sector ∷ code ∷ bytes) e),
+        byte-counts-one side (everywhere-passes-at-first isByte side (sector ∷ code ∷ bytes) after-track),
+        byte-counts-one sector (everywhere-passes-at-first isByte sector (code ∷ bytes) after-side),
+        byte-counts-one code (everywhere-passes-at-first isByte code bytes after-sector),
+        bytes-count-one-each bytes (everywhere-in-rest isByte code bytes after-sector),
+      )
+      (omega arith)
+
+fits-size : (above : Bool) (n m : ℕ) → (above || not (eqb n m)) ≡ false → n ≡ m
+fits-size true n m e = absurd (true≢false e)
+fits-size false n m e = eqb-true n m (not-false (eqb n m) e)
+
+module _ (track side sector code : ℕ) (bytes : List ℕ) (fits : isMisfit code bytes ≡ false) where
+  size-of-code : length bytes ≡ sectorSize code
+  unfolding isMisfit
+  size-of-code = fits-size (ltb 3 code) (length bytes) (sectorSize code) fits
+
+  -- the counts for every code
+  pub sector-counts
+      : AllBytes track side sector code bytes
+      → (length (sectorItems track side sector code bytes) ≡ sectorSize code + 114)
+      × (writtenBytes (sectorItems track side sector code bytes) ≡ sectorSize code + 116)
+  sector-counts e = (
+    sector-length track side sector code bytes ∙ ap (λ (n : ℕ). n + 114) size-of-code,
+    sector-written-bytes track side sector code bytes e ∙ ap (λ (n : ℕ). n + 116) size-of-code,
+  )
+
+-- with 256 bytes: 370 items, 372 written bytes
+pub sector-of-256-bytes
+    : (track side sector : ℕ) (bytes : List ℕ)
+    → isMisfit 1 bytes ≡ false
+    → AllBytes track side sector 1 bytes
+    → (length (sectorItems track side sector 1 bytes) ≡ 370)
+    × (writtenBytes (sectorItems track side sector 1 bytes) ≡ 372)
+unfolding sectorSize
+sector-of-256-bytes track side sector bytes fits e = sector-counts track side sector 1 bytes fits e

@@ -1,0 +1,55 @@
+-- Why `sectors::open_field` stores `opening`: two runs and one store, each where the one before it ends. Rests on no axiom.
+use Prim.Native.Nat.{ℕ, _+_}
+use mathlib.Core.Path.{_≡_, ap, _∙_}
+use mathlib.Core.List.{List, [], _∷_}
+use native.Mathlib.Omega.{arith}
+use lib.ListN.{length-set, replicate}
+use borrow.Author.Needs.{needs}
+use Rattle.sectors.proofs.SectorLaws.{opening-stored}
+use Rattle.sectors.proofs.open_field.Statement.{statement}
+use Rattle.sectors.proofs.open_field.Tie as tie
+
+repeat-requires : tie.Need-repeat-requires
+repeat-requires c κs = search needs
+
+repeat-requires-2 : tie.Need-repeat-requires-2
+repeat-requires-2 c κs = search needs
+
+mul-out : tie.Need-mul-out
+mul-out c = search needs
+
+slice-write-out : tie.Need-slice-write-out
+slice-write-out c = search needs
+
+add-result : tie.Need-add-result
+add-result c = search needs
+
+same-length : tie.Need-same-length
+same-length c = simp length-set (omega arith)
+
+returns : tie.Need-returns
+returns c =
+    let args = c .before .before .before .before .before .before .before .before .before .args in (
+      omega arith,
+      cc
+          (opening-stored
+          (args .out .now)
+          (args .at)
+          (c .before .before .before .before .before .before .repeat .result)
+          (c .before .before .repeat2 .result)
+          (args .kind)
+          (omega arith)
+          (omega arith)),
+    )
+
+pub open-field-spec : {M : Type 1} → statement M
+open-field-spec =
+    tie.close
+    (tie.spec
+    repeat-requires
+    repeat-requires-2
+    mul-out
+    slice-write-out
+    add-result
+    same-length
+    returns)

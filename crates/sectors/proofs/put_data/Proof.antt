@@ -1,0 +1,104 @@
+-- Why `sectors::put_data` stores the bytes and the check order: after k turns it has stored the first k bytes. Rests on no axiom.
+use Prim.Native.Nat.{ℕ, _+_, _-_, _≤_}
+use mathlib.Core.Path.{_≡_, refl, sym, ap, _∙_}
+use mathlib.Core.List.{List, [], _∷_, _++_}
+use native.Mathlib.Omega.{arith}
+use lib.ListN.{length, set, take, length-set}
+use lib.Seq.{take-length}
+use Rattle.lists.specs.Filled.{storedAt}
+use Rattle.lists.proofs.StoreLaws.{stored-none}
+use Rattle.sectors.proofs.StoreLaws.{stored-copies, stored-one-more}
+use Rattle.sectors.proofs.put_data.Statement.{statement}
+use Rattle.sectors.proofs.put_data.Tie as tie
+
+abbrev Inv-loop : tie.InvT-loop
+Inv-loop out₀ at bytes k₀ out k = (k ≤ length bytes) × (out ≡ storedAt out₀ at (take k bytes)) × (length out ≡ length out₀)
+
+abbrev μ-loop : tie.MeasureT-loop
+μ-loop out₀ at bytes k₀ out k = length bytes - k
+
+loop-holds : tie.Need-loop-holds Inv-loop μ-loop
+loop-holds c = (omega arith, sym (stored-none _ _), refl)
+
+shared-slice-read-out : tie.Need-shared-slice-read-out Inv-loop μ-loop
+shared-slice-read-out c = omega arith
+
+cast-out : tie.Need-cast-out Inv-loop μ-loop
+cast-out c = omega (arith, c .shared-slice-known .given (c .before .before .loop .k))
+
+add-out : tie.Need-add-out Inv-loop μ-loop
+add-out c = omega arith
+
+mul-out : tie.Need-mul-out Inv-loop μ-loop
+mul-out c = omega arith
+
+slice-write-out : tie.Need-slice-write-out Inv-loop μ-loop
+slice-write-out c = omega arith
+
+add-k : tie.Need-add-k Inv-loop μ-loop
+add-k c = omega arith
+
+loop-less : tie.Need-loop-less Inv-loop μ-loop
+loop-less c = omega arith
+
+loop-again : tie.Need-loop-again Inv-loop μ-loop
+loop-again c =
+    let args = c .before .before .before .args in (
+      omega arith,
+      cc (stored-copies (c .before .before .loop .k) (args .at) (args .bytes .now) (args .out .now) (omega arith)),
+      simp length-set (c .before .before .loop .inv .2),
+    )
+
+add-out-2 : tie.Need-add-out-2 Inv-loop μ-loop
+add-out-2 c = omega arith
+
+mul-out-2 : tie.Need-mul-out-2 Inv-loop μ-loop
+mul-out-2 c = omega arith
+
+slice-write-out-2 : tie.Need-slice-write-out-2 Inv-loop μ-loop
+slice-write-out-2 c = omega arith
+
+add-result : tie.Need-add-result Inv-loop μ-loop
+add-result c = omega arith
+
+add-result-2 : tie.Need-add-result-2 Inv-loop μ-loop
+add-result-2 c = omega arith
+
+same-length : tie.Need-same-length Inv-loop μ-loop
+same-length c = simp length-set (c .before .loop .inv .2)
+
+returns : tie.Need-returns Inv-loop μ-loop
+returns c =
+    let args = c .before .before .args in
+    let all : c .before .loop .k ≡ length (args .bytes .now) = omega arith in
+    let stored : c .before .loop .out ≡ storedAt (args .out .now) (args .at) (args .bytes .now) =
+    c .before .loop .inv .1
+    ∙ ap (λ (k : ℕ). storedAt (args .out .now) (args .at) (take k (args .bytes .now))) all
+    ∙ ap (λ (r : List ℕ). storedAt (args .out .now) (args .at) r) (take-length (args .bytes .now)) in (
+      ap (λ (k : ℕ). args .at + k + 1) all,
+      ap (λ (l : List ℕ). set l (args .at + c .before .loop .k) 512) stored
+          ∙ stored-one-more (args .bytes .now) (args .out .now) (args .at) _ 512 (ap (λ (k : ℕ). args .at + k) all),
+    )
+
+pub put-data-spec : {M : Type 1} → statement M
+put-data-spec =
+    tie.close
+    (tie.spec
+    Inv-loop
+    μ-loop
+    loop-holds
+    shared-slice-read-out
+    cast-out
+    add-out
+    mul-out
+    slice-write-out
+    add-k
+    loop-less
+    loop-again
+    add-out-2
+    mul-out-2
+    slice-write-out-2
+    add-result
+    add-result-2
+    same-length
+    returns)

@@ -1,0 +1,65 @@
+-- Why `sectors::put_sector` stores `sectorItems`: each part is stored where the one before it ends. Rests on no axiom.
+use Prim.Native.Nat.{ℕ, _+_}
+use mathlib.Core.Path.{_≡_, _∙_}
+use native.Mathlib.Omega.{arith}
+use Rattle.sectors.proofs.SectorLaws.{sector-stored}
+use borrow.Author.Needs.{needs}
+use Rattle.sectors.proofs.put_sector.Statement.{statement}
+use Rattle.sectors.proofs.put_sector.Tie as tie
+
+open-field-requires : tie.Need-open-field-requires
+open-field-requires c κs = search needs
+
+put-identity-requires : tie.Need-put-identity-requires
+put-identity-requires c κs = search needs
+
+repeat-requires : tie.Need-repeat-requires
+repeat-requires c κs = search needs
+
+open-field-requires-2 : tie.Need-open-field-requires-2
+open-field-requires-2 c κs = search needs
+
+put-data-requires : tie.Need-put-data-requires
+put-data-requires c κs = search needs
+
+repeat-requires-2 : tie.Need-repeat-requires-2
+repeat-requires-2 c κs = search needs
+
+same-length : tie.Need-same-length
+same-length c = search needs
+
+returns : tie.Need-returns
+returns c =
+    let at-data = c .before .before .before .before .before .before in
+    let at-second = at-data .before .before .before .before in
+    let at-gap = at-second .before .before .before .before in
+    let at-identity = at-gap .before .before .before .before in
+    let at-first = at-identity .before .before .before .before in
+    let args = at-first .before .before .before .before .args in
+    let id : at-first .open-field .result ≡ 16 = at-first .open-field .ensures .0 in
+    let gap : at-identity .put-identity .result ≡ 21 = at-identity .put-identity .ensures .0 ∙ rw id in
+    let second : at-gap .repeat .result ≡ 43 = at-gap .repeat .ensures .0 ∙ rw gap in
+    let first : at-second .open-field2 .result ≡ 59 = at-second .open-field2 .ensures .0 ∙ rw second in
+    cc
+    (sector-stored
+    (args .track)
+    (args .side)
+    (args .sector)
+    (args .code)
+    (args .bytes .now)
+    (args .out .now)
+    (at-data .put-data .result)
+    (at-data .put-data .ensures .0 ∙ omega arith))
+
+pub put-sector-spec : {M : Type 1} → statement M
+put-sector-spec =
+    tie.close
+    (tie.spec
+    open-field-requires
+    put-identity-requires
+    repeat-requires
+    open-field-requires-2
+    put-data-requires
+    repeat-requires-2
+    same-length
+    returns)

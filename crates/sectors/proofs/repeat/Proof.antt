@@ -1,0 +1,74 @@
+-- Why `sectors::repeat` stores the item `count` times: after k turns it has stored it k times. Rests on no axiom.
+use Prim.Native.Nat.{ℕ, _+_, _-_, _≤_}
+use mathlib.Core.Path.{_≡_, refl, sym}
+use native.Mathlib.Omega.{arith}
+use lib.ListN.{length, set, replicate, length-set}
+use Rattle.lists.specs.Filled.{storedAt}
+use Rattle.lists.proofs.StoreLaws.{stored-none}
+use Rattle.sectors.proofs.StoreLaws.{stored-repeats}
+use Rattle.sectors.proofs.repeat.Statement.{statement}
+use Rattle.sectors.proofs.repeat.Tie as tie
+
+abbrev Inv-loop : tie.InvT-loop
+Inv-loop out₀ at count item k₀ out k = (k ≤ count) × (out ≡ storedAt out₀ at (replicate k item)) × (length out ≡ length out₀)
+
+abbrev μ-loop : tie.MeasureT-loop
+μ-loop out₀ at count item k₀ out k = count - k
+
+loop-holds : tie.Need-loop-holds Inv-loop μ-loop
+loop-holds c = (omega arith, sym (stored-none _ _), refl)
+
+add-out : tie.Need-add-out Inv-loop μ-loop
+add-out c = omega arith
+
+mul-out : tie.Need-mul-out Inv-loop μ-loop
+mul-out c = omega arith
+
+slice-write-out : tie.Need-slice-write-out Inv-loop μ-loop
+slice-write-out c = omega arith
+
+add-k : tie.Need-add-k Inv-loop μ-loop
+add-k c = omega arith
+
+loop-less : tie.Need-loop-less Inv-loop μ-loop
+loop-less c = omega arith
+
+loop-again : tie.Need-loop-again Inv-loop μ-loop
+loop-again c = (
+  omega arith,
+  cc
+      (stored-repeats
+      (c .before .loop .k)
+      (c .before .before .args .item)
+      (c .before .before .args .at)
+      (c .before .before .args .out .now)),
+  simp length-set (c .before .loop .inv .2),
+)
+
+add-result : tie.Need-add-result Inv-loop μ-loop
+add-result c = omega arith
+
+same-length : tie.Need-same-length Inv-loop μ-loop
+same-length c = c .before .loop .inv .2
+
+returns : tie.Need-returns Inv-loop μ-loop
+returns c =
+    let all : c .before .loop .k ≡ c .before .before .args .count = omega arith in
+    (refl, rw (← all) (c .before .loop .inv .1))
+
+pub repeat-spec : {M : Type 1} → statement M
+repeat-spec =
+    tie.close
+    (tie.spec
+    Inv-loop
+    μ-loop
+    loop-holds
+    add-out
+    mul-out
+    slice-write-out
+    add-k
+    loop-less
+    loop-again
+    add-result
+    same-length
+    returns)

@@ -1,0 +1,171 @@
+-- The printed text: how long its lines can get, and its cells one at a time. Rests on no axiom.
+use Prim.Native.Nat.{ℕ, suc, _+_, _*_, _^_, _≤_, _<_}
+use mathlib.Core.Path.{_≡_, sym, _∙_, ap}
+use mathlib.Core.List.{List, [], _∷_, _++_}
+use native.Mathlib.Omega.{arith}
+use lib.ListN.{length, drop, getD, length-append}
+use lib.Seq.{drop-cons, length-take-le}
+use Rattle.lists.specs.Filled.{filled, storedAt}
+use Rattle.lists.proofs.StoreLaws.{stored-after-stored, stored-at-front-fills}
+use Rattle.refusal.specs.Answer.{Answer}
+use Rattle.text.specs.Ascii.{ascii}
+use Rattle.text.specs.Decimal.{decimal}
+use Rattle.text.specs.Line.{lineOf}
+use Rattle.text.proofs.PrintLaws.{decimal-within}
+use Rattle.text.proofs.LineLaws.{fields-length-of-none, fields-length-of-more, line-length}
+use Rattle.timing.specs.Class.{classOf, classNumber}
+use Rattle.timing.specs.declared.Class.{Class}
+use Rattle.timing.specs.declared.Class.the-variants.{Narrow, Two, Three, Four, Wide}
+use Rattle.timing.specs.declared.Profile.{Profile}
+use Rattle.strip.specs.Output.{refusalText, cellText, cellsText, reportText}
+use Rattle.strip.specs.Printed.{Front, Printed, outputLength}
+
+-- a text that was stored at the front of an output that has room for it
+pub printed-at-front : (text before after : List ℕ) (r : ℕ)
+    → r ≡ 0 + length text
+    → after ≡ storedAt before 0 text
+    → length text ≤ length before
+    → Printed text r before after
+printed-at-front text before after r size stored fits =
+    record { size = omega arith; output = stored ∙ stored-at-front-fills text before fits }
+
+-- what fills an output is no longer than it
+pub printed-is-front : (text before after : List ℕ) (r : ℕ) → Printed text r before after → Front r after
+unfolding filled
+printed-is-front text before after r p =
+    let fits : r ≤ length after =
+    omega (arith, p .size, ap length (p .output), length-append text (drop (length text) before)) in
+    (fits, sym (length-take-le r after fits))
+
+-- a line of one, two or three numbers
+line-of-one : (word : List ℕ) (a : ℕ) → length (lineOf word (a ∷ [])) ≡ length word + length (decimal a) + 2
+line-of-one word a =
+    line-length word (a ∷ []) ∙ omega (arith, fields-length-of-more a [], fields-length-of-none)
+
+line-of-two : (word : List ℕ) (a b : ℕ) → length (lineOf word (a ∷ b ∷ [])) ≡ length word + length (decimal a) + length (decimal b) + 3
+line-of-two word a b =
+    line-length word (a ∷ b ∷ [])
+    ∙ omega (arith, fields-length-of-more a (b ∷ []), fields-length-of-more b [], fields-length-of-none)
+
+line-of-three : (word : List ℕ) (a b c : ℕ)
+    → length (lineOf word (a ∷ b ∷ c ∷ [])) ≡ length word + length (decimal a) + length (decimal b) + length (decimal c) + 4
+line-of-three word a b c =
+    line-length word (a ∷ b ∷ c ∷ [])
+    ∙ omega (
+      arith,
+      fields-length-of-more a (b ∷ c ∷ []),
+      fields-length-of-more b (c ∷ []),
+      fields-length-of-more c [],
+      fields-length-of-none,
+    )
+
+-- the numbers of a refusal fit 32 bits
+pub refusal-fits : (answer : Answer)
+    → answer .number < 2 ^ 32
+    → answer .place < 2 ^ 32
+    → length (refusalText answer) ≤ outputLength
+unfolding refusalText
+refusal-fits answer h k =
+    omega (
+      arith,
+      line-of-two (ascii "refused") (answer .number) (answer .place),
+      decimal-within 9 (answer .number) (omega arith),
+      decimal-within 9 (answer .place) (omega arith),
+    )
+
+class-is-a-digit : (c : Class) → classNumber c < 10
+class-is-a-digit Narrow = omega arith
+class-is-a-digit Two = omega arith
+class-is-a-digit Three = omega arith
+class-is-a-digit Four = omega arith
+class-is-a-digit Wide = omega arith
+
+cell-length : (p : Profile) (place d : ℕ) → place < 10000 → d < 65536 → length (cellText p place d) ≤ 18
+unfolding cellText
+cell-length p place d h k =
+    omega (
+      arith,
+      line-of-three (ascii "cell") place (classNumber (classOf p d)) d,
+      decimal-within 3 place h,
+      decimal-within 0 (classNumber (classOf p d)) (class-is-a-digit (classOf p d)),
+      decimal-within 4 d (omega arith),
+    )
+
+-- 18 bytes for each cell
+pub cells-length : (p : Profile) (k : ℕ) (ds : List ℕ)
+    → k + length ds ≤ 10000
+    → ((i : ℕ) → getD ds i 0 < 65536)
+    → length (cellsText p k ds) ≤ 18 * length ds
+unfolding cellsText
+cells-length p k [] h fits = omega arith
+cells-length p k (d ∷ ds) h fits =
+    omega (
+      arith,
+      length-append (cellText p k d) (cellsText p (suc k) ds),
+      cell-length p k d (omega arith) (fits 0),
+      cells-length p (suc k) ds (omega arith) (λ i. fits (suc i)),
+    )
+
+-- one cell, and those after it
+module _ (p : Profile) (stream : List ℕ) (k : ℕ) (h : k < length stream) where
+  cells-next : cellsText p k (drop k stream) ≡ cellText p k (getD stream k 0) ++ cellsText p (suc k) (drop (suc k) stream)
+  unfolding cellsText
+  cells-next = rw (drop-cons stream k 0 h)
+
+  pub cells-length-next :
+      length (cellsText p k (drop k stream))
+      ≡ length (cellText p k (getD stream k 0)) + length (cellsText p (suc k) (drop (suc k) stream))
+  cells-length-next = ap length cells-next ∙ length-append (cellText p k (getD stream k 0)) (cellsText p (suc k) (drop (suc k) stream))
+
+  pub cells-stored-next : (out : List ℕ) (end next : ℕ)
+      → next ≡ end + length (cellText p k (getD stream k 0))
+      → storedAt (storedAt out end (cellText p k (getD stream k 0))) next (cellsText p (suc k) (drop (suc k) stream))
+      ≡ storedAt out end (cellsText p k (drop k stream))
+  cells-stored-next out end next e =
+      stored-after-stored (cellText p k (getD stream k 0)) (cellsText p (suc k) (drop (suc k) stream)) out end next e
+      ∙ ap (storedAt out end) (sym cells-next)
+
+-- the report is its three parts, and fits
+module _ (p : Profile) (margin : ℕ) (stream : List ℕ) where
+  pub report-fits : margin < 2 ^ 64
+      → length stream ≤ 4098
+      → ((i : ℕ) → getD stream i 0 < 65536)
+      → length (lineOf (ascii "margin") (margin ∷ []))
+      + length (cellsText p 0 stream)
+      + length (lineOf (ascii "end") (length stream ∷ []))
+      ≤ outputLength
+  report-fits h few fits =
+      omega (
+        arith,
+        line-of-one (ascii "margin") margin,
+        decimal-within 19 margin (omega arith),
+        cells-length p 0 stream (omega arith) fits,
+        line-of-one (ascii "end") (length stream),
+        decimal-within 3 (length stream) (omega arith),
+      )
+
+  pub report-length :
+      length (reportText p margin stream)
+      ≡ length (lineOf (ascii "margin") (margin ∷ []))
+      + length (cellsText p 0 stream)
+      + length (lineOf (ascii "end") (length stream ∷ []))
+  unfolding reportText
+  report-length =
+      length-append (lineOf (ascii "margin") (margin ∷ []) ++ cellsText p 0 stream) (lineOf (ascii "end") (length stream ∷ []))
+      ∙ ap (λ (n : ℕ). n + length (lineOf (ascii "end") (length stream ∷ [])))
+      (length-append (lineOf (ascii "margin") (margin ∷ [])) (cellsText p 0 stream))
+
+  pub report-stored : (out : List ℕ) (cells end : ℕ)
+      → cells ≡ 0 + length (lineOf (ascii "margin") (margin ∷ []))
+      → end ≡ cells + length (cellsText p 0 stream)
+      → storedAt
+      (storedAt (storedAt out 0 (lineOf (ascii "margin") (margin ∷ []))) cells (cellsText p 0 stream))
+      end
+      (lineOf (ascii "end") (length stream ∷ []))
+      ≡ storedAt out 0 (reportText p margin stream)
+  unfolding reportText
+  report-stored out cells end e k =
+      ap (λ (l : List ℕ). storedAt l end (lineOf (ascii "end") (length stream ∷ [])))
+      (stored-after-stored (lineOf (ascii "margin") (margin ∷ [])) (cellsText p 0 stream) out 0 cells e)
+      ∙ stored-after-stored (lineOf (ascii "margin") (margin ∷ []) ++ cellsText p 0 stream) (lineOf (ascii "end") (length stream ∷ [])) out 0 end
+      (omega (arith, length-append (lineOf (ascii "margin") (margin ∷ [])) (cellsText p 0 stream)))

@@ -1,0 +1,80 @@
+-- Why `strip::refuse` prints a refusal: its line has the number and the place of the table, and both fit 32 bits. Rests on no axiom.
+use Prim.Native.Nat.{_≤_}
+use mathlib.Core.Path.{_≡_, ap}
+use native.Mathlib.Omega.{arith}
+use mathlib.Core.List.{[], _∷_}
+use lib.ListN.{length}
+use Rattle.text.specs.Ascii.{ascii}
+use Rattle.text.specs.Line.{lineOf}
+use Rattle.refusal.specs.Answer.{refused}
+use Rattle.refusal.specs.Table.{numberOf, placeOf}
+use Rattle.strip.specs.Output.{refusalText}
+use Rattle.strip.specs.Printed.{outputLength}
+use Rattle.strip.proofs.OutputLaws.{printed-at-front, refusal-fits}
+use borrow.Author.Needs.{needs}
+use Rattle.strip.proofs.output.refuse.Statement.{statement}
+use Rattle.strip.proofs.output.refuse.Tie as tie
+
+fits : (c : tie.After-place)
+    → let refusal = c .before .before .before .args .refusal in
+    length (refusalText (refused (numberOf refusal) (placeOf refusal))) ≤ outputLength
+fits c =
+    refusal-fits _
+    (omega (arith, c .before .number .ensures, c .before .number .ok))
+    (omega (arith, c .place .ensures, c .place .ok))
+
+the-text : (c : tie.After-place)
+    → let refusal = c .before .before .before .args .refusal in
+    lineOf (ascii "refused") (c .before .number .result ∷ c .place .result ∷ []) ≡ refusalText (refused (numberOf refusal) (placeOf refusal))
+unfolding refusalText
+the-text c = rw (c .before .number .ensures, c .place .ensures)
+
+number-requires : tie.Need-number-requires
+number-requires c κs = search needs
+
+cast-t6 : tie.Need-cast-t6
+cast-t6 c = search needs
+
+place-requires : tie.Need-place-requires
+place-requires c κs = search needs
+
+cast-t8 : tie.Need-cast-t8
+cast-t8 c = search needs
+
+slice-aggregate-append-line : tie.Need-slice-aggregate-append-line
+slice-aggregate-append-line c = search needs
+
+slice-aggregate-append-line-2 : tie.Need-slice-aggregate-append-line-2
+slice-aggregate-append-line-2 c = search needs
+
+append-line-requires : tie.Need-append-line-requires
+append-line-requires c κs =
+    let placed = c .before .before .before in
+    omega (arith, ap length (the-text placed), fits placed, placed .before .before .before .pre)
+
+same-length : tie.Need-same-length
+same-length c = search needs
+
+returns : tie.Need-returns
+returns c =
+    let placed = c .before .before .before .before .before .before in
+    let line = c .before .before .append-line in
+    let start = placed .before .before .before in
+    printed-at-front _ (start .args .out .now) _ _
+    (rw (the-text placed) at (line .ensures .0))
+    (rw (the-text placed) at (line .ensures .1))
+    (omega (arith, fits placed, start .pre))
+
+pub refuse-spec : {M : Type 1} → statement M
+refuse-spec =
+    tie.close
+    (tie.spec
+    number-requires
+    cast-t6
+    place-requires
+    cast-t8
+    slice-aggregate-append-line
+    slice-aggregate-append-line-2
+    append-line-requires
+    same-length
+    returns)

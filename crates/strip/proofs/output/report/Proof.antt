@@ -1,0 +1,92 @@
+-- Why `strip::report` prints the report: its three parts go one after the other, and at most 4,098 cells leave room for them.
+-- Rests on no axiom.
+use Prim.Native.Nat.{_+_, _≤_}
+use mathlib.Core.List.{[], _∷_}
+use native.Mathlib.Omega.{arith}
+use lib.ListN.{length}
+use Rattle.text.specs.Ascii.{ascii}
+use Rattle.text.specs.Line.{lineOf}
+use Rattle.strip.specs.Output.{cellsText}
+use Rattle.strip.proofs.OutputLaws.{printed-at-front, report-fits, report-length, report-stored}
+use borrow.Author.Needs.{needs}
+use Rattle.strip.proofs.output.report.Statement.{statement}
+use Rattle.strip.proofs.output.report.Tie as tie
+
+-- the output has room for the three parts
+room : (c : tie.After-shared-slice-known)
+    → let args = c .before .args in
+    length (lineOf (ascii "margin") (args .margin ∷ []))
+    + length (cellsText (args .profile) 0 (args .stream .now))
+    + length (lineOf (ascii "end") (length (args .stream .now) ∷ []))
+    ≤ length (args .out .now)
+room c =
+    let args = c .before .args in
+    omega (
+      arith,
+      report-fits (args .profile) (args .margin) (args .stream .now) (omega arith) (c .before .pre .0) (λ i. omega (arith, c .shared-slice-known .given i)),
+      c .before .pre .1,
+    )
+
+slice-aggregate-append-line : tie.Need-slice-aggregate-append-line
+slice-aggregate-append-line c = search needs
+
+slice-aggregate-append-line-2 : tie.Need-slice-aggregate-append-line-2
+slice-aggregate-append-line-2 c = search needs
+
+append-line-requires : tie.Need-append-line-requires
+append-line-requires c κs = omega (arith, room (c .before .before .before .before))
+
+append-cells-requires : tie.Need-append-cells-requires
+append-cells-requires c κs =
+    let margin = c .before .before .before in
+    omega (arith, room (margin .before .before .before .before .before), margin .append-line .ensures .0, margin .append-line .kept .0)
+
+slice-aggregate-append-line-3 : tie.Need-slice-aggregate-append-line-3
+slice-aggregate-append-line-3 c = search needs
+
+slice-aggregate-append-line-4 : tie.Need-slice-aggregate-append-line-4
+slice-aggregate-append-line-4 c = search needs
+
+append-line-requires-2 : tie.Need-append-line-requires-2
+append-line-requires-2 c κs =
+    let cells = c .before .before .before .before .before in
+    let margin = cells .before .before .before .before in
+    omega (
+      arith,
+      room (margin .before .before .before .before .before),
+      margin .append-line .ensures .0,
+      margin .append-line .kept .0,
+      cells .append-cells .ensures .0,
+      cells .append-cells .kept .1 .1 .0,
+    )
+
+same-length : tie.Need-same-length
+same-length c = search needs
+
+returns : tie.Need-returns
+returns c =
+    let end = c .before .before .append-line2 in
+    let cells = c .before .before .before .before .before .before .before .before in
+    let margin = cells .before .before .before .before in
+    let known = margin .before .before .before .before .before in
+    let args = known .before .args in
+    let size = report-length (args .profile) (args .margin) (args .stream .now) in
+    printed-at-front _ (args .out .now) _ _
+    (omega (arith, end .ensures .0, cells .append-cells .ensures .0, margin .append-line .ensures .0))
+    (rw (end .ensures .1, cells .append-cells .ensures .1, margin .append-line .ensures .1)
+    (report-stored (args .profile) (args .margin) (args .stream .now) (args .out .now) _ _ (margin .append-line .ensures .0) (cells .append-cells .ensures .0)))
+    (omega (arith, room known))
+
+pub report-spec : {M : Type 1} → statement M
+report-spec =
+    tie.close
+    (tie.spec
+    slice-aggregate-append-line
+    slice-aggregate-append-line-2
+    append-line-requires
+    append-cells-requires
+    slice-aggregate-append-line-3
+    slice-aggregate-append-line-4
+    append-line-requires-2
+    same-length
+    returns)

@@ -1,0 +1,120 @@
+-- Why `strip::print_list` prints the script's text: the writer answers as the program does, and its output begins with the stream.
+-- Rests on no axiom.
+use mathlib.Core.Path.{_≡_, refl, sym, _∙_, ap}
+use Prim.Native.Nat.{_≤_}
+use native.Mathlib.Omega.{arith}
+use lib.ListN.{length, take, length-replicate}
+use lib.Seq.{length-take-le}
+use Rattle.refusal.specs.Answer.{Answer, accepted, countedAnswer}
+use Rattle.lengths.specs.Margin.{marginOf}
+use Rattle.lengths.specs.Stream.{streamOf}
+use Rattle.strip.specs.Output.{reportText}
+use Rattle.strip.specs.Program.{scriptRule}
+use Rattle.strip.specs.Printed.{Printed}
+use Rattle.strip.proofs.ProgramLaws.{writer-answers, refused-script-text, accepted-script-text, script-count, stream-written, few-cells}
+use borrow.Author.Needs.{needs}
+use Rattle.strip.proofs.print_list.Statement.{statement}
+use Rattle.strip.proofs.print_list.Tie as tie
+use Rattle.strip.proofs.print_list.Reads as reads
+use Rattle.strip.proofs.print_list.Lts as lts
+
+answer : (c : tie.After-write)
+    → let args = c .before .before .before .before .args in
+    countedAnswer (c .write .result) ≡ scriptRule (args .profile) (args .items .now)
+answer c =
+    let start = c .before .before .before .before in
+    c .write .ensures .0 ∙ writer-answers (start .args .profile) (start .args .items .now) (start .pre .1 .0)
+
+-- where the writer accepts
+count : (c : tie.After-cells)
+    → let args = c .before .before .before .before .before .before .before .args in
+    accepted (c .cells .given .0 .0) ≡ scriptRule (args .profile) (args .items .now)
+count c = sym (ap countedAnswer (c .cells .given .1)) ∙ answer (c .before .before .before)
+
+few : (c : tie.After-cells) → c .cells .given .0 .0 ≤ 4098
+few c =
+    let start = c .before .before .before .before .before .before .before in
+    few-cells (start .args .profile) (start .args .items .now) (start .pre .1 .0) _ (count c)
+
+the-stream : (c : tie.After-cells)
+    → let args = c .before .before .before .before .before .before .before .args in
+    take (c .cells .given .0 .0) (c .before .before .before .write .last .1 .1 .0) ≡ streamOf (args .profile) (args .items .now)
+the-stream c =
+    let start = c .before .before .before .before .before .before .before in
+    ap (take (c .cells .given .0 .0)) (c .before .before .before .write .ensures .1)
+    ∙ stream-written (start .args .profile) (start .args .items .now) (start .pre .1 .0) _ (count c) _ refl
+
+slice-aggregate-write : tie.Need-slice-aggregate-write
+slice-aggregate-write c = search needs
+
+write-requires : tie.Need-write-requires
+write-requires c κs = search needs
+
+enum-known-refusal : tie.Need-enum-known-refusal
+enum-known-refusal c = search needs
+
+refuse-requires : tie.Need-refuse-requires
+refuse-requires c κs = search needs
+
+enum-known-cells : tie.Need-enum-known-cells
+enum-known-cells c = search needs
+
+array-share-prefix-stream : tie.Need-array-share-prefix-stream
+array-share-prefix-stream c = omega (arith, few (c .before), c .before .before .before .before .write .kept .1 .1 .0)
+
+slice-aggregate-report : tie.Need-slice-aggregate-report
+slice-aggregate-report c =
+    let given = c .before .before in
+    sym
+    (length-take-le (given .cells .given .0 .0) _ (omega (arith, few given, given .before .before .before .write .kept .1 .1 .0)))
+
+report-requires : tie.Need-report-requires
+report-requires c κs =
+    let given = c .before .before .before in
+    let start = given .before .before .before .before .before .before .before in
+    let written = given .before .before .before .write in
+    let within : given .cells .given .0 .0 ≤ length (written .last .1 .1 .0) = omega (arith, few given, written .kept .1 .1 .0) in
+    (omega (arith, few given, length-take-le (given .cells .given .0 .0) (written .last .1 .1 .0) within), start .pre .1 .1)
+
+same-length : tie.Need-same-length
+same-length c = search needs
+
+returns : tie.Need-returns
+returns c =
+    let refusal = c .before .before .before .before .before in
+    let written = refusal .before .before .before in
+    let start = written .before .before .before .before in
+    let rule = sym (ap countedAnswer (refusal .refusal .given .1)) ∙ answer written in
+    rw (refused-script-text (start .args .profile) (start .args .items .now) (refusal .refusal .given .0 .0) rule) (c .before .before .refuse .ensures)
+
+same-length-2 : tie.Need-same-length-2
+same-length-2 c = search needs
+
+returns-2 : tie.Need-returns-2
+returns-2 c =
+    let given = c .before .before .before .before .before .before in
+    let start = given .before .before .before .before .before .before .before in
+    let report = c .before .before .report .ensures in
+    rw (
+      accepted-script-text (start .args .profile) (start .args .items .now) (sym (ap (λ (a : Answer). a .number) (count given))),
+      ← the-stream given,
+      ← start .pre .0 .1,
+    )
+    report
+
+pub print-list-spec : {M : Type 1} → statement M
+print-list-spec =
+    tie.close
+    (tie.spec
+    slice-aggregate-write
+    write-requires
+    enum-known-refusal
+    refuse-requires
+    enum-known-cells
+    array-share-prefix-stream
+    slice-aggregate-report
+    report-requires
+    same-length
+    returns
+    same-length-2
+    returns-2)

@@ -1,0 +1,97 @@
+-- Why `strip::run` prints the program's text: what the input is garbled with comes first, and a list longer than its first 513 items is refused
+-- for them alone. Rests on no axiom.
+use Prim.Native.Nat.{ℕ}
+use mathlib.Core.Path.{_≡_, sym, _∙_, ap, subst}
+use mathlib.Core.List.{List}
+use native.Mathlib.Omega.{arith}
+use lib.ListN.{length, take}
+use lib.Seq.{length-take-le}
+use Rattle.timing.specs.declared.Profile.{Profile}
+use Rattle.script.specs.Input.{itemsIn, profileIn}
+use Rattle.script.specs.Read.{Holds, within, scriptAnswer}
+use Rattle.strip.specs.Program.{scriptText}
+use Rattle.strip.specs.Printed.{Printed}
+use Rattle.strip.proofs.OutputLaws.{printed-is-front}
+use Rattle.strip.proofs.ProgramLaws.{first-items-decide, garbled-input-text, read-input-text}
+use borrow.Author.Needs.{needs}
+use Rattle.strip.proofs.run.Statement.{statement}
+use Rattle.strip.proofs.run.Tie as tie
+use Rattle.strip.proofs.run.Reads as reads
+use Rattle.strip.proofs.run.Lts as lts
+
+-- where the input is read, the first items stand in the buffer
+held : (c : tie.After-profile)
+    → Holds (c .before .before .before .read .last .1 .0) (c .profile .given .0 .1 .0) (take 513 (itemsIn (c .before .before .before .before .before .before .args .input .now)))
+held c = c .before .before .before .read .ensures .held _ _ (c .profile .given .1)
+
+slice-aggregate-read : tie.Need-slice-aggregate-read
+slice-aggregate-read c = search needs
+
+read-requires : tie.Need-read-requires
+read-requires c κs = search needs
+
+enum-known-refusal : tie.Need-enum-known-refusal
+enum-known-refusal c = search needs
+
+refuse-requires : tie.Need-refuse-requires
+refuse-requires c κs = search needs
+
+enum-known-profile : tie.Need-enum-known-profile
+enum-known-profile c = search needs
+
+array-share-prefix-items : tie.Need-array-share-prefix-items
+array-share-prefix-items c = held (c .before) .fits
+
+slice-aggregate-print-script : tie.Need-slice-aggregate-print-script
+slice-aggregate-print-script c =
+    let given = c .before .before in
+    sym (length-take-le (given .profile .given .0 .1 .0) (given .before .before .before .read .last .1 .0) (held given .fits))
+
+print-script-requires : tie.Need-print-script-requires
+print-script-requires c κs = search needs
+
+returns : tie.Need-returns
+returns c =
+    let refusal = c .before .before .before in
+    let read = refusal .before .before .before in
+    let text = read .before .before .before .args .input .now in
+    let rule = sym (ap scriptAnswer (refusal .refusal .given .1)) ∙ read .read .ensures .answer in
+    let start = read .before .before .before in
+    let same = sym (garbled-input-text text (refusal .refusal .given .0 .0) _ rule) in (
+      subst (λ (t : List ℕ). Printed t (c .refuse .result) (start .args .out .now) (c .refuse .last .1 .0)) same (c .refuse .ensures),
+      printed-is-front _ _ _ _ (c .refuse .ensures),
+    )
+
+returns-2 : tie.Need-returns-2
+returns-2 c =
+    let given = c .before .before .before .before in
+    let read = given .before .before .before in
+    let text = read .before .before .before .args .input .now in
+    let p = given .profile .given .0 .0 in
+    let rule = sym (ap scriptAnswer (given .profile .given .1)) ∙ read .read .ensures .answer in
+    let own = read .read .ensures .profile _ _ (given .profile .given .1) in
+    let same =
+    ap (scriptText p) (held given .front)
+    ∙ ap (λ (q : Profile). scriptText q (take 513 (itemsIn text))) own
+    ∙ first-items-decide (profileIn text) (itemsIn text)
+    ∙ sym (read-input-text text _ _ rule) in
+    let start = read .before .before .before in
+    let after = c .print-script .last .1 .1 .0 in (
+      subst (λ (t : List ℕ). Printed t (c .print-script .result) (start .args .out .now) after) same (c .print-script .ensures),
+      printed-is-front _ _ _ _ (c .print-script .ensures),
+    )
+
+pub run-spec : {M : Type 1} → statement M
+run-spec =
+    tie.close
+    (tie.spec
+    slice-aggregate-read
+    read-requires
+    enum-known-refusal
+    refuse-requires
+    enum-known-profile
+    array-share-prefix-items
+    slice-aggregate-print-script
+    print-script-requires
+    returns
+    returns-2)

@@ -1,0 +1,112 @@
+-- The letters of a list of bytes fall into rows of eight, each the row of its byte; and letters that fall into rows
+-- without a gap out of place are the letters of the bytes that they read as.
+use Prim.Native.Nat.{ℕ, _*_, _%_}
+use mathlib.Core.Path.{_≡_, refl, ap, sym, _∙_}
+use mathlib.Core.Bool.{Bool, true, false, cond}
+use mathlib.Core.List.{List, [], _∷_, _++_, map, append-assoc}
+use native.Mathlib.Omega.{arith}
+use lib.Dec.{T}
+use lib.ListN.{length, length-append}
+use Rattle.lists.specs.Place.{anywhere, passed}
+use Rattle.items.specs.Item.{isMark, isByte}
+use Rattle.symbols.specs.Bits.{Bit, O, byteBits, markBits, withGaps, writtenBits, allBits, areBytes}
+use Rattle.symbols.specs.Bytes.{itemOf, rowStrays, rowsOf, straysOf}
+use Rattle.symbols.proofs.TestLaws.{both, left-of, neither, right-of}
+use Rattle.symbols.proofs.PlaceLaws.{anywhere-append}
+use Rattle.symbols.proofs.RowLaws.{item-of-written-byte, written-byte-has-no-stray}
+use Rattle.symbols.proofs.RowLaws.{row-is-a-byte, written-of-row}
+
+-- From bytes to rows
+
+-- the letters of a written byte are a row of eight
+written-row : (w : ℕ) (bs : List Bit) → rowsOf (writtenBits w ++ bs) ≡ writtenBits w ∷ rowsOf bs
+unfolding rowsOf writtenBits markBits withGaps byteBits
+written-row w bs = by (isMark w)
+  where
+    by :
+        (t : Bool)
+        → rowsOf (cond t (markBits (w % 256)) (byteBits w) ++ bs) ≡ cond t (markBits (w % 256)) (byteBits w) ∷ rowsOf bs
+    by true = refl
+    by false = refl
+
+pub written-row-is-eight : (w : ℕ) → length (writtenBits w) ≡ 8
+unfolding writtenBits markBits withGaps byteBits
+written-row-is-eight w = by (isMark w)
+  where
+    by : (t : Bool) → length (cond t (markBits (w % 256)) (byteBits w)) ≡ 8
+    by true = refl
+    by false = refl
+
+pub length-of-bits : (ws : List ℕ) → length (allBits ws) ≡ 8 * length ws
+unfolding allBits
+length-of-bits [] = refl
+length-of-bits (w ∷ ws) =
+    omega (arith, length-append (writtenBits w) (allBits ws), written-row-is-eight w, length-of-bits ws)
+
+-- the rows of bytes, with the closing 0 left over
+pub rows-of-bytes : (ws : List ℕ) → rowsOf (allBits ws ++ (O ∷ [])) ≡ map writtenBits ws
+unfolding allBits rowsOf
+rows-of-bytes [] = refl
+rows-of-bytes (w ∷ ws) = rw (append-assoc (writtenBits w), written-row w, rows-of-bytes ws)
+
+pub items-of-rows : (ws : List ℕ) → T (areBytes ws) → map itemOf (map writtenBits ws) ≡ ws
+unfolding areBytes
+items-of-rows [] t = refl
+items-of-rows (w ∷ ws) t =
+    rw (
+      item-of-written-byte w (left-of (isByte w) (areBytes ws) t),
+      items-of-rows ws (right-of (isByte w) (areBytes ws) t),
+    )
+
+pub rows-have-no-stray : (ws : List ℕ) → T (areBytes ws) → anywhere passed (straysOf (map writtenBits ws)) ≡ false
+unfolding areBytes straysOf anywhere
+rows-have-no-stray [] t = refl
+rows-have-no-stray (w ∷ ws) t =
+    rw (
+      anywhere-append passed (rowStrays (writtenBits w)),
+      written-byte-has-no-stray w (left-of (isByte w) (areBytes ws) t),
+      rows-have-no-stray ws (right-of (isByte w) (areBytes ws) t),
+    )
+
+-- From rows to bytes
+
+-- what letters are that have one letter more than whole rows, and no gap out of place
+pub record Whole (bs : List Bit) : Type 0 where
+  pub last : Bit
+  pub letters : bs ≡ allBits (map itemOf (rowsOf bs)) ++ (last ∷ [])
+  pub bytes : T (areBytes (map itemOf (rowsOf bs)))
+
+-- a row without a gap out of place in front of such letters
+whole-row :
+    (a b c d e f g h : Bit) (bs : List Bit) → anywhere passed (rowStrays (a ∷ b ∷ c ∷ d ∷ e ∷ f ∷ g ∷ h ∷ [])) ≡ false
+    → Whole bs
+    → Whole (a ∷ b ∷ c ∷ d ∷ e ∷ f ∷ g ∷ h ∷ bs)
+unfolding rowsOf allBits areBytes
+whole-row a b c d e f g h bs fair w =
+    record {
+      last = w .last;
+      letters =
+          rw (written-of-row a b c d e f g h fair)
+          (ap (λ (x : List Bit). a ∷ b ∷ c ∷ d ∷ e ∷ f ∷ g ∷ h ∷ x) (w .letters));
+      bytes =
+          both (isByte (itemOf (a ∷ b ∷ c ∷ d ∷ e ∷ f ∷ g ∷ h ∷ []))) (areBytes (map itemOf (rowsOf bs)))
+          (row-is-a-byte a b c d e f g h fair) (w .bytes);
+    }
+
+pub whole : (bs : List Bit) → length bs % 8 ≡ 1 → anywhere passed (straysOf (rowsOf bs)) ≡ false → Whole bs
+unfolding rowsOf straysOf allBits areBytes
+whole [] n fair = absurd (omega arith)
+whole (a ∷ []) n fair = record { last = a; letters = refl; bytes = tt }
+whole (a ∷ b ∷ []) n fair = absurd (omega arith)
+whole (a ∷ b ∷ c ∷ []) n fair = absurd (omega arith)
+whole (a ∷ b ∷ c ∷ d ∷ []) n fair = absurd (omega arith)
+whole (a ∷ b ∷ c ∷ d ∷ e ∷ []) n fair = absurd (omega arith)
+whole (a ∷ b ∷ c ∷ d ∷ e ∷ f ∷ []) n fair = absurd (omega arith)
+whole (a ∷ b ∷ c ∷ d ∷ e ∷ f ∷ g ∷ []) n fair = absurd (omega arith)
+whole (a ∷ b ∷ c ∷ d ∷ e ∷ f ∷ g ∷ h ∷ bs) n fair =
+    let row = a ∷ b ∷ c ∷ d ∷ e ∷ f ∷ g ∷ h ∷ [] in
+    let parts =
+    neither (anywhere passed (rowStrays row)) (anywhere passed (straysOf (rowsOf bs)))
+    (sym (anywhere-append passed (rowStrays row) (straysOf (rowsOf bs))) ∙ fair)
+    in
+    whole-row a b c d e f g h bs (parts .0) (whole bs (omega arith) (parts .1))

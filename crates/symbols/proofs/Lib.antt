@@ -1,0 +1,30 @@
+-- Laws of tests, which the others share
+pub mod TestLaws
+-- A byte and its row of letters
+pub mod RowLaws
+-- Letters and cells
+pub mod ReadingLaws
+pub mod TokenLaws
+-- Bytes and letters
+pub mod BytesLaws
+-- The laws of the crate: reading what was written, and writing what was read
+pub mod RoundTripLaws
+-- The definitions tried on settled cases
+pub mod Cases
+-- Units, cells and bits
+pub mod UnitLaws
+-- Reading from the middle, and reading a front
+pub mod MiddleLaws
+-- The reading machine, bottom to top: the register, places, the open row, closing it, the invariant, pushing letters,
+-- a cell's letters, one cell more, and what a caller learns
+pub mod RegisterLaws
+pub mod PlaceLaws
+pub mod GapLaws
+pub mod MachineLaws
+pub mod ClosingLaws
+pub mod ReadsLaws
+pub mod PushLaws
+pub mod CellLaws
+pub mod StepLaws
+pub mod AnswerLaws
+pub mod RunLaws

@@ -1,0 +1,154 @@
+-- Reading from the middle: after two 0 bits a transition stands before the second, so the cells of what follows are
+-- the same as if that 0 were the lead of a list of their own.
+use Prim.Native.Nat.{ℕ, zero, suc, _/_, _%_, _<_}
+use mathlib.Core.Path.{_≡_, refl, ap, sym, _∙_}
+use mathlib.Core.Bool.{Bool, true, false}
+use mathlib.Core.List.{List, [], _∷_, _++_, map, append-assoc, append-nil, map-append}
+use native.Mathlib.Omega.{arith}
+use borrow.Author.Tests.{ne-eqb}
+use lib.ListN.{length, drop}
+use Rattle.lists.specs.Place.{anywhere, passed}
+use lib.Seq.{append-snoc, drop-append-seam}
+use Rattle.items.specs.Item.{isMark}
+use Rattle.symbols.specs.Bits.{Bit, O, bitOf, lastOf, byteBits, writtenBits, allBits, bitsOf}
+use Rattle.symbols.specs.Cells.{pairSymbols, symbolsFrom, symbolsOf, cellsFrom}
+use Rattle.symbols.specs.Cells.{cellsOf, writtenSymbols, writtenCells}
+use Rattle.symbols.specs.Reading.{units, readFrom, readBits}
+use Rattle.symbols.specs.Bytes.{isGap, itemOf, rowsOf, straysOf, itemsRead, straysRead}
+use Rattle.symbols.specs.Strip.{isStray}
+use Rattle.symbols.specs.declared.Cell.{Cell}
+use Rattle.symbols.proofs.TestLaws.{neither}
+use Rattle.symbols.proofs.ReadingLaws.{read-append}
+use Rattle.symbols.proofs.PlaceLaws.{anywhere-append}
+use Rattle.symbols.proofs.PlaceLaws.{strays-append}
+use Rattle.symbols.proofs.RoundTripLaws.{read-of-write}
+
+pub bits-append : (us ws : List ℕ) → allBits (us ++ ws) ≡ allBits us ++ allBits ws
+unfolding allBits
+bits-append [] ws = refl
+bits-append (u ∷ us) ws = rw (bits-append us ws, append-assoc)
+
+symbols-append :
+    (b z : Bit) (xs ys : List Bit)
+    → symbolsFrom b (xs ++ (z ∷ ys)) ≡ symbolsFrom b (xs ++ (z ∷ [])) ++ symbolsFrom z ys
+unfolding symbolsFrom
+symbols-append b z [] ys = rw append-assoc
+symbols-append b z (x ∷ xs) ys = rw (symbols-append x z xs ys, append-assoc)
+
+cells-append :
+    (u : ℕ) (ss ts : List Bool) → cellsFrom u (ss ++ (true ∷ ts)) ≡ cellsFrom u (ss ++ (true ∷ [])) ++ cellsFrom 2 ts
+unfolding cellsFrom
+cells-append u [] ts = refl
+cells-append u (true ∷ ss) ts = ap (λ (x : List ℕ). u ∷ x) (cells-append 2 ss ts)
+cells-append u (false ∷ ss) ts = cells-append (suc u) ss ts
+
+-- a transition stands between two 0s
+cells-at-zeros :
+    (b : Bit) (bs ys : List Bit)
+    → cellsFrom 2 (symbolsFrom b (bs ++ (O ∷ O ∷ ys)))
+    ≡ cellsFrom 2 (symbolsFrom b (bs ++ (O ∷ O ∷ []))) ++ cellsFrom 2 (symbolsFrom O ys)
+unfolding symbolsFrom pairSymbols
+cells-at-zeros b bs ys =
+    rw (symbols-append b O bs (O ∷ ys), symbols-append b O bs (O ∷ []))
+    (cells-append 2 (symbolsFrom b (bs ++ (O ∷ []))) (symbolsFrom O ys))
+
+-- the cells up to the transition before the last bit of us, where that is a 0 that follows a 0
+unfoldable pub cellsBefore : List ℕ → List ℕ
+cellsBefore us = cellsOf (symbolsOf (O ∷ allBits us))
+
+pub cells-after-zeros :
+    (us ws : List ℕ) (bs : List Bit) → allBits us ≡ bs ++ (O ∷ O ∷ [])
+    → writtenCells (us ++ ws) ≡ cellsBefore us ++ writtenCells ws
+unfolding writtenCells writtenSymbols bitsOf cellsBefore cellsOf symbolsOf
+cells-after-zeros us ws bs h =
+    rw (bits-append us ws, h, append-assoc bs, append-assoc bs) (cells-at-zeros O bs (allBits ws ++ (O ∷ O ∷ [])))
+
+-- a data byte that is a multiple of 4 ends in two 0s
+data-bits-end-in-zeros : (w : ℕ) → w < 256 → w % 4 ≡ 0 → (bs : List Bit) × (writtenBits w ≡ bs ++ (O ∷ O ∷ []))
+unfolding writtenBits isMark byteBits
+data-bits-end-in-zeros w h e =
+    let no-a1 = ne-eqb w 0x1a1 (λ q. omega arith) in
+    let no-c2 = ne-eqb w 0x1c2 (λ q. omega arith) in
+    let zero-2 = ne-eqb (w / 2 % 2) 1 (λ q. omega arith) in
+    let zero-1 = ne-eqb (w / 1 % 2) 1 (λ q. omega arith) in
+    (bitOf w 128 ∷ bitOf w 64 ∷ bitOf w 32 ∷ bitOf w 16 ∷ bitOf w 8 ∷ bitOf w 4 ∷ [], rw (no-a1, no-c2, zero-2, zero-1))
+
+-- the cells after such a byte are those of a list of their own
+pub cells-after-byte :
+    (us ws : List ℕ) (w : ℕ) → w < 256 → w % 4 ≡ 0
+    → writtenCells (us ++ (w ∷ ws)) ≡ cellsBefore (us ++ (w ∷ [])) ++ writtenCells ws
+unfolding allBits
+cells-after-byte us ws w h e =
+    let z = data-bits-end-in-zeros w h e in
+    let ends =
+    bits-append us (w ∷ []) ∙ ap (λ (x : List Bit). allBits us ++ x) (append-nil (writtenBits w) ∙ z .1)
+    ∙ sym (append-assoc (allBits us) (z .0) (O ∷ O ∷ []))
+    in
+    rw (← append-snoc us w ws) (cells-after-zeros (us ++ (w ∷ [])) ws (allBits us ++ z .0) ends)
+
+map-drop : (n : ℕ) (cs : List Cell) → map units (drop n cs) ≡ drop n (map units cs)
+map-drop zero cs = refl
+map-drop (suc n) [] = refl
+map-drop (suc n) (c ∷ cs) = map-drop n cs
+
+-- so they are read as that list
+pub read-from-the-middle :
+    (front ws : List ℕ) (cs : List Cell) → map units cs ≡ front ++ writtenCells ws
+    → readBits (drop (length front) cs) ≡ O ∷ allBits ws ++ (O ∷ [])
+read-from-the-middle front ws cs h =
+    read-of-write ws (drop (length front) cs)
+    (map-drop (length front) cs ∙ ap (drop (length front)) h ∙ drop-append-seam front (writtenCells ws))
+
+-- a byte 00 is eight cells of 2 units
+pub cells-of-zero-byte : (ws : List ℕ) → writtenCells (0 ∷ ws) ≡ 2 ∷ 2 ∷ 2 ∷ 2 ∷ 2 ∷ 2 ∷ 2 ∷ 2 ∷ writtenCells ws
+unfolding cellsBefore cellsOf cellsFrom symbolsOf symbolsFrom pairSymbols allBits writtenBits isMark byteBits
+cells-of-zero-byte ws = cells-after-byte [] ws 0 (omega arith) refl
+
+-- Reading a front: the bits of the first cells are the first bits, so their whole bytes are the first items, and no
+-- gap is judged otherwise
+
+rows-of-front : (xs ys : List Bit) → (more : List (List Bit)) × (rowsOf (xs ++ ys) ≡ rowsOf xs ++ more)
+unfolding rowsOf
+rows-of-front [] ys = (rowsOf ys, refl)
+rows-of-front (a ∷ []) ys = (rowsOf (a ∷ ys), refl)
+rows-of-front (a ∷ b ∷ []) ys = (rowsOf (a ∷ b ∷ ys), refl)
+rows-of-front (a ∷ b ∷ c ∷ []) ys = (rowsOf (a ∷ b ∷ c ∷ ys), refl)
+rows-of-front (a ∷ b ∷ c ∷ d ∷ []) ys = (rowsOf (a ∷ b ∷ c ∷ d ∷ ys), refl)
+rows-of-front (a ∷ b ∷ c ∷ d ∷ e ∷ []) ys = (rowsOf (a ∷ b ∷ c ∷ d ∷ e ∷ ys), refl)
+rows-of-front (a ∷ b ∷ c ∷ d ∷ e ∷ f ∷ []) ys = (rowsOf (a ∷ b ∷ c ∷ d ∷ e ∷ f ∷ ys), refl)
+rows-of-front (a ∷ b ∷ c ∷ d ∷ e ∷ f ∷ g ∷ []) ys = (rowsOf (a ∷ b ∷ c ∷ d ∷ e ∷ f ∷ g ∷ ys), refl)
+rows-of-front (a ∷ b ∷ c ∷ d ∷ e ∷ f ∷ g ∷ h ∷ xs) ys =
+    let r = rows-of-front xs ys in
+    (r .0, ap (λ (x : List (List Bit)). (a ∷ b ∷ c ∷ d ∷ e ∷ f ∷ g ∷ h ∷ []) ∷ x) (r .1))
+
+items-of-front-bits : (xs ys : List Bit) → (more : List ℕ) × (itemsRead (xs ++ ys) ≡ itemsRead xs ++ more)
+unfolding itemsRead
+items-of-front-bits [] ys = (itemsRead ys, refl)
+items-of-front-bits (lead ∷ xs) ys =
+    let r = rows-of-front xs ys in
+    (map itemOf (r .0), ap (map itemOf) (r .1) ∙ map-append itemOf (rowsOf xs) (r .0))
+
+strays-of-front-bits : (xs ys : List Bit) → isStray (xs ++ ys) ≡ false → isStray xs ≡ false
+unfolding isStray straysRead anywhere
+strays-of-front-bits [] ys h = refl
+strays-of-front-bits (lead ∷ xs) ys h =
+    let r = rows-of-front xs ys in
+    let tests =
+    ap (λ (x : List (List Bit)). anywhere passed (straysOf x)) (r .1)
+    ∙ ap (anywhere passed) (strays-append (rowsOf xs) (r .0))
+    ∙ anywhere-append passed (straysOf (rowsOf xs)) (straysOf (r .0))
+    in
+    let n = neither (isGap lead) (anywhere passed (straysOf (rowsOf (xs ++ ys)))) h in
+    let m = neither (anywhere passed (straysOf (rowsOf xs))) (anywhere passed (straysOf (r .0))) (sym tests ∙ n .1) in
+    rw (n .0, m .0)
+
+pub items-of-front :
+    (cs ds : List Cell) → (more : List ℕ) × (itemsRead (readBits (cs ++ ds)) ≡ itemsRead (readBits cs) ++ more)
+unfolding readBits
+items-of-front cs ds =
+    rw (read-append O cs ds) (items-of-front-bits (readFrom O cs) (readFrom (lastOf O (readFrom O cs)) ds))
+
+pub strays-of-front : (cs ds : List Cell) → isStray (readBits (cs ++ ds)) ≡ false → isStray (readBits cs) ≡ false
+unfolding readBits
+strays-of-front cs ds h =
+    strays-of-front-bits (readFrom O cs) (readFrom (lastOf O (readFrom O cs)) ds) (rw (read-append O cs ds) at h)

@@ -1,0 +1,175 @@
+-- Writing and reading are inverse: reading the cells of a list of bytes gives that list, and what reading accepts has
+-- exactly those cells and is such a list. So two different lists never have the same cells. Nothing here looks into a
+-- cell or a byte: it follows from the laws of reading (letters and cells) and of bytes (letters and rows).
+use Prim.Native.Nat.{ℕ, _+_, _*_, _%_, _≤_}
+use mathlib.Core.Path.{_≡_, refl, ap, sym, _∙_}
+use mathlib.Core.Bool.{Bool, true, false, not, true≢false}
+use mathlib.Core.List.{List, [], _∷_, _++_, map, append-assoc}
+use native.Mathlib.Omega.{arith}
+use borrow.Author.Tests.{le-ltb, eq-eqb, eqb-true, ltb-false, not-false}
+use lib.Dec.{T, eqb, ltb}
+use lib.ListN.{length, length-append}
+use Rattle.lists.specs.Place.{anywhere}
+use Rattle.refusal.specs.Answer.{accepted, refuseIf}
+use Rattle.symbols.specs.Bits.{Bit, O, I, G, isOne, lastOf, allBits, bitsOf, areBytes}
+use Rattle.symbols.specs.Cells.{writtenSymbols, writtenCells}
+use Rattle.symbols.specs.Reading.{units, given, lastAfter, readFrom, readBits}
+use Rattle.symbols.specs.Bytes.{isGap, itemOf, rowsOf, itemsRead, straysRead}
+use Rattle.symbols.specs.Strip.{isRagged, endsInOne, bytesRead, isStray, strayPlace, stripRule, stripItems}
+use Rattle.symbols.specs.declared.Cell.{Cell}
+use Rattle.symbols.specs.declared.Cell.the-variants.{Short, Medium, Long}
+use Rattle.symbols.proofs.TestLaws.{neither}
+use Rattle.symbols.proofs.ReadingLaws.{units-injective, cells-of-read, last-is-no-gap, last-of-snoc}
+use Rattle.symbols.proofs.TokenLaws.{written-bits-are-read}
+use Rattle.symbols.proofs.BytesLaws.{length-of-bits, rows-of-bytes, items-of-rows}
+use Rattle.symbols.proofs.BytesLaws.{rows-have-no-stray, Whole, whole}
+
+-- cells that give the letters of bytes, with lead and first closing 0, are the cells of those bytes
+written-cells-of-read :
+    (ws : List ℕ) (cs : List Cell) → readBits cs ≡ O ∷ allBits ws ++ (O ∷ []) → writtenCells ws ≡ map units cs
+unfolding writtenCells writtenSymbols bitsOf
+written-cells-of-read ws cs h = rw (← cells-of-read cs, h, append-assoc)
+
+-- Reading what was written
+
+pub cells-are-read : (ws : List ℕ) → (cs : List Cell) × (map units cs ≡ writtenCells ws)
+cells-are-read ws =
+    let r = written-bits-are-read ws in
+    (r .0, sym (written-cells-of-read ws (r .0) (r .1)))
+
+pub read-of-write :
+    (ws : List ℕ) (cs : List Cell) → map units cs ≡ writtenCells ws → readBits cs ≡ O ∷ allBits ws ++ (O ∷ [])
+read-of-write ws cs h =
+    let r = written-bits-are-read ws in
+    let e = units-injective cs (r .0) (h ∙ written-cells-of-read ws (r .0) (r .1)) in
+    ap readBits e ∙ r .1
+
+pub bits-count : (ws : List ℕ) → length (O ∷ allBits ws ++ (O ∷ [])) ≡ 8 * length ws + 2
+bits-count ws = simp (length-append, length-of-bits) (omega arith)
+
+bits-are-whole-bytes : (ws : List ℕ) → isRagged (O ∷ allBits ws ++ (O ∷ [])) ≡ false
+unfolding isRagged endsInOne lastOf
+bits-are-whole-bytes ws =
+    rw
+    (eq-eqb (length (O ∷ allBits ws ++ (O ∷ [])) % 8) 2 (omega (arith, bits-count ws)), last-of-snoc O O (allBits ws))
+
+-- what reading the cells of a list of bytes gives
+pub record ReadBack (ws : List ℕ) (cs : List Cell) : Type 0 where
+  pub whole-bytes : isRagged (readBits cs) ≡ false
+  pub in-place : isStray (readBits cs) ≡ false
+  pub count : bytesRead (readBits cs) ≡ length ws
+  pub items : stripItems cs ≡ ws
+
+pub read-back : (ws : List ℕ) (cs : List Cell) → T (areBytes ws) → map units cs ≡ writtenCells ws → ReadBack ws cs
+unfolding isStray stripItems itemsRead straysRead anywhere
+read-back ws cs t h =
+    let e = read-of-write ws cs h in
+    record {
+      whole-bytes = rw e (bits-are-whole-bytes ws);
+      in-place = rw (e, rows-of-bytes ws) (rows-have-no-stray ws t);
+      count = rw e (omega (arith, bits-count ws));
+      items = rw (e, rows-of-bytes ws) (items-of-rows ws t);
+    }
+
+-- a list of at most 6,400 bytes is accepted
+pub rule-of-write :
+    (ws : List ℕ) (cs : List Cell) → T (areBytes ws) → length ws ≤ 6400 → map units cs ≡ writtenCells ws
+    → stripRule cs ≡ accepted (length ws)
+unfolding stripRule
+rule-of-write ws cs t few h =
+    let r = read-back ws cs t h in
+    rw (r .whole-bytes, r .in-place, r .count, le-ltb 6400 (length ws) few)
+
+-- two different lists never have the same cells
+pub cells-injective :
+    (ws ws′ : List ℕ) → T (areBytes ws) → T (areBytes ws′) → writtenCells ws ≡ writtenCells ws′ → ws ≡ ws′
+cells-injective ws ws′ t t′ h =
+    let r = cells-are-read ws in
+    sym (read-back ws (r .0) t (r .1) .items) ∙ read-back ws′ (r .0) t′ (r .1 ∙ h) .items
+
+-- Writing what was read
+
+-- three tests passed
+record Passed (a b c : Bool) : Type 0 where
+  first : a ≡ false
+  second : b ≡ false
+  third : c ≡ false
+
+all-passed :
+    (a b c : Bool) (p n : ℕ) → refuseIf a 7 0 (refuseIf b 4 0 (refuseIf c 8 p (accepted n))) .number ≡ 0
+    → Passed a b c
+all-passed true b c p n h = absurd (omega arith)
+all-passed false true c p n h = absurd (omega arith)
+all-passed false false true p n h = absurd (omega arith)
+all-passed false false false p n h = record { first = refl; second = refl; third = refl }
+
+-- the lead is a 0
+lead-is-zero :
+    (cs : List Cell) → isRagged (readBits cs) ≡ false → isStray (readBits cs) ≡ false
+    → (bs : List Bit) × (readBits cs ≡ O ∷ bs)
+unfolding isRagged isStray straysRead anywhere readBits readFrom given lastAfter
+lead-is-zero [] whole-bytes in-place = absurd (true≢false whole-bytes)
+lead-is-zero (Short ∷ cs) whole-bytes in-place = (readFrom O cs, refl)
+lead-is-zero (Medium ∷ cs) whole-bytes in-place = (I ∷ readFrom I cs, refl)
+lead-is-zero (Long ∷ cs) whole-bytes in-place = absurd (true≢false in-place)
+
+zero-of : (b : Bit) → isOne b ≡ false → isGap b ≡ false → b ≡ O
+zero-of O one gap = refl
+zero-of I one gap = absurd (true≢false one)
+zero-of G one gap = absurd (true≢false gap)
+
+module _
+    (bs : List Bit)
+    (whole-bytes : isRagged (O ∷ bs) ≡ false)
+    (in-place : isStray (O ∷ bs) ≡ false)
+    (no-gap : isGap (lastOf O bs) ≡ false)
+  where
+    ends : (not (eqb (length (O ∷ bs) % 8) 2) ≡ false) × (endsInOne (O ∷ bs) ≡ false)
+    unfolding isRagged
+    ends = neither (not (eqb (length (O ∷ bs) % 8) 2)) (endsInOne (O ∷ bs)) whole-bytes
+
+    rows : Whole bs
+    unfolding isStray straysRead anywhere
+    rows = whole bs (omega (arith, eqb-true (length (O ∷ bs) % 8) 2 (not-false _ (ends .0)))) in-place
+
+    closing-is-zero : rows .last ≡ O
+    unfolding endsInOne lastOf
+    closing-is-zero =
+        let e : lastOf O bs ≡ rows .last =
+        ap (lastOf O) (rows .letters) ∙ last-of-snoc O (rows .last) (allBits (map itemOf (rowsOf bs)))
+        in
+        zero-of (rows .last) (rw e at (ends .1)) (rw e at no-gap)
+
+    read-letters : (O ∷ bs ≡ O ∷ allBits (itemsRead (O ∷ bs)) ++ (O ∷ [])) × T (areBytes (itemsRead (O ∷ bs)))
+    unfolding itemsRead
+    read-letters = (ap (λ (x : List Bit). O ∷ x) (rw closing-is-zero at (rows .letters)), rows .bytes)
+
+-- what the cells of an accepted strip are
+pub record Accepted (cs : List Cell) : Type 0 where
+  pub cells : writtenCells (stripItems cs) ≡ map units cs
+  pub bytes : T (areBytes (stripItems cs))
+  pub count : length (stripItems cs) ≡ bytesRead (readBits cs)
+  pub few : bytesRead (readBits cs) ≤ 6400
+
+accepted-letters :
+    (cs : List Cell) → isRagged (readBits cs) ≡ false → isStray (readBits cs) ≡ false
+    → (readBits cs ≡ O ∷ allBits (stripItems cs) ++ (O ∷ [])) × T (areBytes (stripItems cs))
+unfolding stripItems lastOf
+accepted-letters cs whole-bytes in-place =
+    let lead = lead-is-zero cs whole-bytes in-place in
+    rw (lead .1)
+    (read-letters (lead .0) (rw (lead .1) at whole-bytes) (rw (lead .1) at in-place)
+    (rw (lead .1) at (last-is-no-gap cs)))
+
+pub write-of-read : (cs : List Cell) → stripRule cs .number ≡ 0 → Accepted cs
+unfolding stripRule
+write-of-read cs h =
+    let bs = readBits cs in
+    let p = all-passed (isRagged bs) (ltb 6400 (bytesRead bs)) (isStray bs) (strayPlace cs) (bytesRead bs) h in
+    let l = accepted-letters cs (p .first) (p .third) in
+    record {
+      cells = written-cells-of-read (stripItems cs) cs (l .0);
+      bytes = l .1;
+      count = omega (arith, bits-count (stripItems cs), ap length (l .0));
+      few = ltb-false 6400 (bytesRead bs) (p .second);
+    }

@@ -1,0 +1,150 @@
+-- A written byte and the row of eight letters that it is written as determine each other. Both directions are one
+-- test each, which antt computes: over the 256 data bytes and the two marks, and over all rows of eight letters.
+use Prim.Native.Nat.{ℕ, zero, suc, _<_}
+use mathlib.Core.Path.{_≡_, refl}
+use mathlib.Core.Bool.{Bool, true, false, not, _&&_, _||_}
+use mathlib.Core.List.{List, [], _∷_}
+use native.Mathlib.Omega.{arith}
+use native.Mathlib.Decide.{decLt}
+use lib.Dec.{T, eqb, eqb→eq, ltb, ltb→lt}
+use Rattle.lists.specs.Place.{anywhere, passed}
+use Rattle.items.specs.Item.{isMark, isByte}
+use Rattle.symbols.specs.Bits.{Bit, O, I, G, byteBits, markBits, withGaps, writtenBits}
+use Rattle.symbols.specs.Bytes.{numberFrom, gapInPlace, straysFrom, rowStrays, itemOf}
+use Rattle.symbols.proofs.TestLaws.{either-of, fails, left-of, right-of}
+
+-- Tests
+
+sameBit : Bit → Bit → Bool
+sameBit O O = true
+sameBit O I = false
+sameBit O G = false
+sameBit I O = false
+sameBit I I = true
+sameBit I G = false
+sameBit G O = false
+sameBit G I = false
+sameBit G G = true
+
+sameBits : List Bit → List Bit → Bool
+sameBits [] [] = true
+sameBits [] (y ∷ ys) = false
+sameBits (x ∷ xs) [] = false
+sameBits (x ∷ xs) (y ∷ ys) = sameBit x y && sameBits xs ys
+
+same-bit : (x y : Bit) → T (sameBit x y) → x ≡ y
+unfolding sameBit
+same-bit O O t = refl
+same-bit O I t = absurd t
+same-bit O G t = absurd t
+same-bit I O t = absurd t
+same-bit I I t = refl
+same-bit I G t = absurd t
+same-bit G O t = absurd t
+same-bit G I t = absurd t
+same-bit G G t = refl
+
+same-bits : (xs ys : List Bit) → T (sameBits xs ys) → xs ≡ ys
+unfolding sameBits
+same-bits [] [] t = refl
+same-bits [] (y ∷ ys) t = absurd t
+same-bits (x ∷ xs) [] t = absurd t
+same-bits (x ∷ xs) (y ∷ ys) t =
+    let p = same-bit x y (left-of (sameBit x y) (sameBits xs ys) t) in
+    let q = same-bits xs ys (right-of (sameBit x y) (sameBits xs ys) t) in
+    cc
+
+-- From a byte to its row and back
+
+-- reading the row of w gives w, with no gap out of place
+byteKept : ℕ → Bool
+byteKept w = eqb (itemOf (writtenBits w)) w && not (anywhere passed (rowStrays (writtenBits w)))
+
+keptBelow : ℕ → Bool
+keptBelow zero = true
+keptBelow (suc n) = byteKept n && keptBelow n
+
+all-bytes-kept : T (keptBelow 256 && byteKept 0x1a1 && byteKept 0x1c2)
+unfolding keptBelow byteKept itemOf anywhere rowStrays straysFrom gapInPlace numberFrom writtenBits isMark markBits
+    withGaps byteBits
+all-bytes-kept = tt
+
+-- From a row to its byte and back
+
+unfoldable pub overLetters : (Bit → Bool) → Bool
+overLetters f = f O && f I && f G
+
+-- a row without a gap out of place is the row of the byte that it reads as
+rowKept : List Bit → Bool
+rowKept row =
+    anywhere passed (rowStrays row) || (isByte (itemOf row) && sameBits (writtenBits (itemOf row)) row)
+
+all-rows-kept :
+    T
+    (overLetters λ a. overLetters λ b. overLetters λ c. overLetters λ d.
+    overLetters λ e. overLetters λ f. overLetters λ g. overLetters λ h.
+    rowKept (a ∷ b ∷ c ∷ d ∷ e ∷ f ∷ g ∷ h ∷ []))
+unfolding overLetters rowKept sameBits sameBit itemOf anywhere rowStrays straysFrom gapInPlace numberFrom isByte
+    writtenBits isMark markBits withGaps byteBits
+all-rows-kept = tt
+
+-- What the two tests say of each byte and of each row
+
+below-kept : (n k : ℕ) → T (keptBelow n) → k < n → T (byteKept k)
+unfolding keptBelow
+below-kept zero k t h = absurd (omega arith)
+below-kept (suc n) k t h =
+    elim (decLt k n) [
+      | yes l ↦ below-kept n k (right-of (byteKept n) (keptBelow n) t) l
+      | no l ↦ let e : k ≡ n = omega arith in rw e (left-of (byteKept n) (keptBelow n) t)
+    ]
+
+byte-kept : (w : ℕ) → T (isByte w) → T (byteKept w)
+unfolding isByte isMark
+byte-kept w t =
+    either-of (ltb w 256) (isMark w) t
+    (λ l. below-kept 256 w (left-of (keptBelow 256) (byteKept 0x1a1) marks-too) (ltb→lt w 256 l))
+    (λ m. either-of (eqb w 0x1a1) (eqb w 0x1c2) m
+    (λ e. rw (eqb→eq w 0x1a1 e) (right-of (keptBelow 256) (byteKept 0x1a1) marks-too))
+    (λ e. rw (eqb→eq w 0x1c2 e) (right-of (keptBelow 256 && byteKept 0x1a1) (byteKept 0x1c2) all-bytes-kept)))
+  where
+    marks-too : T (keptBelow 256 && byteKept 0x1a1)
+    marks-too = left-of (keptBelow 256 && byteKept 0x1a1) (byteKept 0x1c2) all-bytes-kept
+
+pub over-letters : (f : Bit → Bool) → T (overLetters f) → (b : Bit) → T (f b)
+unfolding overLetters
+over-letters f t O = left-of (f O) (f I) (left-of (f O && f I) (f G) t)
+over-letters f t I = right-of (f O) (f I) (left-of (f O && f I) (f G) t)
+over-letters f t G = right-of (f O && f I) (f G) t
+
+row-kept : (a b c d e f g h : Bit) → T (rowKept (a ∷ b ∷ c ∷ d ∷ e ∷ f ∷ g ∷ h ∷ []))
+row-kept a b c d e f g h =
+    over-letters _ (over-letters _ (over-letters _ (over-letters _
+    (over-letters _ (over-letters _ (over-letters _ (over-letters _
+    all-rows-kept a) b) c) d) e) f) g) h
+
+-- The laws
+
+pub item-of-written-byte : (w : ℕ) → T (isByte w) → itemOf (writtenBits w) ≡ w
+unfolding byteKept
+item-of-written-byte w t = eqb→eq _ _ (left-of (eqb (itemOf (writtenBits w)) w) _ (byte-kept w t))
+
+pub written-byte-has-no-stray : (w : ℕ) → T (isByte w) → anywhere passed (rowStrays (writtenBits w)) ≡ false
+unfolding byteKept
+written-byte-has-no-stray w t = fails _ (right-of (eqb (itemOf (writtenBits w)) w) _ (byte-kept w t))
+
+module _ (a b c d e f g h : Bit) (fair : anywhere passed (rowStrays (a ∷ b ∷ c ∷ d ∷ e ∷ f ∷ g ∷ h ∷ [])) ≡ false) where
+  row : List Bit
+  row = a ∷ b ∷ c ∷ d ∷ e ∷ f ∷ g ∷ h ∷ []
+
+  kept : T (isByte (itemOf row) && sameBits (writtenBits (itemOf row)) row)
+  unfolding row rowKept
+  kept = rw fair at (row-kept a b c d e f g h)
+
+  pub row-is-a-byte : T (isByte (itemOf (a ∷ b ∷ c ∷ d ∷ e ∷ f ∷ g ∷ h ∷ [])))
+  unfolding row
+  row-is-a-byte = left-of (isByte (itemOf row)) (sameBits (writtenBits (itemOf row)) row) kept
+
+  pub written-of-row : writtenBits (itemOf (a ∷ b ∷ c ∷ d ∷ e ∷ f ∷ g ∷ h ∷ [])) ≡ a ∷ b ∷ c ∷ d ∷ e ∷ f ∷ g ∷ h ∷ []
+  unfolding row
+  written-of-row = same-bits _ _ (right-of (isByte (itemOf row)) (sameBits (writtenBits (itemOf row)) row) kept)

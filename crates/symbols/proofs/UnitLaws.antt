@@ -1,0 +1,136 @@
+-- How many units, cells and bits go together: a cell of u units gives half as many bits, and half a bit is owed after
+-- a 1. So the units alone say how many bits cells give, whether the last is 1, and whether they are whole bytes.
+use Prim.Native.Nat.{ℕ, zero, suc, _+_, _*_, _/_, _%_, _≤_}
+use mathlib.Core.Path.{_≡_, refl, ap, _∙_}
+use mathlib.Core.Bool.{not, _||_}
+use mathlib.Core.List.{List, [], _∷_, map}
+use native.Mathlib.Omega.{arith}
+use native.Mathlib.Decide.{ℕ-discrete}
+use borrow.Author.Tests.{eq-eqb, ne-eqb}
+use lib.Dec.{eqb}
+use lib.Arith.{digits-mod}
+use lib.ListN.{length, getD, length-append, length-map}
+use Rattle.symbols.specs.Bits.{Bit, O, I, G, isOne, lastOf}
+use Rattle.symbols.specs.Cells.{writtenCells}
+use Rattle.symbols.specs.Reading.{units, given, lastAfter, readFrom, readBits}
+use Rattle.symbols.specs.Bytes.{digit}
+use Rattle.symbols.specs.Strip.{isRagged, endsInOne}
+use Rattle.symbols.specs.declared.Cell.{Cell}
+use Rattle.symbols.specs.declared.Cell.the-variants.{Short, Medium, Long}
+use Rattle.symbols.proofs.TestLaws.{or-false, or-true, same-test}
+use Rattle.symbols.proofs.ReadingLaws.{last-of-given}
+use Rattle.symbols.proofs.RoundTripLaws.{cells-are-read, read-of-write, bits-count}
+
+-- the sum of some cells in units
+unfoldable pub unitsIn : List Cell → ℕ
+unitsIn [] = 0
+unitsIn (c ∷ cs) = units c + unitsIn cs
+
+units-of-cell : (b : Bit) (c : Cell) → 2 * length (given b c) + digit b ≡ units c + digit (lastAfter b c)
+unfolding given lastAfter
+units-of-cell O Short = refl
+units-of-cell O Medium = refl
+units-of-cell O Long = refl
+units-of-cell I Short = refl
+units-of-cell I Medium = refl
+units-of-cell I Long = refl
+units-of-cell G Short = refl
+units-of-cell G Medium = refl
+units-of-cell G Long = refl
+
+-- two units to a bit; after a 1 one unit of the next bit is already there
+pub units-of-bits :
+    (b : Bit) (cs : List Cell) → 2 * length (readFrom b cs) + digit b ≡ unitsIn cs + digit (lastOf b (readFrom b cs))
+unfolding unitsIn readFrom lastOf
+units-of-bits b [] = omega arith
+units-of-bits b (c ∷ cs) =
+    rw (length-append (given b c), last-of-given b c)
+    (omega (arith, units-of-cell b c, units-of-bits (lastAfter b c) cs))
+
+pub digit-is-small : (b : Bit) → digit b ≤ 1
+digit-is-small O = omega arith
+digit-is-small I = omega arith
+digit-is-small G = omega arith
+
+-- a 1 is the digit 1
+one-by-digit : (b : Bit) (n : ℕ) → n ≡ digit b → isOne b ≡ eqb n 1
+one-by-digit O n h = rw h
+one-by-digit I n h = rw h
+one-by-digit G n h = rw h
+
+four-of-sixteen : (l u : ℕ) → u ≡ 2 * l → l % 8 ≡ 2 → u % 16 ≡ 4
+four-of-sixteen l u double e = let q : u ≡ l / 8 * 16 + 4 = omega arith in rw q (digits-mod (l / 8) (omega arith))
+
+two-of-eight : (l u : ℕ) → u ≡ 2 * l → u % 16 ≡ 4 → l % 8 ≡ 2
+two-of-eight l u double e = let q : l ≡ u / 16 * 8 + 2 = omega arith in rw q (digits-mod (u / 16) (omega arith))
+
+-- l bits of u units, l the half of u rounded up
+by-units : (l u : ℕ) → l ≡ (u + 1) / 2 → (not (eqb (l % 8) 2) || eqb (u % 2) 1) ≡ not (eqb (u % 16) 4)
+by-units l u h =
+    elim (ℕ-discrete (u % 2) 1) [
+      | yes odd ↦ rw (eq-eqb (u % 2) 1 odd, ne-eqb (u % 16) 4 (λ e. omega arith)) (or-true (not (eqb (l % 8) 2)))
+      | no even ↦
+          let double : u ≡ 2 * l = omega arith in
+          rw (ne-eqb (u % 2) 1 even)
+          (or-false (not (eqb (l % 8) 2))
+          ∙ ap not (same-test (l % 8) 2 (u % 16) 4 (four-of-sixteen l u double) (two-of-eight l u double)))
+    ]
+
+module _ (cs : List Cell) where
+  bits-known : 2 * length (readBits cs) ≡ unitsIn cs + digit (lastOf O (readBits cs))
+  unfolding readBits
+  bits-known = omega (arith, units-of-bits O cs)
+
+  pub length-by-units : length (readBits cs) ≡ (unitsIn cs + 1) / 2
+  length-by-units = omega (arith, bits-known, digit-is-small (lastOf O (readBits cs)))
+
+  pub last-by-units : endsInOne (readBits cs) ≡ eqb (unitsIn cs % 2) 1
+  unfolding endsInOne
+  last-by-units =
+      one-by-digit (lastOf O (readBits cs)) (unitsIn cs % 2)
+      (omega (arith, bits-known, digit-is-small (lastOf O (readBits cs))))
+
+  -- not ragged exactly where the units are 16 n + 4
+  pub ragged-by-units : isRagged (readBits cs) ≡ not (eqb (unitsIn cs % 16) 4)
+  unfolding isRagged
+  ragged-by-units = rw last-by-units (by-units (length (readBits cs)) (unitsIn cs) length-by-units)
+
+-- Counts
+
+given-is-something : (b : Bit) (c : Cell) → 1 ≤ length (given b c)
+given-is-something b Short = omega (arith, units-of-cell b Short, digit-is-small b)
+given-is-something b Medium = omega (arith, units-of-cell b Medium, digit-is-small b)
+given-is-something b Long = omega (arith, units-of-cell b Long, digit-is-small b)
+
+-- each cell gives a bit or two
+pub cells-at-most-bits : (b : Bit) (cs : List Cell) → length cs ≤ length (readFrom b cs)
+unfolding readFrom
+cells-at-most-bits b [] = omega arith
+cells-at-most-bits b (c ∷ cs) =
+    omega (
+      arith,
+      length-append (given b c) (readFrom (lastAfter b c) cs),
+      given-is-something b c,
+      cells-at-most-bits (lastAfter b c) cs,
+    )
+
+-- n bytes have at most 8 n + 2 cells
+pub cells-at-most : (ws : List ℕ) → length (writtenCells ws) ≤ 8 * length ws + 2
+unfolding readBits
+cells-at-most ws =
+    let r = cells-are-read ws in
+    let n = ap length (read-of-write ws (r .0) (r .1)) ∙ bits-count ws in
+    rw (← r .1, length-map (r .0) units) (omega (arith, cells-at-most-bits O (r .0)))
+
+units-are-small : (cs : List Cell) (i : ℕ) → (2 ≤ getD (map units cs) i 2) × (getD (map units cs) i 2 ≤ 4)
+units-are-small [] i = omega arith
+units-are-small (Short ∷ cs) zero = omega arith
+units-are-small (Medium ∷ cs) zero = omega arith
+units-are-small (Long ∷ cs) zero = omega arith
+units-are-small (Short ∷ cs) (suc i) = units-are-small cs i
+units-are-small (Medium ∷ cs) (suc i) = units-are-small cs i
+units-are-small (Long ∷ cs) (suc i) = units-are-small cs i
+
+-- of 2 to 4 units each
+pub cells-are-small : (ws : List ℕ) (i : ℕ) → (2 ≤ getD (writtenCells ws) i 2) × (getD (writtenCells ws) i 2 ≤ 4)
+cells-are-small ws i = let r = cells-are-read ws in rw (← r .1) (units-are-small (r .0) i)

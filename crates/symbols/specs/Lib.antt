@@ -1,0 +1,7 @@
+pub mod Bits
+pub mod Cells
+pub mod Reading
+pub mod Bytes
+pub mod Strip
+pub mod Machine
+pub mod Step

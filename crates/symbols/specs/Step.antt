@@ -1,0 +1,84 @@
+-- One cell more for the machine that reads cells, and what it gives at the end. No lemmas here.
+use Prim.Native.Nat.{ℕ, suc, _+_, _-_, _*_, _%_}
+use mathlib.Core.Bool.{cond, not}
+use mathlib.Core.List.{List, [], _∷_, _++_}
+use lib.Dec.{eqb, ltb}
+use Rattle.refusal.specs.Answer.{Answer, accepted, refuseIf}
+use Rattle.symbols.specs.declared.Cell.{Cell}
+use Rattle.symbols.specs.declared.Cell.the-variants.{Short, Medium, Long}
+use Rattle.symbols.specs.declared.Reading.{Reading}
+use Rattle.symbols.specs.Machine.{pushed}
+
+-- a cell of 2 units gives the last bit again
+abbrev pub afterShort : Reading → Reading
+afterShort m = pushed m (m .register * 2 + m .last)
+
+-- one of 3 gives 01 after 0, and 0 after 1
+unfoldable pub turned : ℕ → ℕ → ℕ
+turned register last = cond (eqb last 0) (register * 4 + 1) (register * 2)
+
+unfoldable pub withLast : Reading → ℕ → Reading
+withLast m last =
+    record {
+      register = m .register;
+      last = last;
+      rows = m .rows;
+      gap = m .gap;
+      source = m .source;
+      stray = m .stray;
+      place = m .place;
+      item = m .item;
+      done = m .done;
+    }
+
+unfoldable pub afterMedium : Reading → Reading
+afterMedium m = pushed (withLast m (turned (m .register) (m .last) % 2)) (turned (m .register) (m .last))
+
+-- one of 4, at a place, gives 0 and the last bit again; after 0 that is a gap, and the first gap of a byte counts
+unfoldable pub gapAt : Reading → ℕ → Reading
+gapAt m at =
+    record {
+      register = m .register;
+      last = m .last;
+      rows = m .rows;
+      gap = m .register;
+      source = at;
+      stray = m .stray;
+      place = m .place;
+      item = m .item;
+      done = m .done;
+    }
+
+unfoldable pub noted : Reading → ℕ → Reading
+noted m at = cond (eqb (m .last) 0) (cond (eqb (m .gap) 0) (gapAt m at) m) m
+
+unfoldable pub afterLong : Reading → ℕ → Reading
+afterLong m at = pushed (noted m at) (m .register * 4 + m .last)
+
+-- one cell more, at a place
+abbrev pub stepped : Reading → Cell → ℕ → Reading
+stepped m Short at = afterShort m
+stepped m Medium at = afterMedium m
+stepped m Long at = afterLong m at
+
+-- the item that the last cell gave, if it closed a byte
+unfoldable pub itemsOf : Reading → List ℕ
+itemsOf m = cond (m .done) (m .item ∷ []) []
+
+-- cells read one after the other, the first at place k
+unfoldable pub ran : Reading → ℕ → List Cell → Reading
+ran m k [] = m
+ran m k (c ∷ cs) = ran (stepped m c k) (suc k) cs
+
+-- the items that they give
+unfoldable pub ranItems : Reading → ℕ → List Cell → List ℕ
+ranItems m k [] = []
+ranItems m k (c ∷ cs) = itemsOf (stepped m c k) ++ ranItems (stepped m c k) (suc k) cs
+
+-- the strip reader's answer at the end, from 7 on: one bit 0 after whole bytes leaves 1 0 in the register
+unfoldable pub stripAnswer : Reading → Answer
+stripAnswer m =
+    refuseIf (not (eqb (m .register) 0b10)) 7 0
+    (refuseIf (ltb 6400 (m .rows - 1)) 4 0
+    (refuseIf (eqb (m .stray) 1) 8 (m .place)
+    (accepted (m .rows - 1))))

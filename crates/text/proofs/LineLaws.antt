@@ -1,0 +1,65 @@
+-- The fields of a printed line, one at a time. Rests on no axiom.
+use Prim.Native.Nat.{ℕ, suc, _+_, _<_}
+use mathlib.Core.Path.{_≡_, refl, _∙_, ap}
+use mathlib.Core.List.{List, [], _∷_, _++_}
+use native.Mathlib.Numerals.{add-one}
+use native.Mathlib.Omega.{arith}
+use lib.ListN.{length, drop, getD, set, length-append}
+use lib.Seq.{drop-cons}
+use Rattle.lists.specs.Filled.{storedAt}
+use Rattle.lists.proofs.StoreLaws.{stored-after-stored}
+use Rattle.text.specs.Ascii.{tab, lineFeed}
+use Rattle.text.specs.Decimal.{decimal}
+use Rattle.text.specs.Line.{fieldsOf, lineOf}
+
+module _ (numbers : List ℕ) (i : ℕ) (h : i < length numbers) where
+  fields-next : fieldsOf (drop i numbers) ≡ (tab ∷ decimal (getD numbers i 0)) ++ fieldsOf (drop (suc i) numbers)
+  unfolding fieldsOf
+  fields-next = rw (drop-cons numbers i 0 h)
+
+  pub fields-length-next :
+      length (fieldsOf (drop i numbers)) ≡ 1 + length (decimal (getD numbers i 0)) + length (fieldsOf (drop (suc i) numbers))
+  fields-length-next =
+      ap length fields-next
+      ∙ length-append (tab ∷ decimal (getD numbers i 0)) (fieldsOf (drop (suc i) numbers))
+      ∙ omega arith
+
+  -- a tab and a number are stored, and what is left of the fields after them
+  pub fields-stored-next : (out : List ℕ) (end : ℕ)
+      → storedAt
+      (storedAt (set out end tab) (end + 1) (decimal (getD numbers i 0)))
+      (end + 1 + length (decimal (getD numbers i 0)))
+      (fieldsOf (drop (suc i) numbers))
+      ≡ storedAt out end (fieldsOf (drop i numbers))
+  unfolding storedAt
+  fields-stored-next out end =
+      stored-after-stored (decimal (getD numbers i 0)) (fieldsOf (drop (suc i) numbers)) (set out end tab) (end + 1) _ refl
+      ∙ rw (fields-next, add-one end)
+
+pub fields-length-of-none : length (fieldsOf []) ≡ 0
+unfolding fieldsOf
+fields-length-of-none = refl
+
+pub fields-length-of-more : (n : ℕ) (numbers : List ℕ)
+    → length (fieldsOf (n ∷ numbers)) ≡ 1 + length (decimal n) + length (fieldsOf numbers)
+unfolding fieldsOf
+fields-length-of-more n numbers = length-append (tab ∷ decimal n) (fieldsOf numbers) ∙ omega arith
+
+-- a line is its word, its fields and a line feed
+module _ (word numbers : List ℕ) where
+  pub line-length : length (lineOf word numbers) ≡ length word + length (fieldsOf numbers) + 1
+  unfolding lineOf
+  line-length =
+      length-append (word ++ fieldsOf numbers) (lineFeed ∷ []) ∙ ap (λ (n : ℕ). n + 1) (length-append word (fieldsOf numbers))
+
+  pub line-stored : (out : List ℕ) (at : ℕ)
+      → storedAt
+      (storedAt (storedAt out at word) (at + length word) (fieldsOf numbers))
+      (at + length word + length (fieldsOf numbers))
+      (lineFeed ∷ [])
+      ≡ storedAt out at (lineOf word numbers)
+  unfolding lineOf
+  line-stored out at =
+      ap (λ (l : List ℕ). storedAt l (at + length word + length (fieldsOf numbers)) (lineFeed ∷ []))
+      (stored-after-stored word (fieldsOf numbers) out at _ refl)
+      ∙ stored-after-stored (word ++ fieldsOf numbers) (lineFeed ∷ []) out at _ (omega (arith, length-append word (fieldsOf numbers)))

@@ -1,0 +1,70 @@
+-- Text that is stored at a place of a buffer, and the digits of a number: the last digit stands after those of the number without it.
+-- Rests on no axiom.
+use Prim.Native.Nat.{ℕ, zero, suc, _+_, _/_, _%_, _^_, _≤_, _<_}
+use mathlib.Core.Path.{_≡_, refl, _∙_, ap}
+use mathlib.Core.Bool.{Bool, true, false, cond}
+use mathlib.Core.List.{List, [], _∷_, _++_}
+use native.Mathlib.Nat.{add-suc, pow-suc}
+use native.Mathlib.Omega.{arith}
+use lib.Dec.{ltb}
+use lib.ListN.{length, drop, getD, set, length-append}
+use lib.Seq.{drop-cons}
+use borrow.Author.Tests.{lt-ltb, le-ltb, ltb-true, ltb-false}
+use Rattle.lists.specs.Filled.{storedAt}
+use Rattle.text.specs.Decimal.{digit, digitsOf, decimal}
+
+-- one byte more of a text is stored
+pub stored-next : (out text : List ℕ) (at i : ℕ)
+    → i < length text
+    → storedAt (set out (at + i) (getD text i 0)) (at + suc i) (drop (suc i) text) ≡ storedAt out (at + i) (drop i text)
+unfolding storedAt
+stored-next out text at i h = rw (add-suc at i, drop-cons text i 0 h)
+
+-- how many digits a number has at most does not matter
+digits-within : (m k n : ℕ) → n ≤ m → n ≤ k → digitsOf m n ≡ digitsOf k n
+unfolding digitsOf
+digits-within zero zero n p q = refl
+digits-within zero (suc k) n p q = rw (lt-ltb n 10 (omega arith))
+digits-within (suc m) zero n p q = rw (lt-ltb n 10 (omega arith))
+digits-within (suc m) (suc k) n p q = by-test (ltb n 10) (λ h. digits-within m k (n / 10) (omega (arith, ltb-false n 10 h)) (omega (arith, ltb-false n 10 h))) refl
+  where
+    by-test : (t : Bool)
+        → (ltb n 10 ≡ false → digitsOf m (n / 10) ≡ digitsOf k (n / 10))
+        → ltb n 10 ≡ t
+        → cond t (digit n ∷ []) (digitsOf m (n / 10) ++ (digit (n % 10) ∷ []))
+        ≡ cond t (digit n ∷ []) (digitsOf k (n / 10) ++ (digit (n % 10) ∷ []))
+    by-test true e h = refl
+    by-test false e h = ap (λ (l : List ℕ). l ++ (digit (n % 10) ∷ [])) (e h)
+
+pub decimal-of-digit : (n : ℕ) → n < 10 → decimal n ≡ digit n ∷ []
+unfolding decimal digitsOf
+decimal-of-digit zero h = refl
+decimal-of-digit (suc n) h = rw (lt-ltb (suc n) 10 h)
+
+pub decimal-of-more : (n : ℕ) → 10 ≤ n → decimal n ≡ decimal (n / 10) ++ (digit (n % 10) ∷ [])
+unfolding decimal digitsOf
+decimal-of-more zero h = absurd (omega arith)
+decimal-of-more (suc n) h =
+    rw (le-ltb (suc n) 10 h)
+    (ap (λ (l : List ℕ). l ++ (digit (suc n % 10) ∷ [])) (digits-within n (suc n / 10) (suc n / 10) (omega arith) (omega arith)))
+
+pub decimal-length-of-digit : (n : ℕ) → n < 10 → length (decimal n) ≡ 1
+decimal-length-of-digit n h = rw (decimal-of-digit n h)
+
+pub decimal-length-of-more : (n : ℕ) → 10 ≤ n → length (decimal n) ≡ suc (length (decimal (n / 10)))
+decimal-length-of-more n h =
+    ap length (decimal-of-more n h) ∙ length-append (decimal (n / 10)) (digit (n % 10) ∷ []) ∙ omega arith
+
+-- a number below ten to the k has at most k digits, but for 0, which has one
+pub decimal-within : (k n : ℕ) → n < 10 ^ suc k → length (decimal n) ≤ suc k
+decimal-within zero n h = omega (arith, decimal-length-of-digit n h)
+decimal-within (suc k) n h = by-test (ltb n 10) (ltb-true n 10) (ltb-false n 10) (decimal-within k (n / 10))
+  where
+    by-test : (t : Bool)
+        → (t ≡ true → n < 10)
+        → (t ≡ false → 10 ≤ n)
+        → (n / 10 < 10 ^ suc k → length (decimal (n / 10)) ≤ suc k)
+        → length (decimal n) ≤ suc (suc k)
+    by-test true small large front = omega (arith, decimal-length-of-digit n (small refl))
+    by-test false small large front =
+        omega (arith, decimal-length-of-more n (large refl), front (omega (arith, h, pow-suc 10 (suc k))))

@@ -1,0 +1,65 @@
+-- Why `text::append_line` stores a line: its word, its fields and a line feed go one after the other. Rests on no axiom.
+use Prim.Native.Nat.{_+_, _≤_}
+use native.Mathlib.Omega.{arith}
+use lib.ListN.{length}
+use borrow.Author.Needs.{needs}
+use Rattle.text.specs.Line.{fieldsOf}
+use Rattle.text.proofs.LineLaws.{line-length, line-stored}
+use Rattle.text.proofs.print.append_line.Statement.{statement}
+use Rattle.text.proofs.print.append_line.Tie as tie
+
+-- the buffer has room for the parts
+room : (c : tie.Start)
+    → c .args .at + (length (c .args .word .now) + length (fieldsOf (c .args .numbers .now)) + 1) ≤ length (c .args .out .now)
+room c = rw line-length at (c .pre)
+
+append-requires : tie.Need-append-requires
+append-requires c κs = omega (arith, room (c .before .before .before .before))
+
+append-fields-requires : tie.Need-append-fields-requires
+append-fields-requires c κs =
+    let word = c .before .before .before .append in
+    omega (arith, room (c .before .before .before .before .before .before .before .before), word .ensures .0, word .kept .0)
+
+slice-aggregate-append : tie.Need-slice-aggregate-append
+slice-aggregate-append c = search needs
+
+append-requires-2 : tie.Need-append-requires-2
+append-requires-2 c κs =
+    let fields = c .before .before .before .before in
+    let word = fields .before .before .before .before in
+    omega (
+      arith,
+      room (word .before .before .before .before .before),
+      word .append .ensures .0,
+      word .append .kept .0,
+      fields .append-fields .ensures .0,
+      fields .append-fields .kept .0,
+    )
+
+same-length : tie.Need-same-length
+same-length c = search needs
+
+returns : tie.Need-returns
+returns c =
+    let end = c .before .before .append2 in
+    let fields = c .before .before .before .before .before .before .before in
+    let word = fields .before .before .before .before in
+    let args = word .before .before .before .before .before .args in
+    let length-of = line-length (args .word .now) (args .numbers .now) in (
+      omega (arith, end .ensures .0, fields .append-fields .ensures .0, word .append .ensures .0),
+      rw
+          (end .ensures .1, fields .append-fields .ensures .1, fields .append-fields .ensures .0, word .append .ensures .1, word .append .ensures .0)
+          (line-stored (args .word .now) (args .numbers .now) (args .out .now) (args .at)),
+    )
+
+pub append-line-spec : {M : Type 1} → statement M
+append-line-spec =
+    tie.close
+    (tie.spec
+    append-requires
+    append-fields-requires
+    slice-aggregate-append
+    append-requires-2
+    same-length
+    returns)

@@ -1,0 +1,65 @@
+-- Why `text::find` answers the end of the piece: while no separator is met, the piece that is left begins at the place reached.
+-- Rests on no axiom.
+use Prim.Native.Nat.{ℕ, _+_, _-_}
+use mathlib.Core.Path.{_≡_, refl, ap}
+use mathlib.Core.List.{List, []}
+use native.Mathlib.Numerals.{add-one}
+use native.Mathlib.Omega.{arith}
+use lib.ListN.{length, drop, drop-of-length-le}
+use Rattle.text.specs.Pieces.{upTo}
+use Rattle.text.proofs.PieceLaws.{up-to-at-separator, up-to-at-other}
+use Rattle.text.proofs.read.find.Statement.{statement}
+use Rattle.text.proofs.read.find.Tie as tie
+
+abbrev Inv-loop : tie.InvT-loop
+Inv-loop text from separator at₀ at =
+    at + length (upTo separator (drop at text)) ≡ from + length (upTo separator (drop from text))
+
+abbrev μ-loop : tie.MeasureT-loop
+μ-loop text from separator at₀ at = length text - at
+
+loop-holds : tie.Need-loop-holds Inv-loop μ-loop
+loop-holds c = refl
+
+shared-slice-read-if1 : tie.Need-shared-slice-read-if1 Inv-loop μ-loop
+shared-slice-read-if1 c = omega arith
+
+returns : tie.Need-returns Inv-loop μ-loop
+returns c =
+    let h = c .before .before .before in
+    let a = h .before .args in
+    omega (arith, ap length (up-to-at-separator (a .separator) (a .text .now) (h .loop .at) (c .before .before .loop-test .taken) (c .if1 .taken)))
+
+add-at : tie.Need-add-at Inv-loop μ-loop
+add-at c = omega arith
+
+loop-less : tie.Need-loop-less Inv-loop μ-loop
+loop-less c = omega arith
+
+loop-again : tie.Need-loop-again Inv-loop μ-loop
+loop-again c =
+    let h = c .before .before .before in
+    let a = h .before .args in
+    rw add-one
+    (omega (arith, ap length (up-to-at-other (a .separator) (a .text .now) (h .loop .at) (c .before .before .loop-test .taken) (c .if1 .left))))
+
+returns-2 : tie.Need-returns-2 Inv-loop μ-loop
+unfolding upTo
+returns-2 c =
+    let a = c .before .before .args in
+    let e : drop (c .before .loop .at) (a .text .now) ≡ [] = drop-of-length-le (a .text .now) (c .loop-test .left) in
+    omega (arith, ap (λ (l : List ℕ). length (upTo (a .separator) l)) e)
+
+pub find-spec : {M : Type 1} → statement M
+find-spec =
+    tie.close
+    (tie.spec
+    Inv-loop
+    μ-loop
+    loop-holds
+    shared-slice-read-if1
+    returns
+    add-at
+    loop-less
+    loop-again
+    returns-2)

@@ -1,0 +1,67 @@
+-- Why `text::parse_byte` answers `byteRead`: the field has two characters, and each is a digit where its number is below 16. Rests on no axiom.
+use mathlib.Core.Path.{sym}
+use native.Mathlib.Omega.{arith}
+use borrow.Author.Tests.{lt-ltb, le-ltb}
+use Rattle.text.proofs.HexLaws.{byte-of-other-length, byte-of-two}
+use borrow.Author.Needs.{needs}
+use Rattle.text.proofs.read.parse_byte.Statement.{statement}
+use Rattle.text.proofs.read.parse_byte.Tie as tie
+
+returns : tie.Need-returns
+returns c = sym (byte-of-other-length _ (c .if1 .taken))
+
+shared-slice-read-hex-digit : tie.Need-shared-slice-read-hex-digit
+shared-slice-read-hex-digit c = search needs
+
+hex-digit-requires : tie.Need-hex-digit-requires
+hex-digit-requires c κs = search needs
+
+shared-slice-read-hex-digit-2 : tie.Need-shared-slice-read-hex-digit-2
+shared-slice-read-hex-digit-2 c = search needs
+
+hex-digit-requires-2 : tie.Need-hex-digit-requires-2
+hex-digit-requires-2 c κs = search needs
+
+returns-2 : tie.Need-returns-2
+returns-2 c =
+    let start = c .before .before .before .before .before in
+    let two = byte-of-two (start .before .before .args .field .now) (start .if1 .left) in
+    let high = c .before .before .before .hex-digit .ensures in
+    rw (two, ← high, le-ltb (c .before .before .before .hex-digit .result) 16 (c .if2 .taken))
+
+returns-3 : tie.Need-returns-3
+returns-3 c =
+    let start = c .before .before .before .before .before .before in
+    let two = byte-of-two (start .before .before .args .field .now) (start .if1 .left) in
+    let high = c .before .before .before .before .hex-digit .ensures in
+    let low = c .before .before .hex-digit2 .ensures in
+    rw (two, ← high, ← low, lt-ltb (c .before .before .before .before .hex-digit .result) 16 (omega arith), le-ltb (c .before .before .hex-digit2 .result) 16 (c .if3 .taken))
+
+mul-t7 : tie.Need-mul-t7
+mul-t7 c = search needs
+
+add-t9 : tie.Need-add-t9
+add-t9 c = search needs
+
+returns-4 : tie.Need-returns-4
+returns-4 c =
+    let start = c .before .before .before .before .before .before in
+    let two = byte-of-two (start .before .before .args .field .now) (start .if1 .left) in
+    let high = c .before .before .before .before .hex-digit .ensures in
+    let low = c .before .before .hex-digit2 .ensures in
+    rw (two, ← high, ← low, lt-ltb (c .before .before .before .before .hex-digit .result) 16 (omega arith), lt-ltb (c .before .before .hex-digit2 .result) 16 (omega arith))
+
+pub parse-byte-spec : {M : Type 1} → statement M
+parse-byte-spec =
+    tie.close
+    (tie.spec
+    returns
+    shared-slice-read-hex-digit
+    hex-digit-requires
+    shared-slice-read-hex-digit-2
+    hex-digit-requires-2
+    returns-2
+    returns-3
+    mul-t7
+    add-t9
+    returns-4)

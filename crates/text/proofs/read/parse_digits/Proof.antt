@@ -1,0 +1,107 @@
+-- Why `text::parse_digits` answers `digitsRead`: at each place the answer is that of the digits left after the number so far.
+-- Rests on no axiom.
+use Prim.Native.Nat.{ℕ, suc, _≤_, _<_, _-_}
+use mathlib.Core.Path.{_≡_, sym, _∙_, ap}
+use mathlib.Core.List.{List, _∷_}
+use native.Mathlib.Numerals.{add-one}
+use native.Mathlib.Omega.{arith}
+use lib.ListN.{length, drop, getD, drop-of-length-le}
+use lib.Seq.{drop-cons}
+use Rattle.text.specs.Decimal.{digitsRead}
+use Rattle.text.proofs.DecimalLaws.{digitsAfter, digits-after-none, digits-at-the-end, digits-too-large, digits-at-digit, digits-below, digits-above}
+use Rattle.text.proofs.read.parse_digits.Statement.{statement}
+use Rattle.text.proofs.read.parse_digits.Tie as tie
+
+abbrev Inv-loop : tie.InvT-loop
+Inv-loop field value₀ i₀ value i =
+    (i ≤ length field) × (value ≤ 65535) × (digitsAfter value (drop i field) ≡ digitsRead field)
+
+abbrev μ-loop : tie.MeasureT-loop
+μ-loop field value₀ i₀ value i = length field - i
+
+-- the digit at place i and those after it
+module _ (s : List ℕ) (i value : ℕ) (h : i < length s) (inv : digitsAfter value (drop i s) ≡ digitsRead s) where
+  next-digit : digitsRead s ≡ digitsAfter value (getD s i 0 ∷ drop (suc i) s)
+  next-digit = sym inv ∙ ap (digitsAfter value) (drop-cons s i 0 h)
+
+loop-holds : tie.Need-loop-holds Inv-loop μ-loop
+loop-holds c = (omega arith, omega arith, digits-after-none _)
+
+shared-slice-read-d : tie.Need-shared-slice-read-d Inv-loop μ-loop
+shared-slice-read-d c = omega arith
+
+returns : tie.Need-returns Inv-loop μ-loop
+returns c =
+    let at = c .before .before .before in
+    sym (next-digit _ _ _ (c .before .before .loop-test .taken) (at .loop .inv .2) ∙ digits-below _ _ _ (c .if1 .taken))
+
+returns-2 : tie.Need-returns-2 Inv-loop μ-loop
+returns-2 c =
+    let at = c .before .before .before .before in
+    sym (next-digit _ _ _ (c .before .before .before .loop-test .taken) (at .loop .inv .2) ∙ digits-above _ _ _ (c .if2 .taken))
+
+mul-value : tie.Need-mul-value Inv-loop μ-loop
+mul-value c = omega arith
+
+cast-value : tie.Need-cast-value Inv-loop μ-loop
+cast-value c = omega arith
+
+add-value : tie.Need-add-value Inv-loop μ-loop
+add-value c = omega arith
+
+returns-3 : tie.Need-returns-3 Inv-loop μ-loop
+returns-3 c =
+    let at = c .before .before .before .before .before in
+    sym
+    (next-digit _ _ _ (c .before .before .before .before .loop-test .taken) (at .loop .inv .2)
+    ∙ digits-at-digit _ _ _ (c .before .before .if1 .left) (c .before .if2 .left)
+    ∙ digits-too-large _ _ (c .if3 .taken))
+
+add-i : tie.Need-add-i Inv-loop μ-loop
+add-i c = omega arith
+
+loop-less : tie.Need-loop-less Inv-loop μ-loop
+loop-less c = omega arith
+
+loop-again : tie.Need-loop-again Inv-loop μ-loop
+loop-again c =
+    let at = c .before .before .before .before .before in (
+      omega arith,
+      c .if3 .left,
+      rw add-one
+          (sym
+          (next-digit _ _ _ (c .before .before .before .before .loop-test .taken) (at .loop .inv .2)
+          ∙ digits-at-digit _ _ _ (c .before .before .if1 .left) (c .before .if2 .left))),
+    )
+
+cast-t11 : tie.Need-cast-t11 Inv-loop μ-loop
+cast-t11 c = omega arith
+
+returns-4 : tie.Need-returns-4 Inv-loop μ-loop
+returns-4 c =
+    let at = c .before in
+    let field = at .before .args .field .now in
+    sym
+    (sym (at .loop .inv .2)
+    ∙ ap (digitsAfter (at .loop .value)) (drop-of-length-le field (c .loop-test .left))
+    ∙ digits-at-the-end _ (at .loop .inv .1))
+
+pub parse-digits-spec : {M : Type 1} → statement M
+parse-digits-spec =
+    tie.close
+    (tie.spec
+    Inv-loop
+    μ-loop
+    loop-holds
+    shared-slice-read-d
+    returns
+    returns-2
+    mul-value
+    cast-value
+    add-value
+    returns-3
+    add-i
+    loop-less
+    loop-again
+    cast-t11
+    returns-4)

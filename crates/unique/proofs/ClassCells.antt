@@ -1,0 +1,108 @@
+-- Classes and cells are the same thing under two names: a class whose number is a cell's units is that cell, and narrow and wide are the
+-- units of none. Rests on no axiom.
+use Prim.Native.Nat.{ℕ, suc}
+use mathlib.Core.Path.{_≡_, refl, sym, ap, ap₂, _∙_}
+use mathlib.Core.List.{List, [], _∷_, map}
+use native.Mathlib.Omega.{arith}
+use Rattle.refusal.specs.Answer.{accepted}
+use Rattle.timing.specs.Class.{classNumber, edgeRule, edgeRuleFrom}
+use Rattle.timing.specs.declared.Class.{Class}
+use Rattle.timing.specs.declared.Class.the-variants.{Narrow, Two, Three, Four, Wide}
+use Rattle.symbols.specs.Reading.{units}
+use Rattle.symbols.specs.declared.Cell.{Cell}
+use Rattle.symbols.specs.declared.Cell.the-variants.{Short, Medium, Long}
+use Rattle.lengths.specs.Near.{classOfUnits}
+use Rattle.codec.specs.Reader.{cellsOfClasses}
+
+data Agree : Class → Cell → Type 0 where
+  short : Agree Two Short
+  medium : Agree Three Medium
+  long : Agree Four Long
+
+agree : (c : Class) (x : Cell) → classNumber c ≡ units x → Agree c x
+agree Narrow Short h = absurd (omega arith)
+agree Narrow Medium h = absurd (omega arith)
+agree Narrow Long h = absurd (omega arith)
+agree Two Short h = short
+agree Two Medium h = absurd (omega arith)
+agree Two Long h = absurd (omega arith)
+agree Three Short h = absurd (omega arith)
+agree Three Medium h = medium
+agree Three Long h = absurd (omega arith)
+agree Four Short h = absurd (omega arith)
+agree Four Medium h = absurd (omega arith)
+agree Four Long h = long
+agree Wide Short h = absurd (omega arith)
+agree Wide Medium h = absurd (omega arith)
+agree Wide Long h = absurd (omega arith)
+
+one-more
+    : (k : ℕ) (cs : List Class) (xs : List Cell) {c : Class} {x : Cell}
+    → Agree c x
+    → (edgeRuleFrom (suc k) cs ≡ accepted 0) × (cellsOfClasses cs ≡ xs)
+    → (edgeRuleFrom k (c ∷ cs) ≡ accepted 0) × (cellsOfClasses (c ∷ cs) ≡ x ∷ xs)
+unfolding edgeRuleFrom cellsOfClasses
+one-more k cs xs short h = (h .0, ap (λ (ys : List Cell). Short ∷ ys) (h .1))
+one-more k cs xs medium h = (h .0, ap (λ (ys : List Cell). Medium ∷ ys) (h .1))
+one-more k cs xs long h = (h .0, ap (λ (ys : List Cell). Long ∷ ys) (h .1))
+
+classes-are-cells-from
+    : (k : ℕ) (cs : List Class) (xs : List Cell)
+    → map classNumber cs ≡ map units xs
+    → (edgeRuleFrom k cs ≡ accepted 0) × (cellsOfClasses cs ≡ xs)
+unfolding edgeRuleFrom cellsOfClasses
+classes-are-cells-from k [] [] h = (refl, refl)
+classes-are-cells-from k [] (x ∷ xs) h = absurd (let z : _≡_ {A = ℕ} 0 1 = cc in omega arith)
+classes-are-cells-from k (c ∷ cs) [] h = absurd (let z : _≡_ {A = ℕ} 0 1 = cc in omega arith)
+classes-are-cells-from k (c ∷ cs) (x ∷ xs) h =
+    let head : classNumber c ≡ units x = cc in
+    let tail : map classNumber cs ≡ map units xs = cc in
+    one-more k cs xs (agree c x head) (classes-are-cells-from (suc k) cs xs tail)
+
+-- classes whose numbers are the units of cells are those cells, and none is narrow or wide
+pub classes-are-cells
+    : (cs : List Class) (xs : List Cell)
+    → map classNumber cs ≡ map units xs
+    → (edgeRule cs ≡ accepted 0) × (cellsOfClasses cs ≡ xs)
+unfolding edgeRule
+classes-are-cells cs xs h = classes-are-cells-from 0 cs xs h
+
+-- the other way round: where none is narrow or wide, the numbers are the units of the cells
+cells-are-classes-from
+    : (k : ℕ) (cs : List Class) → edgeRuleFrom k cs .number ≡ 0 → map classNumber cs ≡ map units (cellsOfClasses cs)
+unfolding edgeRuleFrom cellsOfClasses
+cells-are-classes-from k [] h = refl
+cells-are-classes-from k (Narrow ∷ cs) h = absurd (omega arith)
+cells-are-classes-from k (Two ∷ cs) h = ap (λ (ns : List ℕ). 2 ∷ ns) (cells-are-classes-from (suc k) cs h)
+cells-are-classes-from k (Three ∷ cs) h = ap (λ (ns : List ℕ). 3 ∷ ns) (cells-are-classes-from (suc k) cs h)
+cells-are-classes-from k (Four ∷ cs) h = ap (λ (ns : List ℕ). 4 ∷ ns) (cells-are-classes-from (suc k) cs h)
+cells-are-classes-from k (Wide ∷ cs) h = absurd (omega arith)
+
+pub cells-are-classes : (cs : List Class) → edgeRule cs .number ≡ 0 → map classNumber cs ≡ map units (cellsOfClasses cs)
+unfolding edgeRule
+cells-are-classes cs h = cells-are-classes-from 0 cs h
+
+-- the class that units ask for has their number
+pub number-of-units : (xs : List Cell) → map classNumber (map classOfUnits (map units xs)) ≡ map units xs
+unfolding classOfUnits
+number-of-units [] = refl
+number-of-units (Short ∷ xs) = ap (λ (ns : List ℕ). 2 ∷ ns) (number-of-units xs)
+number-of-units (Medium ∷ xs) = ap (λ (ns : List ℕ). 3 ∷ ns) (number-of-units xs)
+number-of-units (Long ∷ xs) = ap (λ (ns : List ℕ). 4 ∷ ns) (number-of-units xs)
+
+-- and a class is known by its number
+class-of-number : (c : Class) → classOfUnits (classNumber c) ≡ c
+unfolding classOfUnits
+class-of-number Narrow = refl
+class-of-number Two = refl
+class-of-number Three = refl
+class-of-number Four = refl
+class-of-number Wide = refl
+
+classes-of-numbers : (cs : List Class) → map classOfUnits (map classNumber cs) ≡ cs
+classes-of-numbers [] = refl
+classes-of-numbers (c ∷ cs) = ap₂ (λ (d : Class) (ds : List Class). d ∷ ds) (class-of-number c) (classes-of-numbers cs)
+
+pub class-numbers-injective : (cs ds : List Class) → map classNumber cs ≡ map classNumber ds → cs ≡ ds
+class-numbers-injective cs ds h =
+    sym (classes-of-numbers cs) ∙ ap (λ (ns : List ℕ). map classOfUnits ns) h ∙ classes-of-numbers ds

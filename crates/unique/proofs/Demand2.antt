@@ -1,0 +1,121 @@
+-- Why demand 2 holds: the writer's rule gives the paper's lengths by definition; what the strip reader accepts has exactly the cells of the
+-- list that it gives, and the cells of every list within the limit read as that list. Rests on no axiom.
+use Prim.Native.Nat.{ℕ, _+_, _*_, _≤_}
+use mathlib.Core.Path.{_≡_, refl, sym, ap, subst, _∙_}
+use mathlib.Core.List.{List, map}
+use native.Mathlib.Omega.{arith}
+use lib.Dec.{ltb}
+use lib.ListN.{length, length-map}
+use borrow.Author.Tests.{le-ltb}
+use Rattle.lists.specs.Filled.{filled}
+use Rattle.refusal.specs.Answer.{accepted}
+use Rattle.refusal.proofs.AnswerLaws.{first-refusal-passes, refuse-if-passes, acceptance-fills-the-buffer}
+use Rattle.timing.specs.Profile.{profileRule}
+use Rattle.timing.specs.Class.{classesOf, classNumber, edgeRule}
+use Rattle.timing.specs.declared.Profile.{Profile}
+use Rattle.timing.specs.declared.Class.{Class}
+use Rattle.timing.proofs.ClassLaws.{classes-length}
+use Rattle.symbols.specs.Cells.{writtenCells}
+use Rattle.symbols.specs.Reading.{units}
+use Rattle.symbols.specs.Strip.{stripRule, stripItems}
+use Rattle.symbols.specs.declared.Cell.{Cell}
+use Rattle.symbols.proofs.RoundTripLaws.{cells-are-read, read-back, rule-of-write, cells-injective, write-of-read}
+use Rattle.symbols.proofs.UnitLaws.{cells-at-most}
+use Rattle.lengths.specs.Stream.{byteStream, streamOf, listRule}
+use Rattle.codec.specs.Writer.{streamRule, writeRule, writeOutput}
+use Rattle.codec.specs.Reader.{cellsOfClasses, cellsRead, itemsOfStream, readRule}
+use Rattle.unique.specs.Streams.{AcceptedProfile, AcceptedList, ReadsAs}
+use Rattle.unique.specs.Demand2.{CellsAreClasses, Demand2}
+use Rattle.unique.proofs.ListLaws.{listed, bytes-are-accepted}
+use Rattle.unique.proofs.ClassCells.{classes-are-cells, cells-are-classes}
+use Rattle.unique.proofs.ReadLaws.{Passed, passed-of-accepted, reads-as-its-list}
+
+-- ---- reading
+
+pub read-only-lists
+    : (p : Profile) (ds output : List ℕ)
+    → readRule p ds (length output) .number ≡ 0
+    → (ws : List ℕ) × AcceptedList ws × CellsAreClasses p ws ds × ReadsAs p ds output ws
+unfolding cellsRead itemsOfStream
+read-only-lists p ds output h =
+    let passed = passed-of-accepted p ds (length output) h in
+    let read = write-of-read (cellsRead p ds) (passed .strip) in
+    let few : length (stripItems (cellsRead p ds)) ≤ 6400 = subst (λ (n : ℕ). n ≤ 6400) (sym (read .count)) (read .few) in (
+      itemsOfStream p ds,
+      bytes-are-accepted (stripItems (cellsRead p ds)) (read .bytes) few,
+      cells-are-classes (classesOf p ds) (passed .edges) ∙ sym (read .cells),
+      reads-as-its-list p ds output (itemsOfStream p ds) passed refl,
+    )
+
+pub one-list
+    : (p : Profile) (ds us ws : List ℕ)
+    → AcceptedList us
+    → AcceptedList ws
+    → CellsAreClasses p us ds
+    → CellsAreClasses p ws ds
+    → us ≡ ws
+one-list p ds us ws a b g h = cells-injective us ws (listed a .bytes) (listed b .bytes) (sym g ∙ h)
+
+-- a stream whose classes are the cells of a list within the limit has no more intervals than a strip may have
+few-intervals : (p : Profile) (ds ws : List ℕ) → CellsAreClasses p ws ds → length ws ≤ 6400 → length ds ≤ 51202
+few-intervals p ds ws h few =
+    let same = sym (classes-length p ds) ∙ sym (length-map (classesOf p ds) classNumber) ∙ ap length h in
+    let most = cells-at-most ws in
+    omega arith
+
+pub every-list-is-read
+    : (p : Profile) (ds output ws : List ℕ)
+    → AcceptedProfile p
+    → AcceptedList ws
+    → CellsAreClasses p ws ds
+    → length ws ≤ length output
+    → ReadsAs p ds output ws
+unfolding cellsRead itemsOfStream
+every-list-is-read p ds output ws accepts a h enough =
+    let l = listed a in
+    let (xs, same) = cells-are-read ws in
+    let (edges, cells) = classes-are-cells (classesOf p ds) xs (h ∙ sym same) in
+    let items : itemsOfStream p ds ≡ ws = ap stripItems cells ∙ read-back ws xs (l .bytes) same .items in
+    let passed : Passed p ds (length output) =
+    record {
+      profile = accepts;
+      short = few-intervals p ds ws h (l .few);
+      edges = ap (λ a. a .number) edges;
+      strip = ap (λ (ys : List Cell). stripRule ys .number) cells ∙ ap (λ a. a .number) (rule-of-write ws xs (l .bytes) (l .few) same);
+      enough = subst (λ (us : List ℕ). length us ≤ length output) (sym items) enough;
+    } in
+    reads-as-its-list p ds output ws passed items
+
+-- ---- writing
+
+written-lengths
+    : (p : Profile) (items output : List ℕ)
+    → writeRule p items (length output) .number ≡ 0
+    → writeOutput p items output ≡ filled (streamOf p items) output
+unfolding writeOutput
+written-lengths p items output h =
+    acceptance-fills-the-buffer (writeRule p items (length output)) (streamOf p items) output h
+
+written-if-accepted
+    : (p : Profile) (items output : List ℕ)
+    → AcceptedProfile p
+    → listRule items .number ≡ 0
+    → length (streamOf p items) ≤ length output
+    → writeRule p items (length output) ≡ accepted (length (streamOf p items))
+unfolding writeRule streamRule streamOf
+written-if-accepted p items output accepts listed-items enough =
+    first-refusal-passes (profileRule p) _ accepts
+    ∙ first-refusal-passes (listRule items) _ listed-items
+    ∙ refuse-if-passes (ltb (length output) (length (streamOf p items))) 9 0 _
+    (le-ltb (length output) (length (streamOf p items)) enough)
+
+pub demand-2 : Demand2
+unfolding byteStream streamOf
+demand-2 =
+    record {
+      written-lengths = written-lengths;
+      written-if-accepted = written-if-accepted;
+      read-only-lists = read-only-lists;
+      one-list = one-list;
+      every-list-is-read = every-list-is-read;
+    }

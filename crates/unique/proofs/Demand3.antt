@@ -1,0 +1,159 @@
+-- Why demand 3 holds: within the margin every interval keeps the class of its cell, so both streams still read as the lists that were
+-- written; one half clock beyond it, an interval of a one-byte list changes its class, and other classes are refused or are another list.
+-- Rests on no axiom.
+use Prim.Native.Nat.{ℕ, _+_, _≤_, _<_, _^_}
+use mathlib.Core.Path.{_≡_, refl, sym, ap, subst, _∙_}
+use mathlib.Core.Bool.{Bool, true, false}
+use mathlib.Core.List.{List, [], _∷_, map}
+use native.Mathlib.Omega.{arith}
+use lib.Dec.{eqb}
+use lib.ListN.{length, getD, set, length-set}
+use lib.Seq.{getD-set-same, getD-set-other}
+use borrow.Author.Tests.{eqb-true, eqb-false}
+use Rattle.refusal.specs.Answer.{accepted}
+use Rattle.refusal.proofs.AnswerLaws.{first-refusal-passes}
+use Rattle.timing.specs.Profile.{profileRule}
+use Rattle.timing.specs.Class.{classesOf, classNumber}
+use Rattle.timing.specs.declared.Profile.{Profile}
+use Rattle.timing.specs.declared.Class.{Class}
+use Rattle.timing.proofs.ProfileLaws.{Kept, kept}
+use Rattle.symbols.specs.Cells.{writtenCells}
+use Rattle.symbols.specs.Reading.{units}
+use Rattle.symbols.proofs.RoundTripLaws.{cells-are-read}
+use Rattle.lengths.specs.Stream.{byteStream, streamOf}
+use Rattle.lengths.specs.Near.{Near, classOfUnits}
+use Rattle.lengths.specs.Margin.{IsMargin, marginOf, marginRule}
+use Rattle.lengths.proofs.WindowLaws.{near-stream-has-classes}
+use Rattle.lengths.proofs.MarginLaws.{Broken, margin-leaves-room, above-margin-is-broken}
+use Rattle.lengths.proofs.BrokenLaws.{brokenStream, broken-stream-is-near, broken-stream-has-other-classes}
+use Rattle.lengths.proofs.NearLaws.{near-of-each, near-at, near-itself, near-streams-are-equally-long}
+use Rattle.lengths.proofs.StreamLaws.{length-fits}
+use Rattle.lengths.proofs.PapersMargin.{margin-is-the-papers, one-byte-is-written}
+use Rattle.codec.specs.Reader.{readRule}
+use Rattle.unique.specs.Streams.{AcceptedProfile, AcceptedList, Moved, ReadsAs, OutputEnough, Misread, refused, another}
+use Rattle.unique.specs.Demand2.{CellsAreClasses}
+use Rattle.unique.specs.Demand3.{stated, Counterexample, Unmistaken, Demand3}
+use Rattle.unique.proofs.ListLaws.{listed, one-byte-is-listed}
+use Rattle.unique.proofs.ClassCells.{number-of-units, class-numbers-injective}
+use Rattle.unique.proofs.Demand2.{read-only-lists, one-list, every-list-is-read}
+
+stated-is-the-margin : (p : Profile) → AcceptedProfile p → stated p ≡ marginOf p
+unfolding marginRule
+stated-is-the-margin p h = ap (λ a. a .count) (first-refusal-passes (profileRule p) (accepted (marginOf p)) h)
+
+-- the numbers of the classes that the cells of written bytes ask for are the cells
+numbers-of-cells : (ws : List ℕ) → map classNumber (map classOfUnits (writtenCells ws)) ≡ writtenCells ws
+numbers-of-cells ws =
+    let (xs, same) = cells-are-read ws in
+    subst (λ (us : List ℕ). map classNumber (map classOfUnits us) ≡ us) same (number-of-units xs)
+
+module _ (p : Profile) (accepts : AcceptedProfile p) where
+  -- a stream near the written one has the cells' classes
+  near-has-cells : (ws ds : List ℕ) → Near (marginOf p) ds (byteStream p ws) → CellsAreClasses p ws ds
+  near-has-cells ws ds near =
+      ap (map classNumber) (near-stream-has-classes (margin-leaves-room (kept p accepts)) (kept p accepts) ws ds near)
+      ∙ numbers-of-cells ws
+
+  moved-has-cells
+      : (ws ds : List ℕ) → AcceptedList ws → Moved (stated p) (streamOf p ws) ds → CellsAreClasses p ws ds
+  unfolding streamOf
+  moved-has-cells ws ds a moved =
+      let stream : streamOf p ws ≡ byteStream p ws = ap (byteStream p) (listed a .as-written) in
+      near-has-cells ws ds
+      (subst (λ (ls : List ℕ). Near (marginOf p) ds ls) stream
+      (subst (λ (m : ℕ). Near m ds (streamOf p ws)) (stated-is-the-margin p accepts)
+      (near-of-each (stated p) ds (streamOf p ws) (moved .as-many)
+      (λ k h.
+      let j : k < length ds = subst (λ (n : ℕ). k < n) (sym (moved .as-many)) h in
+      (moved .no-longer k j, moved .no-shorter k j)))))
+
+  reads-back
+      : (ws : List ℕ)
+      → AcceptedList ws
+      → (changed : List ℕ)
+      → Moved (stated p) (streamOf p ws) changed
+      → (output : List ℕ)
+      → length ws ≤ length output
+      → ReadsAs p changed output ws
+  reads-back ws a changed moved output enough =
+      every-list-is-read p changed output ws accepts a (moved-has-cells ws changed a moved) enough
+
+  never-equal
+      : (us ws : List ℕ)
+      → AcceptedList us
+      → AcceptedList ws
+      → (us ≡ ws → ⊥)
+      → (changed-us changed-ws : List ℕ)
+      → Moved (stated p) (streamOf p us) changed-us
+      → Moved (stated p) (streamOf p ws) changed-ws
+      → changed-us ≡ changed-ws
+      → ⊥
+  never-equal us ws a b differ ds es moved-us moved-ws same =
+      differ
+      (one-list p es us ws a b
+      (subst (λ (xs : List ℕ). CellsAreClasses p us xs) same (moved-has-cells us ds a moved-us))
+      (moved-has-cells ws es b moved-ws))
+
+  -- a stream with other classes than the written one's is refused or read as another list
+  misread
+      : (b : ℕ) (ds output : List ℕ)
+      → (classesOf p ds ≡ classesOf p (byteStream p (b ∷ [])) → ⊥)
+      → (accepted-here : Bool)
+      → eqb (readRule p ds (length output) .number) 0 ≡ accepted-here
+      → Misread p ds output (b ∷ [])
+  misread b ds output other false e = refused (eqb-false _ 0 e)
+  misread b ds output other true e =
+      let (ws, a, cells, reads) = read-only-lists p ds output (eqb-true _ 0 e) in
+      another ws reads
+      (λ same.
+      other
+      (class-numbers-injective (classesOf p ds) (classesOf p (byteStream p (b ∷ [])))
+      (cells
+      ∙ ap writtenCells same
+      ∙ sym (near-has-cells (b ∷ []) (byteStream p (b ∷ [])) (near-itself (marginOf p) (byteStream p (b ∷ [])))))))
+
+  -- the stream with one interval moved still holds 16-bit numbers
+  broken-fits
+      : (n : ℕ) (x : Broken p n) (k : ℕ)
+      → k < length (brokenStream x)
+      → (at-place : Bool)
+      → eqb k (x .place) ≡ at-place
+      → getD (brokenStream x) k 0 < 2 ^ 16
+  broken-fits n x k h true e =
+      let there = getD-set-same (byteStream p (x .byte ∷ [])) (x .place) (x .moved) 0 (x .in-stream) in
+      rw (eqb-true k (x .place) e, there) (x .fits)
+  broken-fits n x k h false e =
+      let ls = byteStream p (x .byte ∷ []) in
+      rw (getD-set-other ls (x .place) k (x .moved) 0 (eqb-false k (x .place) e))
+      (length-fits (kept p accepts) (x .byte ∷ []) k (rw length-set at h))
+
+  moved-beyond : (n : ℕ) (x : Broken p n) → Moved n (streamOf p (x .byte ∷ [])) (brokenStream x)
+  moved-beyond n x =
+      let stream = one-byte-is-written p (x .byte) (x .is-byte) in
+      let near : Near n (brokenStream x) (streamOf p (x .byte ∷ [])) = rw stream (broken-stream-is-near x) in
+      record {
+        as-many = near-streams-are-equally-long n (brokenStream x) (streamOf p (x .byte ∷ [])) near;
+        sixteen-bits = λ k h. broken-fits n x k h (eqb k (x .place)) refl;
+        no-longer = λ k h. near-at n (brokenStream x) (streamOf p (x .byte ∷ [])) near k .0;
+        no-shorter = λ k h. near-at n (brokenStream x) (streamOf p (x .byte ∷ [])) near k .1;
+      }
+
+  largest : (n : ℕ) → stated p < n → Counterexample p n
+  largest n above =
+      let x : Broken p n = above-margin-is-broken (kept p accepts) n (subst (λ (m : ℕ). m < n) (stated-is-the-margin p accepts) above) in
+      record {
+        byte = x .byte;
+        accepted = one-byte-is-listed (x .byte) (x .is-byte);
+        changed = brokenStream x;
+        moved = moved-beyond n x;
+        misread = λ output enough. misread (x .byte) (brokenStream x) output (broken-stream-has-other-classes x) (eqb (readRule p (brokenStream x) (length output) .number) 0) refl;
+      }
+
+pub demand-3 : Demand3
+demand-3 p accepts =
+    record {
+      never-equal = never-equal p accepts;
+      reads-back = reads-back p accepts;
+      largest = largest p accepts;
+      papers-margin = subst (IsMargin p) (sym (stated-is-the-margin p accepts)) (margin-is-the-papers p accepts);
+    }

@@ -1,0 +1,35 @@
+-- The starred cases hold because the definitions compute to them. Rests on no axiom.
+use mathlib.Core.Path.{refl}
+use Rattle.items.specs.Item.{isMark, isCheck}
+use Rattle.items.specs.Written.{itemBytes, writtenFrom, written}
+use Rattle.symbols.specs.Bits.{byteBits, withGaps, markBits, writtenBits, allBits, bitsOf}
+use Rattle.symbols.specs.Cells.{pairSymbols, symbolsFrom, symbolsOf, writtenSymbols}
+use Rattle.lists.specs.Place.{anywhere, lowest}
+use Rattle.timing.specs.Profile.{unset, isTrue, profileRule}
+use Rattle.timing.specs.Class.{classOf, classesOf}
+use Rattle.lengths.specs.Lengths.{point, symbolAfter, cellLength, lengthsFrom, lengthsOf}
+use Rattle.lengths.specs.Stream.{byteStream, streamOf}
+use Rattle.lengths.specs.Margin.{marginOf, marginRule}
+use Rattle.unique.specs.Settled.{SettledCases}
+
+pub settled-cases : SettledCases
+unfolding isMark isCheck itemBytes writtenFrom written byteBits withGaps markBits writtenBits allBits bitsOf pairSymbols symbolsFrom symbolsOf writtenSymbols anywhere lowest unset isTrue profileRule classOf classesOf point symbolAfter cellLength lengthsFrom lengthsOf byteStream streamOf marginOf marginRule
+settled-cases =
+    record {
+      no-item = refl;
+      data-00 = refl;
+      data-ff = refl;
+      mark-a1 = refl;
+      data-a1 = refl;
+      mark-c2 = refl;
+      margin-10 = refl;
+      narrow-35 = refl;
+      two-36 = refl;
+      two-72 = refl;
+      three-73 = refl;
+      three-105 = refl;
+      four-106 = refl;
+      four-138 = refl;
+      wide-139 = refl;
+      source-3-5 = refl;
+    }

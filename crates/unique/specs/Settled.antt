@@ -1,0 +1,56 @@
+-- Document 01, "Settled by this profile": the starred cases, gathered under one claim. No lemmas here.
+use Prim.Native.Nat.{ℕ, _+_}
+use mathlib.Core.Path.{_≡_}
+use mathlib.Core.Bool.{true, false}
+use mathlib.Core.List.{List, [], _∷_, map}
+use lib.ListN.{replicate}
+use Rattle.refusal.specs.Answer.{accepted}
+use Rattle.timing.specs.Class.{classOf, classesOf, classNumber}
+use Rattle.timing.specs.declared.Profile.{Profile}
+use Rattle.timing.specs.declared.Class.the-variants.{Narrow, Two, Three, Four, Wide}
+use Rattle.lengths.specs.Lengths.{lengthsOf}
+use Rattle.lengths.specs.Stream.{streamOf}
+use Rattle.lengths.specs.Margin.{marginRule}
+
+-- a profile with another T0
+abbrev pub profileWith : ℕ → Profile
+profileWith t0 =
+    record {
+      t1 = record { 0 = 58 };
+      t0 = record { 0 = t0 };
+      early = record { 0 = 8 };
+      normal = record { 0 = 10 };
+      late = record { 0 = 12 };
+      min = record { 0 = 36 };
+      b23 = record { 0 = 73 };
+      b34 = record { 0 = 106 };
+      rpt = record { 0 = 139 };
+    }
+
+-- profile 58 29 8 10 12 36 73 106 139
+abbrev pub worked : Profile
+worked = profileWith 29
+
+-- the classes of the writer's result
+abbrev pub writtenClasses : List ℕ → List ℕ
+writtenClasses items = map classNumber (classesOf worked (streamOf worked items))
+
+pub record SettledCases : Type 0 where
+  pub no-item : streamOf worked [] ≡ 58 ∷ 58 ∷ []
+  pub data-00 : streamOf worked (0x00 ∷ []) ≡ replicate 10 58
+  pub data-ff : streamOf worked (0xff ∷ []) ≡ 95 ∷ 54 ∷ 58 ∷ 58 ∷ 58 ∷ 58 ∷ 58 ∷ 54 ∷ 95 ∷ []
+  pub mark-a1 : streamOf worked ((256 + 0xa1) ∷ []) ≡ 91 ∷ 116 ∷ 87 ∷ 116 ∷ 87 ∷ 91 ∷ []
+  pub data-a1 : writtenClasses (0xa1 ∷ []) ≡ 3 ∷ 4 ∷ 3 ∷ 2 ∷ 2 ∷ 3 ∷ 3 ∷ []
+  pub mark-c2 : writtenClasses ((256 + 0xc2) ∷ []) ≡ 3 ∷ 2 ∷ 3 ∷ 4 ∷ 3 ∷ 3 ∷ 2 ∷ []
+  pub margin-10 : marginRule worked ≡ accepted 10
+  pub narrow-35 : classOf worked 35 ≡ Narrow
+  pub two-36 : classOf worked 36 ≡ Two
+  pub two-72 : classOf worked 72 ≡ Two
+  pub three-73 : classOf worked 73 ≡ Three
+  pub three-105 : classOf worked 105 ≡ Three
+  pub four-106 : classOf worked 106 ≡ Four
+  pub four-138 : classOf worked 138 ≡ Four
+  pub wide-139 : classOf worked 139 ≡ Wide
+  -- T0 = 28, symbols 1 1 0 0 1 1
+  pub source-3-5
+      : lengthsOf (profileWith 28) (true ∷ true ∷ false ∷ false ∷ true ∷ true ∷ []) ≡ 58 ∷ 54 ∷ 122 ∷ 54 ∷ []

@@ -1,0 +1,1 @@
+// No code: demands 2 and 3 and the settled cases of document 01, stated over the definitions that the contracts cite, and proved.

@@ -1,0 +1,256 @@
+/*
+ * ism.h - MFM flux intervals after the ISM chip (ISM ASIC specification, revision 4.1, July 1987).
+ *
+ * The library turns data bytes, mark bytes and check orders into the intervals between flux transitions, with write
+ * precompensation, and turns measured intervals back into bytes. It also finds the address mark behind a sync field,
+ * reads one field, makes the items of one sector and models the chip's two-item FIFO with its error register.
+ *
+ * Common to all functions
+ *
+ *   No state, no heap, no input or output. Every function is a plain function of its arguments, so calls on buffers of
+ *   their own may run at the same time, also from an interrupt.
+ *
+ *   Every argument value is answered. A refusal comes back in `number` and `place`, changes no buffer, and leaves
+ *   `count`, `used` and `holds` 0. When several causes hold at once, the first in the order listed at the function is
+ *   answered.
+ *
+ *   On acceptance `number` and `place` are 0, the result fills the front of the output, and the rest of the output
+ *   keeps its contents. Fields of an answer that a function does not give are 0.
+ *
+ *   An interval is a number of half clocks, 0 to 65,535. Early, Normal and Late are whole clocks.
+ *
+ * What the caller must not do, since C cannot check it
+ *
+ *   Give a length that is not that of the buffer. Lengths count elements, not bytes. With a length of 0 the pointer is
+ *   not followed and may be null.
+ *   Let the output overlap the input, or change either of them during the call.
+ *   Give a pointer that is not aligned for its type.
+ */
+#ifndef ISM_H
+#define ISM_H
+
+#include <stddef.h>
+#include <stdint.h>
+
+#ifdef __cplusplus
+extern "C" {
+#endif
+
+/*
+ * Why a call was refused. `place` counts from 0, except for ISM_UNSET and ISM_GARBLED; where no place is named it is 0.
+ */
+#define ISM_ACCEPTED 0u  /* not refused */
+#define ISM_UNSET 1u     /* profile number out of range; place: which of the nine, 1 to 9, the lowest */
+#define ISM_CROSSED 2u   /* profile not true: its windows miss its own cell lengths */
+#define ISM_FOREIGN 3u   /* not an item; place: the lowest such item */
+#define ISM_OVERLONG 4u  /* over 6,400 items, written bytes or bytes read, or over 51,202 intervals in a strip */
+#define ISM_NARROW 5u    /* interval below Min; place: the interval */
+#define ISM_WIDE 6u      /* interval of Rpt or more; place: the interval */
+#define ISM_RAGGED 7u    /* the bits are not 8n + 2, or the last of them is 1 */
+#define ISM_STRAY 8u     /* a mark's gap out of place; place: the lowest such interval */
+#define ISM_FULL 9u      /* output shorter than the result */
+#define ISM_ADRIFT 10u   /* no lock */
+#define ISM_SHORT 11u    /* the list ends before n bytes */
+#define ISM_MISCOUNT 12u /* n outside 1 to 1,030 */
+#define ISM_MISFIT 13u   /* length code above 3, or data not that long */
+#define ISM_GARBLED 14u  /* only from the strip program: input not in its form; place: lowest faulty line, from 1 */
+
+/* Limits. ISM_MAX_INTERVALS intervals always hold the stream of ISM_MAX_BYTES written bytes. */
+#define ISM_MAX_BYTES 6400u
+#define ISM_MAX_INTERVALS 51202u
+#define ISM_MAX_FIELD_BYTES 1030u
+
+/*
+ * Items: 0 to 255 is a data byte, ISM_MARK_A1 and ISM_MARK_C2 are the two mark bytes, ISM_CHECK is a check order. No
+ * other number is an item. A check order is written as two data bytes: the CRC register, high byte first.
+ *
+ * Written bytes are the data and mark bytes, each check order counting two. The CRC register has the polynomial
+ * x^16 + x^12 + x^5 + 1, most significant bit first. It is all ones at the start of a list and again before a mark
+ * byte that does not follow a mark byte. Every written byte passes through it, check bytes included.
+ */
+#define ISM_MARK 0x100u
+#define ISM_MARK_A1 0x1A1u
+#define ISM_MARK_C2 0x1C2u
+#define ISM_CHECK 0x200u
+
+/*
+ * The timing of one drive type.
+ *
+ *   t1, t0              1 to 1,023   half clocks: a cell of 2 units; each further unit
+ *   early, normal, late 0 to 15      whole clocks: compare points of write precompensation
+ *   min, b23, b34, rpt  1 to 4,095   half clocks: lower edges of class 2, class 3, class 4 and wide
+ *
+ * Let D be 2 x (late - early). The profile is true if early <= normal <= late and
+ *   min <= t1 - D,  t1 < b23 <= t1 + t0,  t1 + t0 + D < b34 <= t1 + 2 x t0,  t1 + 2 x t0 + D < rpt.
+ */
+typedef struct {
+    uint16_t t1, t0, early, normal, late, min, b23, b34, rpt;
+} ism_profile;
+
+/* What a call answers. `number` is ISM_ACCEPTED or a refusal. */
+typedef struct {
+    uint32_t number, place;
+    uint64_t count, used;
+    uint32_t holds;
+} ism_answer;
+
+/*
+ * The margin: the largest number of half clocks by which every interval of every accepted list may be longer or
+ * shorter and still keep its class.
+ *
+ *   count     the margin
+ *   refusals  ISM_UNSET, ISM_CROSSED
+ */
+ism_answer ism_margin(ism_profile profile);
+
+/* Classes of an interval, as ism_class counts them. An interval that equals an edge belongs above it. */
+#define ISM_CLASS_NARROW 1u /* below min */
+#define ISM_CLASS_2 2u      /* min to b23 - 1 */
+#define ISM_CLASS_3 3u      /* b23 to b34 - 1 */
+#define ISM_CLASS_4 4u      /* b34 to rpt - 1 */
+#define ISM_CLASS_WIDE 5u   /* rpt or more */
+
+/*
+ * The class of one interval.
+ *
+ *   count     ISM_CLASS_NARROW, ISM_CLASS_2, ISM_CLASS_3, ISM_CLASS_4 or ISM_CLASS_WIDE
+ *   refusals  ISM_UNSET, ISM_CROSSED; a narrow or wide interval is not refused here
+ */
+ism_answer ism_class(ism_profile profile, uint16_t interval);
+
+/*
+ * Writer: the intervals of a list of items, early and late points included. The bits are a lead 0, the written bytes
+ * most significant bit first, and two closing 0s.
+ *
+ *   items, n   the items; a mark may stand anywhere
+ *   out, room  the intervals; 8 x (written bytes) + 2 is always room enough
+ *   count      intervals written
+ *   refusals   ISM_UNSET, ISM_CROSSED, ISM_OVERLONG (over 6,400 items or written bytes), ISM_FOREIGN, ISM_FULL
+ *
+ * In counting written bytes, 512 counts two and every other number one, an item or not. A list of no items gives two
+ * intervals.
+ */
+ism_answer ism_write(ism_profile profile, const uint16_t *items, size_t n, uint16_t *out, size_t room);
+
+/*
+ * Strip reader: the items of a whole stream, such as ism_write gives.
+ *
+ *   intervals, n  the whole stream
+ *   out, room     the items: a data byte, or ISM_MARK plus the byte for a mark; n / 4 is always room enough
+ *   count         items
+ *   refusals      ISM_UNSET, ISM_CROSSED, ISM_OVERLONG (over 51,202 intervals), the first of ISM_NARROW or ISM_WIDE,
+ *                 ISM_RAGGED, ISM_OVERLONG (over 6,400 bytes), ISM_STRAY, ISM_FULL
+ *
+ * Check bytes come back as the two data bytes they are. No intervals at all are ISM_RAGGED.
+ */
+ism_answer ism_read(ism_profile profile, const uint16_t *intervals, size_t n, uint16_t *out, size_t room);
+
+/*
+ * Finder: the first mark behind a sync field. A lock stands at place k if the 64 intervals before k are of class 2 and
+ * those from k are of classes 3 4 3 4 3 (A1) or 3 2 3 4 3 (C2).
+ *
+ *   intervals, n  any number of intervals; narrow and wide ones break a run and are not refused
+ *   start         all 64 must be at or after this place; any number
+ *   count         the smallest such place k, at most n - 5
+ *   refusals      ISM_UNSET, ISM_CROSSED, ISM_ADRIFT
+ *
+ * To read the field behind the lock, its marks included, give ism_read_field the list from place k. To find the next
+ * lock, take this k as the new start.
+ */
+ism_answer ism_find(ism_profile profile, const uint16_t *intervals, size_t n, uint64_t start);
+
+/*
+ * Field reader: so many bytes from the first interval of a list. It uses intervals until 1 + 8 x bytes bits are known:
+ * the lead 0 and the bytes. What follows the used intervals has no influence.
+ *
+ *   intervals, n  a list beginning with the first interval of the field, such as the place of a lock
+ *   bytes         bytes to read, 1 to 1,030, check bytes included
+ *   out, room     the items: a data byte, or ISM_MARK plus the byte for a mark; `bytes` of them
+ *   count         items, equal to `bytes`
+ *   used          intervals used; the rest of the list begins there
+ *   holds         1 if the CRC register is zero after the items, else 0
+ *   refusals      ISM_UNSET, ISM_CROSSED, ISM_MISCOUNT, then ISM_NARROW, ISM_WIDE or ISM_SHORT as first met,
+ *                 ISM_STRAY (any gap out of place in the used intervals; one on the lead 0 or one that runs past the
+ *                 bytes is out of place), ISM_FULL
+ */
+ism_answer ism_read_field(ism_profile profile, const uint16_t *intervals, size_t n, uint64_t bytes, uint16_t *out,
+                          size_t room);
+
+/*
+ * Sector maker: the items of an ID field and a data field, for ism_write.
+ *
+ *   12 of 00, three marks A1, FE, track, side, sector, code, check, 22 of 4E,
+ *   12 of 00, three marks A1, FB, the data, check, 54 of 4E
+ *
+ *   code       length code: 0, 1, 2, 3 for 128, 256, 512, 1,024 data bytes
+ *   data, n    the data bytes, exactly as many as the code says
+ *   out, room  the items; n + 114 of them
+ *   count      items
+ *   refusals   ISM_MISFIT, ISM_FULL
+ */
+ism_answer ism_make_sector(uint8_t track, uint8_t side, uint8_t sector, uint8_t code, const uint8_t *data, size_t n,
+                           uint16_t *out, size_t room);
+
+/*
+ * The FIFO of two items and the error register, first in first out. Each operation takes a state and hands back the
+ * next one; keep `next` and give it to the following operation.
+ *
+ *   mode           0 is write mode, any other number is read mode
+ *   held           0 empty, 1 one item, any other number two items
+ *   first, second  the items in the order in which they leave; a place that `held` does not count means nothing
+ *   error          the error register: ISM_ERROR_ bits
+ *
+ * In write mode the processor puts and the chip takes; in read mode the chip puts and the processor takes. An
+ * operation that the mode does not give to that side changes nothing and gives 0, before any other test.
+ *
+ * Once a bit of the error register is set, no other is set until the register is read, which clears it.
+ */
+typedef struct {
+    uint16_t mode, held, first, second, error;
+} ism_fifo;
+
+#define ISM_FIFO_WRITE 0u
+#define ISM_FIFO_READ 1u
+
+#define ISM_ERROR_CHIP 1u         /* bit 0: the chip put when full or took when empty */
+#define ISM_ERROR_MARK_AS_DATA 2u /* bit 1: the processor took a mark at the data location */
+#define ISM_ERROR_PROCESSOR 4u    /* bit 2: the processor put when full or took when empty */
+
+/* What a FIFO operation answers: a refusal or 0, the item given, and the next state. */
+typedef struct {
+    uint32_t number, place;
+    uint16_t item;
+    ism_fifo next;
+} ism_fifo_answer;
+
+/* An empty FIFO with register 0. */
+ism_fifo ism_fifo_new(uint16_t mode);
+
+/*
+ * A put: the processor in write mode, the chip in read mode. `item` of the answer is always 0.
+ *
+ *   refusals  ISM_FOREIGN, place 0, state unchanged, if the number is no item; tested before full
+ *   fault     put when full: the item is dropped, ISM_ERROR_PROCESSOR or ISM_ERROR_CHIP
+ */
+ism_fifo_answer ism_fifo_put(ism_fifo fifo, uint16_t item);
+ism_fifo_answer ism_fifo_chip_put(ism_fifo fifo, uint16_t item);
+
+/*
+ * A take: the chip in write mode, the processor in read mode, at the data or the mark location. Never refused.
+ *
+ *   item   the item that leaves the FIFO
+ *   fault  take when empty: item 0, ISM_ERROR_PROCESSOR or ISM_ERROR_CHIP
+ *          mark taken by the processor at the data location: handed over, ISM_ERROR_MARK_AS_DATA
+ */
+ism_fifo_answer ism_fifo_take_data(ism_fifo fifo);
+ism_fifo_answer ism_fifo_take_mark(ism_fifo fifo);
+ism_fifo_answer ism_fifo_chip_take(ism_fifo fifo);
+
+/* The error register, in either mode: `item` is its value, and it is 0 in the next state. Never refused. */
+ism_fifo_answer ism_fifo_read_error(ism_fifo fifo);
+
+#ifdef __cplusplus
+}
+#endif
+
+#endif

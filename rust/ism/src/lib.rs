@@ -1,0 +1,143 @@
+//! MFM flux intervals after the ISM chip: safe functions over `libism.a`.
+//!
+//! Items are numbers: 0 to 255 a data byte, [`MARK_A1`] and [`MARK_C2`] the mark bytes, [`CHECK`] a check order.
+//! Intervals are half clocks. A refused call returns a [`Refusal`] and changes no buffer; an accepted one fills the
+//! front of the output and leaves the rest as it was.
+//!
+//! ```no_run
+//! let profile = ism::Profile { t1: 58, t0: 29, early: 8, normal: 10, late: 12, min: 36, b23: 73, b34: 106, rpt: 139 };
+//! let mut intervals = [0; 64];
+//! let count = ism::write(profile, &[ism::MARK_A1, 0xFE, ism::CHECK], &mut intervals)?;
+//! let mut items = [0; 16];
+//! let read = ism::read(profile, &intervals[..count], &mut items)?;
+//! assert_eq!(items[..2], [ism::MARK_A1, 0xFE]);
+//! assert_eq!(read, 4); // the check order has become two bytes
+//! # Ok::<(), ism::Refusal>(())
+//! ```
+
+mod fifo;
+mod refusal;
+pub mod sys;
+
+pub use fifo::{Fifo, FifoMode};
+pub use refusal::Refusal;
+pub use sys::Profile;
+
+use refusal::accepted;
+
+/// Mark byte A1 as an item.
+pub const MARK_A1: u16 = 0x1A1;
+/// Mark byte C2 as an item.
+pub const MARK_C2: u16 = 0x1C2;
+/// A check order: two bytes, the CRC register.
+pub const CHECK: u16 = 0x200;
+/// The most items, written bytes, or bytes read in one strip.
+pub const MAX_BYTES: usize = 6_400;
+/// The most intervals of one strip; always room enough for [`write`].
+pub const MAX_INTERVALS: usize = 51_202;
+/// The most bytes of one field.
+pub const MAX_FIELD_BYTES: u64 = 1_030;
+/// Items that [`make_sector`] adds to the data.
+pub const SECTOR_OVERHEAD: usize = 114;
+
+/// The class of an interval.
+#[derive(Clone, Copy, Debug, PartialEq, Eq, PartialOrd, Ord)]
+pub enum Class {
+    Narrow,
+    Two,
+    Three,
+    Four,
+    Wide,
+}
+
+/// What the field reader gives besides the items.
+#[derive(Clone, Copy, Debug, PartialEq, Eq)]
+pub struct Field {
+    /// items read, equal to the count asked for
+    pub items: usize,
+    /// intervals used; the rest of the list begins there
+    pub used: usize,
+    /// whether the CRC register is zero after the items
+    pub holds: bool,
+}
+
+/// Track, side, sector and length code of an ID field.
+#[derive(Clone, Copy, Debug, PartialEq, Eq)]
+pub struct SectorId {
+    pub track: u8,
+    pub side: u8,
+    pub sector: u8,
+    /// 0, 1, 2, 3 for 128, 256, 512, 1,024 bytes
+    pub code: u8,
+}
+
+/// Half clocks by which every interval may be longer or shorter and still be read as written.
+pub fn margin(profile: Profile) -> Result<u64, Refusal> {
+    // SAFETY: numbers in, numbers out
+    let answer = unsafe { sys::ism_margin(profile) };
+    Ok(accepted(answer)?.count)
+}
+
+/// The class of one interval.
+pub fn classify(profile: Profile, interval: u16) -> Result<Class, Refusal> {
+    // SAFETY: numbers in, numbers out
+    let answer = unsafe { sys::ism_class(profile, interval) };
+    Ok(match accepted(answer)?.count {
+        1 => Class::Narrow,
+        2 => Class::Two,
+        3 => Class::Three,
+        4 => Class::Four,
+        _ => Class::Wide,
+    })
+}
+
+/// Writes the intervals of `items` to the front of `out` and gives their count.
+///
+/// Refusals in order: profile, too long, not an item, output too short.
+pub fn write(profile: Profile, items: &[u16], out: &mut [u16]) -> Result<usize, Refusal> {
+    // SAFETY: each pointer comes with the length of its slice, and slices do not overlap
+    let answer = unsafe { sys::ism_write(profile, items.as_ptr(), items.len(), out.as_mut_ptr(), out.len()) };
+    Ok(accepted(answer)?.count as usize)
+}
+
+/// Reads the items of a whole stream to the front of `out` and gives their count.
+///
+/// Refusals in order: profile, too many intervals, interval too short or too long, not whole bytes, too many bytes,
+/// misplaced mark, output too short.
+pub fn read(profile: Profile, intervals: &[u16], out: &mut [u16]) -> Result<usize, Refusal> {
+    // SAFETY: each pointer comes with the length of its slice, and slices do not overlap
+    let answer = unsafe { sys::ism_read(profile, intervals.as_ptr(), intervals.len(), out.as_mut_ptr(), out.len()) };
+    Ok(accepted(answer)?.count as usize)
+}
+
+/// The first place at which a mark stands behind 64 intervals of class 2, all of them at or after `start`.
+pub fn find_lock(profile: Profile, intervals: &[u16], start: u64) -> Result<usize, Refusal> {
+    // SAFETY: the pointer comes with the length of its slice
+    let answer = unsafe { sys::ism_find(profile, intervals.as_ptr(), intervals.len(), start) };
+    Ok(accepted(answer)?.count as usize)
+}
+
+/// Reads `bytes` items from the first interval on to the front of `out`.
+///
+/// Refusals in order: profile, count out of range, interval too short, too long or ends early as first met, misplaced
+/// mark, output too short.
+pub fn read_field(profile: Profile, intervals: &[u16], bytes: u64, out: &mut [u16]) -> Result<Field, Refusal> {
+    // SAFETY: each pointer comes with the length of its slice, and slices do not overlap
+    let answer = unsafe {
+        sys::ism_read_field(profile, intervals.as_ptr(), intervals.len(), bytes, out.as_mut_ptr(), out.len())
+    };
+    let answer = accepted(answer)?;
+    Ok(Field { items: answer.count as usize, used: answer.used as usize, holds: answer.holds != 0 })
+}
+
+/// Makes the items of one sector at the front of `out` and gives their count, `data.len() + SECTOR_OVERHEAD`.
+///
+/// Refusals in order: sector size mismatch, output too short.
+pub fn make_sector(id: SectorId, data: &[u8], out: &mut [u16]) -> Result<usize, Refusal> {
+    let SectorId { track, side, sector, code } = id;
+    // SAFETY: each pointer comes with the length of its slice, and slices do not overlap
+    let answer = unsafe {
+        sys::ism_make_sector(track, side, sector, code, data.as_ptr(), data.len(), out.as_mut_ptr(), out.len())
+    };
+    Ok(accepted(answer)?.count as usize)
+}

@@ -1,0 +1,124 @@
+//! Why a call was refused.
+
+use std::fmt;
+
+use crate::sys::Answer;
+
+/// A refusal with its number and place. A refused call has changed no buffer.
+#[derive(Clone, Copy, Debug, PartialEq, Eq, Hash)]
+pub enum Refusal {
+    /// 1, unset: a profile number is out of range; `field` is which of the nine, 1 to 9, the lowest
+    ProfileOutOfRange { field: u32 },
+    /// 2, crossed: the windows of the profile miss its own cell lengths
+    ProfileInconsistent,
+    /// 3, foreign: the lowest number in the list that is no item
+    NotAnItem { place: u32 },
+    /// 4, overlong: over 6,400 items, written bytes or bytes read, or over 51,202 intervals in a strip
+    TooLong,
+    /// 5, narrow: an interval below Min
+    IntervalTooShort { place: u32 },
+    /// 6, wide: an interval of Rpt or more
+    IntervalTooLong { place: u32 },
+    /// 7, ragged: the bits are not whole bytes with the lead 0 and a closing 0
+    NotWholeBytes,
+    /// 8, stray: the lowest interval that is a mark's gap out of place
+    MisplacedMark { place: u32 },
+    /// 9, full: the output is shorter than the result
+    OutputTooShort,
+    /// 10, adrift: no lock at or after the start
+    NoLock,
+    /// 11, short: the list ends before the bytes asked for
+    EndsEarly,
+    /// 12, miscount: the byte count is outside 1 to 1,030
+    CountOutOfRange,
+    /// 13, misfit: length code above 3, or data not that long
+    SectorSizeMismatch,
+    /// A number that this version of the interface does not list: the linked library is of another version
+    Unlisted { number: u32, place: u32 },
+}
+
+impl Refusal {
+    /// The refusal that a C answer carries, if its number is not 0.
+    pub(crate) fn from_numbers(number: u32, place: u32) -> Option<Refusal> {
+        Some(match number {
+            0 => return None,
+            1 => Refusal::ProfileOutOfRange { field: place },
+            2 => Refusal::ProfileInconsistent,
+            3 => Refusal::NotAnItem { place },
+            4 => Refusal::TooLong,
+            5 => Refusal::IntervalTooShort { place },
+            6 => Refusal::IntervalTooLong { place },
+            7 => Refusal::NotWholeBytes,
+            8 => Refusal::MisplacedMark { place },
+            9 => Refusal::OutputTooShort,
+            10 => Refusal::NoLock,
+            11 => Refusal::EndsEarly,
+            12 => Refusal::CountOutOfRange,
+            13 => Refusal::SectorSizeMismatch,
+            _ => Refusal::Unlisted { number, place },
+        })
+    }
+
+    /// The number in the table of refusals.
+    pub fn number(&self) -> u32 {
+        match self {
+            Refusal::ProfileOutOfRange { .. } => 1,
+            Refusal::ProfileInconsistent => 2,
+            Refusal::NotAnItem { .. } => 3,
+            Refusal::TooLong => 4,
+            Refusal::IntervalTooShort { .. } => 5,
+            Refusal::IntervalTooLong { .. } => 6,
+            Refusal::NotWholeBytes => 7,
+            Refusal::MisplacedMark { .. } => 8,
+            Refusal::OutputTooShort => 9,
+            Refusal::NoLock => 10,
+            Refusal::EndsEarly => 11,
+            Refusal::CountOutOfRange => 12,
+            Refusal::SectorSizeMismatch => 13,
+            Refusal::Unlisted { number, .. } => *number,
+        }
+    }
+
+    /// The place: which profile number (from 1), which item or interval (from 0), otherwise 0.
+    pub fn place(&self) -> u32 {
+        match self {
+            Refusal::ProfileOutOfRange { field } => *field,
+            Refusal::NotAnItem { place }
+            | Refusal::IntervalTooShort { place }
+            | Refusal::IntervalTooLong { place }
+            | Refusal::MisplacedMark { place }
+            | Refusal::Unlisted { place, .. } => *place,
+            _ => 0,
+        }
+    }
+}
+
+impl fmt::Display for Refusal {
+    fn fmt(&self, f: &mut fmt::Formatter<'_>) -> fmt::Result {
+        match self {
+            Refusal::ProfileOutOfRange { field } => write!(f, "profile number {field} of 9 is out of range"),
+            Refusal::ProfileInconsistent => write!(f, "the profile's windows miss its own cell lengths"),
+            Refusal::NotAnItem { place } => {
+                write!(f, "number {place} of the list is no data byte, mark A1 or C2, or check order")
+            }
+            Refusal::TooLong => write!(f, "more than 6,400 bytes or 51,202 intervals"),
+            Refusal::IntervalTooShort { place } => write!(f, "interval {place} is below Min"),
+            Refusal::IntervalTooLong { place } => write!(f, "interval {place} is Rpt or more"),
+            Refusal::NotWholeBytes => write!(f, "the intervals do not end on a whole byte"),
+            Refusal::MisplacedMark { place } => write!(f, "interval {place} is a mark's gap outside a mark byte"),
+            Refusal::OutputTooShort => write!(f, "the output is shorter than the result"),
+            Refusal::NoLock => write!(f, "no sync field with a mark behind it"),
+            Refusal::EndsEarly => write!(f, "the intervals end before the bytes asked for"),
+            Refusal::CountOutOfRange => write!(f, "the byte count is outside 1 to 1,030"),
+            Refusal::SectorSizeMismatch => write!(f, "the length code is above 3 or the data is not that long"),
+            Refusal::Unlisted { number, place } => write!(f, "unlisted refusal {number} at place {place}"),
+        }
+    }
+}
+
+impl std::error::Error for Refusal {}
+
+/// The answer itself if it is an acceptance.
+pub(crate) fn accepted(answer: Answer) -> Result<Answer, Refusal> {
+    Refusal::from_numbers(answer.number, answer.place).map_or(Ok(answer), Err)
+}

@@ -1,0 +1,82 @@
+//! The C interface as `include/ism.h` declares it. The header says what each function gives; prefer the safe functions
+//! of this crate.
+
+/// `ism_profile`
+#[repr(C)]
+#[derive(Clone, Copy, Debug, PartialEq, Eq)]
+pub struct Profile {
+    pub t1: u16,
+    pub t0: u16,
+    pub early: u16,
+    pub normal: u16,
+    pub late: u16,
+    pub min: u16,
+    pub b23: u16,
+    pub b34: u16,
+    pub rpt: u16,
+}
+
+/// `ism_answer`
+#[repr(C)]
+#[derive(Clone, Copy, Debug, PartialEq, Eq)]
+pub struct Answer {
+    pub number: u32,
+    pub place: u32,
+    pub count: u64,
+    pub used: u64,
+    pub holds: u32,
+}
+
+/// `ism_fifo`
+#[repr(C)]
+#[derive(Clone, Copy, Debug, PartialEq, Eq)]
+pub struct Fifo {
+    pub mode: u16,
+    pub held: u16,
+    pub first: u16,
+    pub second: u16,
+    pub error: u16,
+}
+
+/// `ism_fifo_answer`
+#[repr(C)]
+#[derive(Clone, Copy, Debug, PartialEq, Eq)]
+pub struct FifoAnswer {
+    pub number: u32,
+    pub place: u32,
+    pub item: u16,
+    pub next: Fifo,
+}
+
+extern "C" {
+    pub fn ism_margin(profile: Profile) -> Answer;
+    pub fn ism_class(profile: Profile, interval: u16) -> Answer;
+    pub fn ism_write(profile: Profile, items: *const u16, n: usize, out: *mut u16, room: usize) -> Answer;
+    pub fn ism_read(profile: Profile, intervals: *const u16, n: usize, out: *mut u16, room: usize) -> Answer;
+    pub fn ism_find(profile: Profile, intervals: *const u16, n: usize, start: u64) -> Answer;
+    pub fn ism_read_field(
+        profile: Profile,
+        intervals: *const u16,
+        n: usize,
+        bytes: u64,
+        out: *mut u16,
+        room: usize,
+    ) -> Answer;
+    pub fn ism_make_sector(
+        track: u8,
+        side: u8,
+        sector: u8,
+        code: u8,
+        data: *const u8,
+        n: usize,
+        out: *mut u16,
+        room: usize,
+    ) -> Answer;
+    pub fn ism_fifo_new(mode: u16) -> Fifo;
+    pub fn ism_fifo_put(fifo: Fifo, item: u16) -> FifoAnswer;
+    pub fn ism_fifo_chip_put(fifo: Fifo, item: u16) -> FifoAnswer;
+    pub fn ism_fifo_take_data(fifo: Fifo) -> FifoAnswer;
+    pub fn ism_fifo_take_mark(fifo: Fifo) -> FifoAnswer;
+    pub fn ism_fifo_chip_take(fifo: Fifo) -> FifoAnswer;
+    pub fn ism_fifo_read_error(fifo: Fifo) -> FifoAnswer;
+}

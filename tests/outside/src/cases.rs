@@ -1,0 +1,17 @@
+//! The groups of cases.
+
+pub mod faults;
+pub mod fields;
+pub mod fifo;
+pub mod limits;
+pub mod margins;
+pub mod profiles;
+pub mod sectors;
+pub mod settled;
+pub mod strip_texts;
+pub mod strips;
+
+use crate::paper::Nine;
+
+/// The paper's worked profile.
+pub const WORKED: Nine = [58, 29, 8, 10, 12, 36, 73, 106, 139];

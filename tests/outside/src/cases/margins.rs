@@ -1,0 +1,63 @@
+//! What the drive does to the intervals: up to the margin nothing is lost, one half clock more loses something.
+
+use crate::compare::{profile, Compare};
+use crate::paper::{self, is_item, single_bytes, stream_of, written_bytes, Nine};
+use crate::random::Random;
+
+/// Intervals moved by at most the margin read back as the list that was written.
+pub fn within_margin(compare: &mut Compare, random: &mut Random) {
+    for _ in 0..10_000 {
+        let nine = random.true_profile();
+        let length = random.length(60);
+        let items = random.items(length);
+        assert!(items.iter().all(|i| is_item(*i)));
+        let written: Vec<u16> = written_bytes(&items).iter().map(|w| w.item()).collect();
+        let moved = shifted(&nine, &stream_of(&nine, &items), random);
+        compare.read(&nine, &moved, written.len());
+        let mut out = vec![0; written.len()];
+        let read = ism::read(profile(&nine), &moved, &mut out);
+        compare.claim("what was written reads back", read == Ok(written.len()) && out == written);
+    }
+}
+
+/// Each interval longer or shorter by at most the library's margin, often by exactly that.
+fn shifted(nine: &Nine, stream: &[u16], random: &mut Random) -> Vec<u16> {
+    let margin = ism::margin(profile(nine)).expect("a true profile");
+    let mut shift = |d: &u16| {
+        let by = random.between_with_edges(0, 2 * margin);
+        (u64::from(*d) + by - margin) as u16
+    };
+    stream.iter().map(&mut shift).collect()
+}
+
+/// One half clock more than the margin: some one-byte list has an interval that, so moved, makes the stream refused or
+/// read as another list.
+pub fn beyond_margin(compare: &mut Compare, random: &mut Random) {
+    for _ in 0..1_000 {
+        let nine = random.true_profile();
+        let margin = ism::margin(profile(&nine)).expect("a true profile") as i64;
+        let (item, moved) = loss(&nine, margin + 1).expect("some cell stands at the edge of its window");
+        compare.read(&nine, &moved, 8);
+        let mut out = [0; 8];
+        let read = ism::read(profile(&nine), &moved, &mut out);
+        compare.claim("one more than the margin loses a byte", read != Ok(1) || out[0] != item);
+    }
+}
+
+/// A one-byte list and its stream with one interval moved by `by` into another class.
+fn loss(nine: &Nine, by: i64) -> Option<(u16, Vec<u16>)> {
+    for item in single_bytes() {
+        let stream = stream_of(nine, &[item]);
+        for place in 0..stream.len() {
+            let d = i64::from(stream[place]);
+            let class = paper::class_letter(nine, d);
+            let moved = [d - by, d + by].into_iter().find(|e| paper::class_letter(nine, *e) != class);
+            if let Some(Ok(interval)) = moved.map(u16::try_from) {
+                let mut changed = stream.clone();
+                changed[place] = interval;
+                return Some((item, changed));
+            }
+        }
+    }
+    None
+}

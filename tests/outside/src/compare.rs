@@ -1,0 +1,202 @@
+//! One case: the same input to the paper, to the C interface and to the Rust wrapper, and their answers side by side.
+
+use std::collections::BTreeMap;
+use std::fmt::Debug;
+use std::io::Write;
+use std::process::exit;
+
+use ism::sys::{self, Answer};
+use ism::{Class, Field, Profile, Refusal, SectorId};
+
+use crate::call::{Call, Expected, ACCEPTED};
+use crate::paper::{self, CellShape, Nine};
+use crate::random::Random;
+
+/// Runs cases and counts them by group, and the refusals by function.
+pub struct Compare {
+    pub shapes: Vec<CellShape>,
+    groups: Vec<u64>,
+    seen: BTreeMap<(&'static str, u32), u64>,
+}
+
+/// The wrapper's result in the form of a C answer.
+fn from_wrapper<T>(result: Result<T, Refusal>, answer: impl Fn(T) -> Answer) -> Answer {
+    match result {
+        Ok(given) => answer(given),
+        Err(refusal) => Answer { number: refusal.number(), place: refusal.place(), ..ACCEPTED },
+    }
+}
+
+fn count_answer(count: usize) -> Answer {
+    Answer { count: count as u64, ..ACCEPTED }
+}
+
+pub fn profile(nine: &Nine) -> Profile {
+    let [t1, t0, early, normal, late, min, b23, b34, rpt] = *nine;
+    Profile { t1, t0, early, normal, late, min, b23, b34, rpt }
+}
+
+impl Compare {
+    pub fn new() -> Self {
+        Compare { shapes: paper::cell_shapes(), groups: Vec::new(), seen: BTreeMap::new() }
+    }
+
+    /// Runs a group of cases with random numbers of its own. The name comes first, in case a call does not return.
+    pub fn group(&mut self, name: &str, seed: u64, cases: fn(&mut Compare, &mut Random)) {
+        print!("{name:32} seed {seed:#06x} ");
+        std::io::stdout().flush().expect("standard output");
+        self.groups.push(0);
+        let begin = std::time::Instant::now();
+        cases(self, &mut Random::new(seed));
+        let count = self.groups.last().expect("pushed above");
+        println!("{count:8} cases {:6.1} s", begin.elapsed().as_secs_f64());
+    }
+
+    pub fn total(&self) -> u64 {
+        self.groups.iter().sum()
+    }
+
+    /// How often a function gave a refusal; 0 stands for acceptance.
+    pub fn seen(&self, name: &'static str, number: u32) -> u64 {
+        self.seen.get(&(name, number)).copied().unwrap_or(0)
+    }
+
+    /// Counts a case, and the answer that its function gave.
+    pub fn count(&mut self, name: &'static str, number: u32) {
+        *self.groups.last_mut().expect("cases run in a group") += 1;
+        *self.seen.entry((name, number)).or_insert(0) += 1;
+    }
+
+    /// Counts a case that is a plain claim, or stops with its description.
+    pub fn claim(&mut self, what: &str, holds: bool) {
+        if !holds {
+            println!("\nDISAGREEMENT: {what}");
+            exit(1);
+        }
+        self.count("claim", 0);
+    }
+
+    fn run<T: Clone + PartialEq + Debug>(&mut self, list: &[T], call: Call<T>) {
+        if call.fault(list).is_some() {
+            call.complain(list);
+        }
+        self.count(call.name, (call.paper)(list).answer.number);
+    }
+
+    pub fn margin(&mut self, nine: &Nine) {
+        let p = profile(nine);
+        let shapes = self.shapes.clone();
+        let call = Call::<u16> {
+            name: "ism_margin",
+            arguments: format!("profile {nine:?}"),
+            room: 0,
+            paper: &|_| Expected::new(paper::margin(nine, &shapes).map(Expected::count)),
+            // SAFETY: numbers in, numbers out
+            interface: &|_, _| unsafe { sys::ism_margin(p) },
+            wrapper: &|_, _| from_wrapper(ism::margin(p), |count| count_answer(count as usize)),
+        };
+        self.run(&[], call);
+    }
+
+    pub fn class(&mut self, nine: &Nine, interval: u16) {
+        let p = profile(nine);
+        let number = |class: Class| 1 + class as usize;
+        let call = Call::<u16> {
+            name: "ism_class",
+            arguments: format!("profile {nine:?}, interval {interval}"),
+            room: 0,
+            paper: &|_| Expected::new(paper::class(nine, interval).map(Expected::count)),
+            // SAFETY: numbers in, numbers out
+            interface: &|_, _| unsafe { sys::ism_class(p, interval) },
+            wrapper: &|_, _| from_wrapper(ism::classify(p, interval), |class| count_answer(number(class))),
+        };
+        self.run(&[], call);
+    }
+
+    pub fn write(&mut self, nine: &Nine, items: &[u16], room: usize) {
+        let p = profile(nine);
+        let call = Call {
+            name: "ism_write",
+            arguments: format!("profile {nine:?}"),
+            room,
+            paper: &|items| Expected::new(paper::write(nine, items, room).map(Expected::list)),
+            // SAFETY: each pointer comes with the length of its slice
+            interface: &|items: &[u16], out| unsafe {
+                sys::ism_write(p, items.as_ptr(), items.len(), out.as_mut_ptr(), out.len())
+            },
+            wrapper: &|items, out| from_wrapper(ism::write(p, items, out), count_answer),
+        };
+        self.run(items, call);
+    }
+
+    pub fn read(&mut self, nine: &Nine, intervals: &[u16], room: usize) {
+        let p = profile(nine);
+        let call = Call {
+            name: "ism_read",
+            arguments: format!("profile {nine:?}"),
+            room,
+            paper: &|intervals| Expected::new(paper::read(nine, intervals, room).map(Expected::list)),
+            // SAFETY: each pointer comes with the length of its slice
+            interface: &|intervals: &[u16], out| unsafe {
+                sys::ism_read(p, intervals.as_ptr(), intervals.len(), out.as_mut_ptr(), out.len())
+            },
+            wrapper: &|intervals, out| from_wrapper(ism::read(p, intervals, out), count_answer),
+        };
+        self.run(intervals, call);
+    }
+
+    pub fn find(&mut self, nine: &Nine, intervals: &[u16], start: u64) {
+        let p = profile(nine);
+        let call = Call {
+            name: "ism_find",
+            arguments: format!("profile {nine:?}, start {start}"),
+            room: 0,
+            paper: &|intervals| Expected::new(paper::find(nine, intervals, start).map(Expected::count)),
+            // SAFETY: the pointer comes with the length of its slice
+            interface: &|intervals: &[u16], _| unsafe { sys::ism_find(p, intervals.as_ptr(), intervals.len(), start) },
+            wrapper: &|intervals, _| from_wrapper(ism::find_lock(p, intervals, start), count_answer),
+        };
+        self.run(intervals, call);
+    }
+
+    pub fn field(&mut self, nine: &Nine, intervals: &[u16], bytes: u64, room: usize) {
+        let p = profile(nine);
+        let answer = |field: Field| Answer {
+            used: field.used as u64,
+            holds: u32::from(field.holds),
+            ..count_answer(field.items)
+        };
+        let call = Call {
+            name: "ism_read_field",
+            arguments: format!("profile {nine:?}, bytes {bytes}"),
+            room,
+            paper: &|intervals| Expected::new(paper::read_field(nine, intervals, bytes, room).map(Expected::field)),
+            // SAFETY: each pointer comes with the length of its slice
+            interface: &|intervals: &[u16], out| unsafe {
+                sys::ism_read_field(p, intervals.as_ptr(), intervals.len(), bytes, out.as_mut_ptr(), out.len())
+            },
+            wrapper: &|intervals, out| from_wrapper(ism::read_field(p, intervals, bytes, out), answer),
+        };
+        self.run(intervals, call);
+    }
+
+    pub fn sector(&mut self, id: [u8; 4], data: &[u8], room: usize) {
+        let [track, side, sector, code] = id;
+        let call = Call {
+            name: "ism_make_sector",
+            arguments: format!("track, side, sector, code {id:?}"),
+            room,
+            paper: &|data| Expected::new(paper::make_sector(id, data, room).map(Expected::list)),
+            // SAFETY: each pointer comes with the length of its slice
+            interface: &|data: &[u8], out| unsafe {
+                let (out, room) = (out.as_mut_ptr(), out.len());
+                sys::ism_make_sector(track, side, sector, code, data.as_ptr(), data.len(), out, room)
+            },
+            wrapper: &|data, out| {
+                let made = ism::make_sector(SectorId { track, side, sector, code }, data, out);
+                from_wrapper(made, count_answer)
+            },
+        };
+        self.run(data, call);
+    }
+}

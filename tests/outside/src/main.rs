@@ -1,0 +1,99 @@
+//! Comparison of the library and of the strip program with an implementation written from the paper.
+//!
+//!     outside                  the library
+//!     outside strip [PROGRAM]  the strip program, by default the one in ISM_STRIP
+//!     outside crc              CRC of each line of hexadecimal digits on standard input: paper, library
+//!
+//! The last line is a count, and the exit status 1 tells of a disagreement.
+
+mod call;
+mod cases;
+mod compare;
+mod crc_lines;
+mod paper;
+mod random;
+mod strip_program;
+
+use std::process::exit;
+
+use cases::{faults, fields, fifo, limits, margins, profiles, sectors, settled, strips};
+use compare::Compare;
+
+fn main() {
+    let arguments: Vec<String> = std::env::args().skip(1).collect();
+    match arguments.iter().map(String::as_str).collect::<Vec<_>>()[..] {
+        [] => library(),
+        ["crc"] => crc_lines::answer(),
+        ["strip"] => match std::env::var("ISM_STRIP") {
+            Ok(program) => strip_program::compare(&program),
+            Err(_) => usage("no program named: give it as argument or in ISM_STRIP"),
+        },
+        ["strip", program] => strip_program::compare(program),
+        _ => usage("usage: outside [crc | strip [PROGRAM]]"),
+    }
+}
+
+fn usage(text: &str) -> ! {
+    eprintln!("outside: {text}");
+    exit(2);
+}
+
+fn library() {
+    let mut compare = Compare::new();
+    compare.group("settled by the paper", 0x01, settled::by_the_paper);
+    compare.group("published check values", 0x02, settled::check_values);
+    compare.group("examples of the chip", 0x03, settled::by_the_chip);
+    compare.group("null pointers of length 0", 0x04, limits::null_pointers);
+    compare.group("profile ranges", 0x10, profiles::ranges);
+    compare.group("random profiles", 0x11, profiles::random_profiles);
+    compare.group("classes", 0x12, profiles::classes);
+    compare.group("every list up to two items", 0x20, strips::every_short_list);
+    compare.group("every number as an item", 0x21, strips::every_number);
+    compare.group("random lists", 0x22, strips::random_lists);
+    compare.group("every row of up to ten classes", 0x30, strips::every_short_stream);
+    compare.group("damaged streams", 0x31, strips::damaged_streams);
+    compare.group("random classes", 0x32, strips::random_classes);
+    compare.group("moved within the margin", 0x40, margins::within_margin);
+    compare.group("moved beyond the margin", 0x41, margins::beyond_margin);
+    compare.group("finder", 0x50, fields::finder);
+    compare.group("tracks", 0x51, fields::tracks);
+    compare.group("fields", 0x52, fields::fields);
+    compare.group("every length code", 0x60, sectors::every_code);
+    compare.group("sectors there and back", 0x61, sectors::there_and_back);
+    compare.group("FIFO states", 0x70, fifo::every_state);
+    compare.group("FIFO rows", 0x71, fifo::rows);
+    compare.group("limits of the writer", 0x80, limits::written);
+    compare.group("limits of the strip reader", 0x81, limits::read);
+    compare.group("limits of the field reader", 0x82, limits::field);
+    compare.group("limits of the finder", 0x83, limits::finder);
+    compare.group("faults together: writer", 0x90, faults::writer);
+    compare.group("faults together: strip reader", 0x91, faults::reader);
+    compare.group("faults together: finder", 0x92, faults::finder);
+    compare.group("faults together: field reader", 0x93, faults::field);
+    compare.group("faults together: sector maker", 0x94, faults::maker);
+    check_coverage(&compare);
+    println!("outside: {} cases agree", compare.total());
+}
+
+/// Stops if some answer of some function was never seen: the cases would then say nothing about it.
+fn check_coverage(compare: &Compare) {
+    let orders: [(&str, &[u32]); 8] = [
+        ("ism_margin", &[0, 1, 2]),
+        ("ism_class", &[0, 1, 2]),
+        ("ism_write", &[0, 1, 2, 4, 3, 9]),
+        ("ism_read", &[0, 1, 2, 4, 5, 6, 7, 8, 9]),
+        ("ism_find", &[0, 1, 2, 10]),
+        ("ism_read_field", &[0, 1, 2, 12, 5, 6, 11, 8, 9]),
+        ("ism_make_sector", &[0, 13, 9]),
+        ("ism_fifo", &[0, 3]),
+    ];
+    println!("answers seen, refusal number and times (0 is acceptance):");
+    for (name, numbers) in orders {
+        let counts: Vec<String> = numbers.iter().map(|n| format!("{n}: {}", compare.seen(name, *n))).collect();
+        println!("  {name:16} {}", counts.join("  "));
+        if numbers.iter().any(|n| compare.seen(name, *n) < 20) {
+            println!("outside: some answer of {name} was seen fewer than 20 times");
+            exit(1);
+        }
+    }
+}
