@@ -7,16 +7,8 @@ use Rattle.timing.specs.declared.Class.the-variants.{Narrow, Two, Three, Four, 
 use Rattle.symbols.specs.Step.{stepped, itemsOf}
 use Rattle.symbols.specs.declared.Cell.the-variants.{Short, Medium, Long}
 use Rattle.symbols.specs.declared.Reading.{Reading}
-use Rattle.codec.specs.declared.reader.Scan.{Scan}
-use Rattle.codec.specs.declared.reader.Scan.the-variants.{Whole, Stopped}
-
--- one interval more, at place k
-unfoldable pub advanced : Reading → Class → ℕ → Scan
-advanced m Narrow k = Stopped (IntervalTooShort k)
-advanced m Two k = Whole (stepped m Short k)
-advanced m Three k = Whole (stepped m Medium k)
-advanced m Four k = Whole (stepped m Long k)
-advanced m Wide k = Stopped (IntervalTooLong k)
+use Rattle.intervals.specs.declared.Scan.{Scan}
+use Rattle.intervals.specs.declared.Scan.the-variants.{Whole, Stopped}
 
 -- a strip's classes, the first at place k
 unfoldable pub scanned : ℕ → Reading → List Class → Scan

@@ -8,34 +8,16 @@ ghost use Rattle.timing.specs.Profile.{profileRule};
 ghost use Rattle.timing.specs.Class.{classesOf};
 ghost use Rattle.symbols.specs.Machine.{fresh};
 ghost use Rattle.symbols.specs.Step.{stripAnswer};
-ghost use Rattle.codec.specs.Scan.{advanced, scanned, gathered};
+ghost use Rattle.codec.specs.Scan.{scanned, gathered};
 ghost use Rattle.codec.specs.Reader.{readRule, readOutput};
 use crate::output::put;
+use intervals::Scan;
+use intervals::advance;
 use refusal::Counted;
 use refusal::Refusal;
 use refusal::Verdict;
 use symbols::Reading;
-use timing::Class;
 use timing::Profile;
-
-// How far a pass came: through the whole strip, or to an interval that is too short or too long.
-pub enum Scan {
-    Whole(Reading),
-    Stopped(Refusal),
-}
-
-// One interval more.
-fn advance(m: Reading, class: Class, at: u32) -> Scan
-    ensures { λ r. ⌜ r ≡ advanced m class at ⌝ }
-{
-    match class {
-        Class::Narrow => Scan::Stopped(Refusal::IntervalTooShort(at)),
-        Class::Two => Scan::Whole(m.short()),
-        Class::Three => Scan::Whole(m.medium()),
-        Class::Four => Scan::Whole(m.long(at)),
-        Class::Wide => Scan::Stopped(Refusal::IntervalTooLong(at)),
-    }
-}
 
 // One pass over a strip of at most 51,202 intervals: the items that have room are stored from the front on.
 fn pass_over(p: Profile, intervals: &[u16], out: &mut [u16]) -> Scan

@@ -1,10 +1,9 @@
--- Two lists that agree in the used intervals get equal answers: the cells and the stop of a field hang on the used intervals alone, and
--- all else hangs on those. Rests on no axiom.
-use Prim.Native.Nat.{ℕ, zero, suc, _≤_}
-use mathlib.Core.Path.{_≡_, refl, sym, ap, _∙_}
+-- Two lists that agree in the used intervals get equal answers: the cells and the stop of a field hang on the used
+-- intervals alone, and all else hangs on those. Rests on no axiom.
+use Prim.Native.Nat.{ℕ, zero, suc}
+use mathlib.Core.Path.{_≡_, sym, ap, _∙_}
 use mathlib.Core.List.{List, [], _∷_, _++_}
 use lib.ListN.{length, take, drop, take-append-drop}
-use Rattle.refusal.specs.Answer.{Answer, settled}
 use Rattle.refusal.proofs.AnswerLaws.{first-refusal-accepts, refuse-if-accepts}
 use Rattle.timing.specs.Profile.{outside, profileRule}
 use Rattle.timing.specs.Class.{classOf, classesOf}
@@ -12,7 +11,8 @@ use Rattle.timing.specs.declared.Profile.{Profile}
 use Rattle.timing.specs.declared.Class.{Class}
 use Rattle.timing.proofs.ClassLaws.{classes-of-none, classes-of-cons, classes-of-append}
 use Rattle.symbols.specs.Bits.{O}
-use Rattle.fields.specs.Field.{bitsWanted, cellsTaken, stopFrom, fieldStop, fieldCells, fieldUsed, fieldBits, fieldItems, fieldHolds, fieldStray, fieldStrayPlace}
+use Rattle.fields.specs.Field.{bitsWanted, fieldStop, fieldCells, fieldUsed, fieldBits}
+use Rattle.fields.specs.Field.{fieldItems, fieldHolds, fieldStray, fieldStrayPlace}
 use Rattle.fields.specs.FieldRule.{gatherRule, deliverRule, checkedRule, fieldRule, fieldReading, fieldOutput}
 use Rattle.fields.proofs.TakenLaws.{SameFront, used-decide}
 
@@ -71,7 +71,8 @@ module _ (p : Profile) (ds es : List ℕ) (n room : ℕ) where
         let used = fieldUsed (classesOf p ds) n in
         ap (classesOf p) (sym (take-append-drop used es))
         ∙ classes-of-append p (take used es) (drop used es)
-        ∙ ap (λ (cs : List Class). cs ++ classesOf p (drop used es)) (ap (classesOf p) agree ∙ classes-of-take p used ds)
+        ∙ ap (λ (cs : List Class). cs ++ classesOf p (drop used es))
+        (ap (classesOf p) agree ∙ classes-of-take p used ds)
 
     same-front : SameFront (classesOf p ds) (classesOf p es) 0 (bitsWanted n) O
     unfolding fieldUsed fieldCells fieldStop

@@ -1,5 +1,5 @@
--- The intervals that a field uses are the least number that gives the wanted bits, and give one more at most. By induction on the
--- classes. Rests on no axiom.
+-- The intervals that a field uses are the least number that gives the wanted bits, and give one more at most. By
+-- induction on the classes. Rests on no axiom.
 use Prim.Native.Nat.{ℕ, zero, suc, _+_, _*_, _≤_, _<_}
 use mathlib.Core.Path.{_≡_, sym, ap, _∙_}
 use mathlib.Core.List.{List, [], _∷_}
@@ -12,7 +12,8 @@ use Rattle.symbols.specs.Reading.{given, lastAfter, readFrom}
 use Rattle.symbols.specs.declared.Cell.{Cell}
 use Rattle.intervals.proofs.CellLaws.{by-each-class}
 use Rattle.fields.specs.Field.{wantedAfter, cellsTaken, stopFrom}
-use Rattle.fields.proofs.TakenLaws.{given-at-least-one, given-at-most-two, read-one-more, read-none, taken-one-more, stop-one-more, taken-none}
+use Rattle.fields.proofs.TakenLaws.{given-at-least-one, given-at-most-two, read-one-more, read-none}
+use Rattle.fields.proofs.TakenLaws.{taken-one-more, stop-one-more, taken-none}
 
 -- ---- as many bits as are wanted, or one more
 
@@ -34,7 +35,8 @@ one-cell-more b x want xs rest =
 
 no-cell : (b : Bit) (cs : List Class) → Enough 0 (length (readFrom b (cellsTaken cs 0 b)))
 no-cell b cs =
-    let none : length (readFrom b (cellsTaken cs 0 b)) ≡ 0 = ap (λ (l : List Cell). length (readFrom b l)) (taken-none cs b) ∙ ap length (read-none b) in
+    let none : length (readFrom b (cellsTaken cs 0 b)) ≡ 0 =
+    ap (λ (l : List Cell). length (readFrom b l)) (taken-none cs b) ∙ ap length (read-none b) in
     record { enough = omega arith; one-over = omega arith; none-for-none = omega arith }
 
 abbrev GiveEnough : List Class → ℕ → ℕ → Bit → Type 0

@@ -1,7 +1,7 @@
--- What a field reads as: the surplus bit makes no byte, so that the bits of the used cells are the lead and n bytes, and the answer hangs
--- on the used intervals alone. Rests on no axiom.
-use Prim.Native.Nat.{ℕ, zero, suc, _+_, _-_, _*_, _%_, _^_, _≤_, _<_}
-use mathlib.Core.Path.{_≡_, refl, sym, ap, _∙_}
+-- What a field reads as: the surplus bit makes no byte, so that the bits of the used cells are the lead and n bytes,
+-- and the answer hangs on the used intervals alone. Rests on no axiom.
+use Prim.Native.Nat.{ℕ, _+_, _*_, _%_, _≤_, _<_}
+use mathlib.Core.Path.{_≡_, sym, ap, _∙_}
 use mathlib.Core.Bool.{Bool}
 use mathlib.Core.List.{List, [], _∷_, _++_, map, append-nil}
 use native.Mathlib.Nat.{mul-mod-right}
@@ -17,20 +17,21 @@ use Rattle.symbols.specs.Reading.{readBits, sources}
 use Rattle.symbols.specs.Strip.{isStray, strayPlace}
 use Rattle.symbols.specs.Machine.{fresh}
 use Rattle.symbols.specs.Step.{ran}
-use Rattle.symbols.specs.declared.Cell.{Cell}
 use Rattle.symbols.proofs.PlaceLaws.{rows-append, rows-of-few}
 use Rattle.symbols.proofs.UnitLaws.{cells-at-most-bits}
 use Rattle.symbols.proofs.ReadsLaws.{reads-fresh}
 use Rattle.symbols.proofs.AnswerLaws.{reads-rows, reads-items-count}
 use Rattle.symbols.proofs.RunLaws.{reads-ran}
-use Rattle.fields.specs.Field.{bitsWanted, cellsTaken, stopFrom, fieldStop, fieldCells, fieldUsed, fieldBits, fieldItems, fieldStray, fieldStrayPlace}
+use Rattle.fields.specs.Field.{bitsWanted, fieldStop, fieldCells, fieldUsed, fieldBits}
+use Rattle.fields.specs.Field.{fieldItems, fieldStray, fieldStrayPlace}
 use Rattle.fields.proofs.EnoughLaws.{Enough, used-give-enough, fewer-give-less}
 
 -- ---- a surplus bit makes no byte
 
 whole-rows : (n : ℕ) (bs : List Bit) → 8 * n ≤ length bs → length bs ≤ 8 * n + 1 → rowsOf (take (8 * n) bs) ≡ rowsOf bs
 whole-rows n bs low high =
-    let whole : length (take (8 * n) bs) % 8 ≡ 0 = ap (λ (k : ℕ). k % 8) (length-take-le (8 * n) bs low) ∙ mul-mod-right 8 n in
+    let whole : length (take (8 * n) bs) % 8 ≡ 0 =
+    ap (λ (k : ℕ). k % 8) (length-take-le (8 * n) bs low) ∙ mul-mod-right 8 n in
     let few : length (drop (8 * n) bs) < 8 = rw (length-drop (8 * n) bs) (omega arith) in
     sym
     (ap rowsOf (sym (take-append-drop (8 * n) bs))

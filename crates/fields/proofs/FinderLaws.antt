@@ -1,19 +1,19 @@
--- Laws of the first lock: where no lock stands the search goes on, past a broken run at once; it ends at a lock or at the end of the
--- list. Rests on no axiom.
+-- Laws of the first lock: where no lock stands the search goes on, past a broken run at once; it ends at a lock or at
+-- the end of the list. Rests on no axiom.
 use Prim.Native.Nat.{ℕ, zero, suc, pred, _+_, _-_, _<_, _≤_}
 use mathlib.Core.Path.{_≡_, refl, sym, ap, ap₂, _∙_}
-use mathlib.Core.Bool.{Bool, true, false, cond, _&&_, _||_, and-false, true≢false, false≢true}
-use mathlib.Core.List.{List, [], _∷_}
+use mathlib.Core.Bool.{true, false, and-false, true≢false}
+use mathlib.Core.List.{List}
 use mathlib.Core.Logic.{⊎-elim}
 use native.Mathlib.Omega.{arith}
 use native.Mathlib.Nat.{eq-zero-or-pos}
 use borrow.Author.Tests.{le-leb}
-use lib.ListN.{length, getD, drop, replicate, List·getD-eq-default}
+use lib.ListN.{length, getD, drop, List·getD-eq-default}
 use lib.Seq.{getD-drop}
-use Rattle.refusal.specs.Answer.{Answer, accepted, refused}
+use Rattle.refusal.specs.Answer.{accepted, refused}
 use Rattle.timing.specs.declared.Class.{Class}
-use Rattle.timing.specs.declared.Class.the-variants.{Narrow, Two, Three, Four, Wide}
-use Rattle.fields.specs.Lock.{beginsWith, markAhead, lockAt, firstLock, lockFrom, mayStand}
+use Rattle.timing.specs.declared.Class.the-variants.{Narrow, Two}
+use Rattle.fields.specs.Lock.{lockAt, firstLock, lockFrom, mayStand}
 use Rattle.fields.proofs.LockLaws.{run-ahead, run-broken, mark-ahead, mark-broken, narrow-in-no-mark}
 
 module _ (cs : List Class) where

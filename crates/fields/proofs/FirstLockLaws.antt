@@ -1,5 +1,5 @@
--- What the search for the first lock finds: the smallest place at which one stands, and adrift means that none does. By induction on the
--- places that are left. Rests on no axiom.
+-- What the search for the first lock finds: the smallest place at which one stands, and adrift means that none does. By
+-- induction on the places that are left. Rests on no axiom.
 use Prim.Native.Nat.{ℕ, zero, suc, _+_, _-_, _<_, _≤_}
 use mathlib.Core.Path.{_≡_, refl, sym, ap, _∙_}
 use mathlib.Core.Bool.{Bool, true, false, cond}
@@ -8,7 +8,7 @@ use mathlib.Core.Logic.{⊎-elim}
 use native.Mathlib.Nat.{eq-or-lt-of-le, eq-zero-or-pos}
 use native.Mathlib.Omega.{arith}
 use lib.ListN.{length}
-use Rattle.refusal.specs.Answer.{Answer, accepted, refused}
+use Rattle.refusal.specs.Answer.{Answer, accepted}
 use Rattle.timing.specs.declared.Class.{Class}
 use Rattle.fields.specs.Lock.{lockAt, firstLock, lockFrom}
 use Rattle.fields.proofs.FinderLaws.{lock-is-within}
@@ -76,7 +76,8 @@ module _ (cs : List Class) where
   first-found (suc places) k e =
       found-here-or-later (lockAt cs k) k (firstLock cs (suc k) places) refl (first-found places (suc k)) e
 
-  pub lock-from-found : (start : ℕ) → lockFrom cs start .number ≡ 0 → FirstFrom cs (start + 64) (lockFrom cs start .count)
+  pub lock-from-found
+      : (start : ℕ) → lockFrom cs start .number ≡ 0 → FirstFrom cs (start + 64) (lockFrom cs start .count)
   unfolding lockFrom
   lock-from-found start e = first-found (length cs - (start + 64)) (start + 64) e
 

@@ -1,12 +1,13 @@
--- The front of a field that was read so far: its cells are the first of the field's cells, and what is left decides the rest. Rests on no axiom.
-use Prim.Native.Nat.{ℕ, suc, _+_, _-_, _*_, _≤_, _<_}
-use mathlib.Core.Path.{_≡_, refl, sym, ap, ap₂, _∙_}
+-- The front of a field that was read so far: its cells are the first of the field's cells, and what is left decides the
+-- rest. Rests on no axiom.
+use Prim.Native.Nat.{ℕ, suc, _+_, _-_, _<_}
+use mathlib.Core.Path.{_≡_, sym, ap, ap₂, _∙_}
 use mathlib.Core.List.{List, [], _∷_, _++_, append-nil}
 use native.Mathlib.Nat.{sub-zero}
 use native.Mathlib.Omega.{arith}
 use lib.ListN.{length, length-append}
 use lib.Seq.{append-snoc}
-use Rattle.refusal.specs.Answer.{Answer, accepted, refused}
+use Rattle.refusal.specs.Answer.{accepted, refused}
 use Rattle.timing.specs.declared.Class.{Class}
 use Rattle.timing.specs.declared.Class.the-variants.{Narrow, Wide}
 use Rattle.symbols.specs.Bits.{Bit, O, lastOf}
@@ -53,7 +54,9 @@ module _ (n : ℕ) (done : List Cell) (x : Cell) where
       ∙ last-of-more (lastKnown done) (lastKnown done) x
 
   wanted-grown
-      : (want : ℕ) → wantedOf n done ≡ suc want → wantedOf n (done ++ (x ∷ [])) ≡ wantedAfter (suc want) (lastKnown done) x
+      : (want : ℕ)
+      → wantedOf n done ≡ suc want
+      → wantedOf n (done ++ (x ∷ [])) ≡ wantedAfter (suc want) (lastKnown done) x
   wanted-grown want e =
       let more : length (readBits (done ++ (x ∷ []))) ≡ length (readBits done) + length (given (lastKnown done) x) =
       ap length (bits-grown done x) ∙ length-append (readBits done) (given (lastKnown done) x) in
@@ -74,7 +77,8 @@ module _ (cs : List Class) (n : ℕ) (done : List Cell) (wanted : 0 < wantedOf n
       → Front cs n (done ++ (x ∷ [])) rest
   front-goes-on {c} {x} read rest front =
       let b : Bit = lastKnown done in
-      let want : wantedAfter (suc fewer) b x ≡ wantedOf n (done ++ (x ∷ [])) = sym (wanted-grown n done x fewer some-wanted) in
+      let want : wantedAfter (suc fewer) b x ≡ wantedOf n (done ++ (x ∷ [])) =
+      sym (wanted-grown n done x fewer some-wanted) in
       let last : lastAfter b x ≡ lastKnown (done ++ (x ∷ [])) = sym (last-grown n done x) in
       let places : suc (length done) ≡ length (done ++ (x ∷ [])) = omega (arith, length-append done (x ∷ [])) in
       record {

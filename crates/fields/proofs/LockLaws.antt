@@ -1,22 +1,20 @@
--- Laws of a lock: a place that is not of class 2 breaks every run over it, and one that no mark has breaks the mark; so the search for
--- the first lock may pass over it. Each follows by induction on the front of the list. Rests on no axiom.
-use Prim.Native.Nat.{ℕ, zero, suc, _+_, _-_, _<_, _≤_}
-use mathlib.Core.Path.{_≡_, refl, sym, ap, _∙_}
-use mathlib.Core.Bool.{Bool, true, false, cond, _&&_, _||_, and-false, true≢false, false≢true}
+-- Laws of a lock: a place that is not of class 2 breaks every run over it, and one that no mark has breaks the mark; so
+-- the search for the first lock may pass over it. Each follows by induction on the front of the list. Rests on no
+-- axiom.
+use Prim.Native.Nat.{ℕ, zero, suc, _<_, _≤_}
+use mathlib.Core.Path.{_≡_, refl}
+use mathlib.Core.Bool.{Bool, true, false, _&&_, _||_, and-false, true≢false, false≢true}
 use mathlib.Core.List.{List, [], _∷_}
 use native.Mathlib.Omega.{arith}
-use native.Mathlib.Nat.{add-zero, add-suc, suc-add}
-use borrow.Author.Tests.{le-leb}
-use lib.ListN.{length, getD, drop, replicate, List·getD-eq-default}
-use lib.Seq.{getD-drop}
+use lib.ListN.{length, getD, replicate, List·getD-eq-default}
 use Rattle.lists.specs.Place.{anywhere}
-use Rattle.refusal.specs.Answer.{Answer, accepted, refused}
 use Rattle.timing.specs.Class.{classOf, classesOf, classNumber}
 use Rattle.timing.proofs.ClassLaws.{classes-of-cons, classes-length}
 use Rattle.timing.specs.declared.Profile.{Profile}
 use Rattle.timing.specs.declared.Class.{Class}
 use Rattle.timing.specs.declared.Class.the-variants.{Narrow, Two, Three, Four, Wide}
-use Rattle.fields.specs.Lock.{sameClass, beginsWith, lockPatterns, markAhead, lockAt, firstLock, lockFrom, mayStand}
+use Rattle.fields.specs.Lock.{sameClass, beginsWith, lockPatterns, markAhead}
+use Rattle.fields.specs.Lock.{mayStand}
 
 -- ---- the class at a place
 

@@ -1,7 +1,7 @@
--- The field reader's answer and output from what its first two tests found, and that it uses no more intervals than there are.
--- Rests on no axiom.
-use Prim.Native.Nat.{ℕ, zero, suc, _+_, _≤_}
-use mathlib.Core.Path.{_≡_, refl, sym, ap, _∙_}
+-- The field reader's answer and output from what its first two tests found, and that it uses no more intervals than
+-- there are. Rests on no axiom.
+use Prim.Native.Nat.{ℕ, zero, suc, _≤_}
+use mathlib.Core.Path.{_≡_}
 use mathlib.Core.Bool.{Bool, true, false, cond, _||_, true≢false}
 use mathlib.Core.List.{List, [], _∷_}
 use native.Mathlib.Omega.{arith}
@@ -9,9 +9,9 @@ use borrow.Author.Tests.{ltb-false}
 use lib.Dec.{eqb, ltb}
 use lib.ListN.{length}
 use Rattle.refusal.specs.Table.{numberOf, placeOf}
-use Rattle.refusal.specs.Answer.{Answer, accepted, refused, refuseIf, settled}
+use Rattle.refusal.specs.Answer.{Answer, accepted, refused, refuseIf}
 use Rattle.refusal.specs.declared.Refusal.{Refusal}
-use Rattle.refusal.proofs.AnswerLaws.{number-is-not-zero, refusal-decides, refusal-keeps-the-buffer, acceptance-passes}
+use Rattle.refusal.proofs.AnswerLaws.{number-is-not-zero, refusal-decides, refusal-keeps-the-buffer}
 use Rattle.timing.specs.Profile.{outside, profileRule}
 use Rattle.timing.specs.Class.{classesOf}
 use Rattle.timing.specs.declared.Profile.{Profile}
@@ -21,7 +21,8 @@ use Rattle.symbols.specs.Bits.{Bit, O}
 use Rattle.symbols.specs.Reading.{lastAfter}
 use Rattle.intervals.proofs.CellLaws.{by-each-class}
 use Rattle.fields.specs.Field.{wantedAfter, bitsWanted, cellsTaken, fieldCells, fieldUsed, fieldItems, fieldHolds}
-use Rattle.fields.specs.FieldRule.{FieldAnswer, fieldTurnedAway, answerWith, checkedRule, checkedReading, checkedOutput, fieldRule, fieldReading, fieldOutput}
+use Rattle.fields.specs.FieldRule.{FieldAnswer, fieldTurnedAway, checkedRule, checkedReading}
+use Rattle.fields.specs.FieldRule.{checkedOutput, fieldRule, fieldReading, fieldOutput}
 use Rattle.fields.proofs.TakenLaws.{taken-one-more}
 
 or-false-right : (a b : Bool) → (a || b) ≡ false → b ≡ false
@@ -49,7 +50,9 @@ module _ (p : Profile) (ds : List ℕ) (n : ℕ) (old : List ℕ) where
     unfolding fieldReading fieldOutput fieldRule
     count-refuses h = (rw (← fair, h), rw (← fair, h))
 
-    pub checked-settles : outside 1 1030 n ≡ false → Settles (checkedReading (classesOf p ds) n (length old)) (checkedOutput (classesOf p ds) n old)
+    pub checked-settles
+        : outside 1 1030 n ≡ false
+        → Settles (checkedReading (classesOf p ds) n (length old)) (checkedOutput (classesOf p ds) n old)
     unfolding fieldReading fieldOutput fieldRule checkedReading checkedOutput
     checked-settles h = (rw (← fair, h), rw (← fair, h))
 

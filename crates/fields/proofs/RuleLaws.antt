@@ -1,24 +1,25 @@
--- The field reader's tests in their turn: a refusal of the pass decides, and an acceptance leaves the room in the output. Rests on no axiom.
-use Prim.Native.Nat.{ℕ, _+_, _*_, _≤_}
-use mathlib.Core.Path.{_≡_, refl, sym, ap, ap₂, _∙_}
-use mathlib.Core.Bool.{Bool, false}
+-- The field reader's tests in their turn: a refusal of the pass decides, and an acceptance leaves the room in the
+-- output. Rests on no axiom.
+use Prim.Native.Nat.{ℕ, _≤_}
+use mathlib.Core.Path.{_≡_, sym, ap, _∙_}
 use mathlib.Core.List.{List}
-use borrow.Author.Tests.{eq-eqb}
-use lib.Dec.{eqb}
 use lib.ListN.{length, take}
 use Rattle.lists.specs.Filled.{storedAt}
 use Rattle.lists.proofs.FilledLaws.{front-of-filled}
 use Rattle.lists.proofs.StoreLaws.{stored-at-front-fills}
 use Rattle.refusal.specs.Table.{numberOf, placeOf}
-use Rattle.refusal.specs.Answer.{Answer, accepted, refused, settled}
+use Rattle.refusal.specs.Answer.{Answer, accepted, refused}
 use Rattle.refusal.specs.declared.Refusal.{Refusal}
-use Rattle.refusal.proofs.AnswerLaws.{number-is-not-zero, refusal-decides, refusal-keeps-the-buffer, first-refusal-accepts, first-refusal-passes, refuse-if-accepts, refuse-if-passes}
+use Rattle.refusal.proofs.AnswerLaws.{number-is-not-zero, refusal-decides, refusal-keeps-the-buffer}
+use Rattle.refusal.proofs.AnswerLaws.{first-refusal-accepts, first-refusal-passes, refuse-if-accepts, refuse-if-passes}
 use Rattle.timing.specs.Class.{classesOf}
 use Rattle.timing.specs.declared.Profile.{Profile}
 use Rattle.timing.specs.declared.Class.{Class}
 use Rattle.symbols.specs.Bits.{O}
-use Rattle.fields.specs.Field.{bitsWanted, fieldStop, fieldCells, fieldUsed, fieldItems, fieldHolds, fieldStray, fieldStrayPlace, holdsAfter}
-use Rattle.fields.specs.FieldRule.{FieldAnswer, fieldTurnedAway, answerWith, gatherRule, deliverRule, checkedRule, checkedReading, checkedOutput}
+use Rattle.fields.specs.Field.{bitsWanted, fieldStop, fieldCells, fieldUsed, fieldItems, fieldHolds, fieldStray}
+use Rattle.fields.specs.Field.{fieldStrayPlace}
+use Rattle.fields.specs.FieldRule.{gatherRule, GathersItems, deliverRule, deliverReading, deliverOutput}
+use Rattle.fields.specs.FieldRule.{fieldTurnedAway, checkedRule, checkedReading, checkedOutput}
 use Rattle.fields.proofs.FieldLaws.{field-items-count}
 use Rattle.fields.proofs.TakenLaws.{SameFront, front-decides}
 use Rattle.fields.proofs.AgreeLaws.{classes-of-take, same-items, same-gather}
@@ -77,9 +78,9 @@ module _ (cs : List Class) (n : ℕ) where
       → accepted used ≡ gatherRule cs n
       → items ≡ fieldItems cs n
       → length items ≡ n
-      → (answerWith (deliverRule (length items) (length old)) used (holdsAfter items) ≡ checkedReading cs n (length old))
-      × (settled (deliverRule (length items) (length old)) items old ≡ checkedOutput cs n old)
-  unfolding checkedReading checkedOutput checkedRule fieldHolds
+      → (deliverReading items used (length old) ≡ checkedReading cs n (length old))
+      × (deliverOutput items old ≡ checkedOutput cs n old)
+  unfolding deliverReading deliverOutput checkedReading checkedOutput checkedRule fieldHolds
   gather-delivers used items old e same count =
       let zero : gatherRule cs n .number ≡ 0 = sym (ap (λ (a : Answer). a .number) e) in
       let used-is : used ≡ fieldUsed cs n = ap (λ (a : Answer). a .count) (e ∙ gather-counts-used zero) in
@@ -97,9 +98,8 @@ stored-front vs l n e h =
 
 abbrev pub Delivers : Profile → List ℕ → ℕ → ℕ → List ℕ → List ℕ → Type 0
 Delivers p ds n used items old =
-    (answerWith (deliverRule (length items) (length old)) used (holdsAfter items)
-    ≡ checkedReading (classesOf p ds) n (length old))
-    × (settled (deliverRule (length items) (length old)) items old ≡ checkedOutput (classesOf p ds) n old)
+    (deliverReading items used (length old) ≡ checkedReading (classesOf p ds) n (length old))
+    × (deliverOutput items old ≡ checkedOutput (classesOf p ds) n old)
 
 module _ (p : Profile) (ds part : List ℕ) (n most : ℕ) (enough : bitsWanted n ≤ most) (cut : part ≡ take most ds) where
   pub part-gathers : gatherRule (classesOf p part) n ≡ gatherRule (classesOf p ds) n
@@ -113,7 +113,7 @@ module _ (p : Profile) (ds part : List ℕ) (n most : ℕ) (enough : bitsWanted 
       → n ≤ 1030
       → n ≤ length buffer
       → accepted used ≡ gatherRule (classesOf p part) n
-      → (gatherRule (classesOf p part) n .number ≡ 0 → stored ≡ storedAt buffer 0 (fieldItems (classesOf p part) n))
+      → GathersItems (classesOf p part) n buffer stored
       → Delivers p ds n used (take n stored) old
   part-delivers used buffer stored old most-bytes room e store =
       let zero : gatherRule (classesOf p part) n .number ≡ 0 = sym (ap (λ (a : Answer). a .number) e) in

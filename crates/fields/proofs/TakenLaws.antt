@@ -1,13 +1,12 @@
--- Laws of the intervals that a field uses: what follows them is not looked at, and each gives a bit, so that no more are used than bits
--- are wanted. By induction on the classes. Rests on no axiom.
+-- Laws of the intervals that a field uses: what follows them is not looked at, and each gives a bit, so that no more
+-- are used than bits are wanted. By induction on the classes. Rests on no axiom.
 use Prim.Native.Nat.{ℕ, zero, suc, _≤_}
 use mathlib.Core.Path.{_≡_, refl, sym, ap, _∙_}
 use mathlib.Core.List.{List, [], _∷_, _++_}
 use native.Mathlib.Omega.{arith}
-use lib.ListN.{length, take, length-append}
-use Rattle.refusal.specs.Answer.{Answer, accepted, refused}
+use lib.ListN.{length, take}
+use Rattle.refusal.specs.Answer.{Answer, accepted}
 use Rattle.timing.specs.declared.Class.{Class}
-use Rattle.timing.specs.declared.Class.the-variants.{Narrow, Wide}
 use Rattle.symbols.specs.Bits.{Bit, O, I, G}
 use Rattle.symbols.specs.Reading.{given, lastAfter, readFrom}
 use Rattle.symbols.specs.declared.Cell.{Cell}
@@ -17,7 +16,8 @@ use Rattle.fields.specs.Field.{wantedAfter, cellsTaken, stopFrom}
 
 -- ---- a cell gives one bit or two
 
-pub read-one-more : (b : Bit) (c : Cell) (cs : List Cell) → readFrom b (c ∷ cs) ≡ given b c ++ readFrom (lastAfter b c) cs
+pub read-one-more
+    : (b : Bit) (c : Cell) (cs : List Cell) → readFrom b (c ∷ cs) ≡ given b c ++ readFrom (lastAfter b c) cs
 unfolding readFrom
 read-one-more b c cs = refl
 
@@ -117,7 +117,8 @@ module _ (xs : List Class) where
       let fewer : List Class = take (length (cellsTaken cs want′ (lastAfter b x))) cs ++ xs in
       rw (taken-one-more read cs want b)
       (front-grows read cs fewer k want b
-      (used-decide cs (suc k) want′ (lastAfter b x) (sym (ap (λ (a : Answer). a .number) (stop-one-more read cs want b k)) ∙ f))))
+      (used-decide cs (suc k) want′ (lastAfter b x)
+      (sym (ap (λ (a : Answer). a .number) (stop-one-more read cs want b k)) ∙ f))))
       (λ f. absurd (omega arith))
       c
       e

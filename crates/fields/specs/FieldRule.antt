@@ -1,9 +1,11 @@
 -- Document 01, "Turned-away numbers", field: 1, 2, 12, then 5, 6 or 11 as first met, 8, 9. No lemmas here.
 use Prim.Native.Nat.{ℕ}
+use mathlib.Core.Path.{_≡_}
 use mathlib.Core.Bool.{Bool, false, cond}
 use mathlib.Core.List.{List}
 use lib.Dec.{eqb, ltb}
 use lib.ListN.{length, drop}
+use Rattle.lists.specs.Filled.{storedAt}
 use Rattle.refusal.specs.Table.{numberOf, placeOf}
 use Rattle.refusal.specs.Answer.{Answer, accepted, refused, refuseIf, firstRefusal, settled}
 use Rattle.timing.specs.Profile.{outside, profileRule}
@@ -11,6 +13,7 @@ use Rattle.timing.specs.Class.{classesOf}
 use Rattle.timing.specs.declared.Profile.{Profile}
 use Rattle.timing.specs.declared.Class.{Class}
 use Rattle.fields.specs.Field.{fieldStop, fieldUsed, fieldItems, fieldHolds, fieldStray, fieldStrayPlace}
+use Rattle.fields.specs.Field.{holdsAfter}
 use Rattle.fields.specs.declared.reader.FieldRead.{FieldRead}
 use Rattle.fields.specs.declared.reader.FieldRead.the-variants.{Field, Refused}
 
@@ -20,6 +23,10 @@ gatherRule cs n =
     firstRefusal (fieldStop cs n)
     (refuseIf (fieldStray cs n) 8 (fieldStrayPlace cs n)
     (accepted (fieldUsed cs n)))
+
+-- what the pass leaves in its buffer, where it is accepted
+abbrev pub GathersItems : List Class → ℕ → List ℕ → List ℕ → Type 0
+GathersItems cs n old new = gatherRule cs n .number ≡ 0 → new ≡ storedAt old 0 (fieldItems cs n)
 
 -- 9; else the number of items
 unfoldable pub deliverRule : ℕ → ℕ → Answer
@@ -45,7 +52,15 @@ fieldAnswer (Refused r) = fieldTurnedAway (refused (numberOf r) (placeOf r))
 
 -- and as the rules give it
 abbrev pub answerWith : Answer → ℕ → Bool → FieldAnswer
-answerWith a used holds = cond (eqb (a .number) 0) (record { answer = a; used = used; holds = holds }) (fieldTurnedAway a)
+answerWith a used holds =
+    cond (eqb (a .number) 0) (record { answer = a; used = used; holds = holds }) (fieldTurnedAway a)
+
+-- the answer and the output for items that are ready
+unfoldable pub deliverReading : List ℕ → ℕ → ℕ → FieldAnswer
+deliverReading items used room = answerWith (deliverRule (length items) room) used (holdsAfter items)
+
+unfoldable pub deliverOutput : List ℕ → List ℕ → List ℕ
+deliverOutput items old = settled (deliverRule (length items) (length old)) items old
 
 -- the answer and the output under an accepted profile, of a count in range
 unfoldable pub checkedReading : List Class → ℕ → ℕ → FieldAnswer

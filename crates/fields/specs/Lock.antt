@@ -10,7 +10,7 @@ use Rattle.timing.specs.Profile.{profileRule}
 use Rattle.timing.specs.Class.{classesOf, classNumber}
 use Rattle.timing.specs.declared.Profile.{Profile}
 use Rattle.timing.specs.declared.Class.{Class}
-use Rattle.timing.specs.declared.Class.the-variants.{Narrow, Two, Three, Four, Wide}
+use Rattle.timing.specs.declared.Class.the-variants.{Narrow, Two, Three, Four}
 
 abbrev pub sameClass : Class → Class → Bool
 sameClass c d = eqb (classNumber c) (classNumber d)

@@ -36,8 +36,8 @@ fn may_stand(place: usize, class: Class) -> bool
     }
 }
 
-// The intervals from `first` up to `k` are of class 2. One that is not moves `first` past it, so none is looked at again
-// but where 64 stand before `k` and no mark follows.
+// The intervals from `first` up to `k` are of class 2. One that is not moves `first` past it, so none is looked at
+// again but where 64 stand before `k` and no mark follows.
 fn scan(p: Profile, intervals: &[u16], start: usize) -> Counted
     ensures { λ r. ⌜ countedAnswer r ≡ lockFrom (classesOf p (now (intervals .entry))) start ⌝ }
 {

@@ -2,11 +2,12 @@
 ghost use Prim.Native.Nat.{_+_, _*_, _≤_};
 ghost use mathlib.Core.Path.{_≡_};
 ghost use lib.ListN.{length, take};
-ghost use Rattle.lists.specs.Filled.{filled, storedAt};
-ghost use Rattle.refusal.specs.Answer.{countedAnswer, settled};
+ghost use Rattle.lists.specs.Filled.{filled};
+ghost use Rattle.refusal.specs.Answer.{countedAnswer};
 ghost use Rattle.timing.specs.Class.{classesOf};
-ghost use Rattle.fields.specs.Field.{fieldItems, holdsAfter};
-ghost use Rattle.fields.specs.FieldRule.{gatherRule, deliverRule, fieldAnswer, answerWith, checkedReading, checkedOutput, fieldReading, fieldOutput, fieldRest};
+ghost use Rattle.fields.specs.Field.{holdsAfter};
+ghost use Rattle.fields.specs.FieldRule.{gatherRule, GathersItems, deliverReading, deliverOutput, fieldAnswer};
+ghost use Rattle.fields.specs.FieldRule.{checkedReading, checkedOutput, fieldReading, fieldOutput, fieldRest};
 use intervals::Scan;
 use items::Check;
 use refusal::Counted;
@@ -15,7 +16,7 @@ use refusal::Verdict;
 use symbols::Reading;
 use timing::Profile;
 
-// What a field reads as: how many items it has, how many intervals they used, and whether the register is zero after them.
+// What a field reads as: how many items, how many intervals they used, and whether the register is zero after them.
 pub enum FieldRead {
     Field {
         count: usize,
@@ -35,12 +36,13 @@ fn front(intervals: &[u16], most: usize) -> &[u16]
     &intervals[..most]
 }
 
-// One pass over the intervals of n bytes; each gives a bit at least, so 1,030 bytes use 8,241 at most. The items that have room are
-// stored from the front on. Answers how many intervals were used.
+// One pass over the intervals of n bytes; each gives a bit at least, so 1,030 bytes use 8,241 at most. The items that
+// have room are stored from the front on. Answers how many intervals were used.
 fn gather(p: Profile, intervals: &[u16], n: u32, out: &mut [u16]) -> Counted
     requires { ⌜ (length (now intervals) ≤ 8241) × (n ≤ 1030) ⌝ }
     ensures answer { λ r. ⌜ countedAnswer r ≡ gatherRule (classesOf p (now (intervals .entry))) n ⌝ }
-    ensures items { λ r. ⌜ (gatherRule (classesOf p (now (intervals .entry))) n .number ≡ 0 → now (out .exit) ≡ storedAt (now (out .entry)) 0 (fieldItems (classesOf p (now (intervals .entry))) n)) ⌝ }
+    ensures items { λ _. ⌜
+        GathersItems (classesOf p (now (intervals .entry))) n (now (out .entry)) (now (out .exit)) ⌝ }
 {
     let mut m = Reading::new();
     let mut count: usize = 0;
@@ -84,7 +86,8 @@ fn copy(items: &[u16], out: &mut [u16])
 
 // What was gathered, handed over where the output has room for it.
 fn deliver(items: &[u16], used: usize, out: &mut [u16]) -> FieldRead
-    ensures { λ r. ⌜ (fieldAnswer r ≡ answerWith (deliverRule (length (now (items .entry))) (length (now (out .entry)))) used (holdsAfter (now (items .entry)))) × (now (out .exit) ≡ settled (deliverRule (length (now (items .entry))) (length (now (out .entry)))) (now (items .entry)) (now (out .entry))) ⌝ }
+    ensures answer { λ r. ⌜ fieldAnswer r ≡ deliverReading (now (items .entry)) used (length (now (out .entry))) ⌝ }
+    ensures output { λ _. ⌜ now (out .exit) ≡ deliverOutput (now (items .entry)) (now (out .entry)) ⌝ }
 {
     if out.len() < items.len() {
         return FieldRead::Refused(Refusal::OutputTooShort);
@@ -100,8 +103,10 @@ fn deliver(items: &[u16], used: usize, out: &mut [u16]) -> FieldRead
 // The items wait in a buffer of their own, as a refusal changes nothing that was lent.
 fn read_checked(p: Profile, intervals: &[u16], n: usize, out: &mut [u16]) -> FieldRead
     requires { ⌜ n ≤ 1030 ⌝ }
-    ensures answer { λ r. ⌜ fieldAnswer r ≡ checkedReading (classesOf p (now (intervals .entry))) n (length (now (out .entry))) ⌝ }
-    ensures output { λ _. ⌜ now (out .exit) ≡ checkedOutput (classesOf p (now (intervals .entry))) n (now (out .entry)) ⌝ }
+    ensures answer { λ r. ⌜
+        fieldAnswer r ≡ checkedReading (classesOf p (now (intervals .entry))) n (length (now (out .entry))) ⌝ }
+    ensures output { λ _. ⌜
+        now (out .exit) ≡ checkedOutput (classesOf p (now (intervals .entry))) n (now (out .entry)) ⌝ }
 {
     let mut buffer = [0u16; 1030];
     match gather(p, front(intervals, 8 * n + 1), n as u32, &mut buffer) {

@@ -1,6 +1,7 @@
--- A class is narrow, or read as a cell, or wide: what holds in each of these cases holds of every class. Rests on no axiom.
+-- A class is narrow, or read as a cell, or wide: what holds in each of these cases holds of every class. Rests on no
+-- axiom.
 use Prim.Native.Nat.{ℕ}
-use mathlib.Core.Path.{_≡_, refl, ap, _∙_}
+use mathlib.Core.Path.{_≡_, refl}
 use native.Mathlib.Omega.{arith}
 use Rattle.refusal.specs.declared.Refusal.{Refusal}
 use Rattle.refusal.specs.declared.Refusal.the-variants.{IntervalTooShort, IntervalTooLong}
@@ -11,7 +12,6 @@ use Rattle.symbols.specs.declared.Cell.{Cell}
 use Rattle.symbols.specs.declared.Cell.the-variants.{Short, Medium, Long}
 use Rattle.symbols.specs.declared.Reading.{Reading}
 use Rattle.intervals.specs.Cells.{byClass, advanced}
-use Rattle.intervals.specs.declared.Scan.{Scan}
 use Rattle.intervals.specs.declared.Scan.the-variants.{Whole, Stopped}
 
 -- a class that is read as a cell

@@ -1,4 +1,5 @@
-// Reading a stream interval by interval: the class of each is a cell for the reading machine, or the refusal that stops the pass.
+// Reading a stream interval by interval: the class of each is a cell for the reading machine, or the refusal that stops
+// the pass.
 ghost use Prim.Native.Nat.{_+_, _<_};
 ghost use mathlib.Core.Path.{_≡_};
 ghost use lib.ListN.{length};

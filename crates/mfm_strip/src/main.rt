@@ -1,4 +1,5 @@
-// The strip program: it reads a profile and items from standard input, and writes the cells of their stream to standard output.
+// The strip program: it reads a profile and items from standard input, and writes the cells of their stream to
+// standard output.
 use libc::STDIN_FILENO;
 use libc::STDOUT_FILENO;
 

@@ -1,5 +1,5 @@
--- A buffer whose first places hold a list, as far as it has room: what was cut off at the buffer's end stays cut off, whatever comes after.
--- Rests on no axiom.
+-- A buffer whose first places hold a list, as far as it has room: what was cut off at the buffer's end stays cut off,
+-- whatever comes after. Rests on no axiom.
 use Prim.Native.Nat.{ℕ, zero, suc, _+_, _≤_, _<_}
 use mathlib.Core.Path.{_≡_, refl, sym, _∙_, ap, subst}
 use mathlib.Core.Bool.{Bool, true, false}
@@ -55,6 +55,9 @@ pub faulty-read : (good : Bool) (list after : List ℕ) → good ≡ false → I
 faulty-read good list after h =
     record { verdict = sym h; held = λ n e. absurd (let q : _≡_ {A = ℕ} 0 1 = cc in omega arith) }
 
-pub items-read : (good : Bool) (list after : List ℕ) (n : ℕ) → good ≡ true → Holds after n list → ItemsRead good list (Items n) after
+pub items-read : (good : Bool) (list after : List ℕ) (n : ℕ)
+    → good ≡ true
+    → Holds after n list
+    → ItemsRead good list (Items n) after
 items-read good list after n h k =
     record { verdict = sym h; held = λ m e. let q : n ≡ m = cc in subst (λ (i : ℕ). Holds after i list) q k }

@@ -31,19 +31,26 @@ module _ (field : List ℕ) (fields : List (List ℕ)) where
       joined-again buffer after n m ((base + b) ∷ []) (raised base fields) size h
       ∙ ap (λ (v : ℕ). joined buffer n ((base + v) ∷ raised base fields)) (sym e)
 
-some-are-bytes : (field : List ℕ) (fields : List (List ℕ)) → areBytes (field ∷ fields) ≡ everywhere isHexByte (field ∷ fields)
+some-are-bytes : (field : List ℕ) (fields : List (List ℕ))
+    → areBytes (field ∷ fields) ≡ everywhere isHexByte (field ∷ fields)
 unfolding areBytes
 some-are-bytes field fields = refl
 
 -- where something follows the word, there are bytes if each field is one
-pub bytes-from-tab : (line : List ℕ) (from : ℕ) → from < length line → areBytes (fieldsAfter (drop from line)) ≡ everywhere isHexByte (fieldsAfter (drop from line))
+pub bytes-from-tab : (line : List ℕ) (from : ℕ)
+    → from < length line
+    → areBytes (fieldsAfter (drop from line)) ≡ everywhere isHexByte (fieldsAfter (drop from line))
 bytes-from-tab line from h = rw (fields-next line from _ h refl) (some-are-bytes _ _)
 
-pub no-bytes-at-the-end : (line : List ℕ) (from : ℕ) → length line ≤ from → areBytes (fieldsAfter (drop from line)) ≡ false
+pub no-bytes-at-the-end : (line : List ℕ) (from : ℕ)
+    → length line ≤ from
+    → areBytes (fieldsAfter (drop from line)) ≡ false
 unfolding areBytes
 no-bytes-at-the-end line from h = rw (fields-at-the-end line from h)
 
-pub bytes-at-the-end : (line : List ℕ) (from : ℕ) → length line ≤ from → everywhere isHexByte (fieldsAfter (drop from line)) ≡ true
+pub bytes-at-the-end : (line : List ℕ) (from : ℕ)
+    → length line ≤ from
+    → everywhere isHexByte (fieldsAfter (drop from line)) ≡ true
 unfolding everywhere
 bytes-at-the-end line from h = rw (fields-at-the-end line from h)
 

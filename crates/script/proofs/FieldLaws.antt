@@ -32,23 +32,26 @@ fields-of-text s = by-test (ltb (length (upTo tab s)) (length s)) (ltb-true _ _)
         ∙ ap (λ (l : List ℕ). upTo tab s ∷ fieldsAfter l) (sym (drop-of-length-le s (none refl)))
 
 -- the field that starts after the tab at a place of a line
-module _ (line : List ℕ) (at end : ℕ) (h : at < length line) (e : end ≡ at + 1 + length (upTo tab (drop (at + 1) line))) where
-  pub field-ends-in-line : end ≤ length line
-  field-ends-in-line = omega (arith, up-to-length tab (drop (at + 1) line), length-drop (at + 1) line)
+module _ (line : List ℕ) (at end : ℕ) (h : at < length line) (e : end ≡ at + 1 + length (upTo tab (drop (at + 1) line)))
+  where
+    pub field-ends-in-line : end ≤ length line
+    field-ends-in-line = omega (arith, up-to-length tab (drop (at + 1) line), length-drop (at + 1) line)
 
-  pub field-is-a-part : take (end - (at + 1)) (drop (at + 1) line) ≡ upTo tab (drop (at + 1) line)
-  field-is-a-part =
-      let size : end - (at + 1) ≡ length (upTo tab (drop (at + 1) line)) = omega arith in
-      ap (λ (n : ℕ). take n (drop (at + 1) line)) size ∙ up-to-front tab (drop (at + 1) line)
+    pub field-is-a-part : take (end - (at + 1)) (drop (at + 1) line) ≡ upTo tab (drop (at + 1) line)
+    field-is-a-part =
+        let size : end - (at + 1) ≡ length (upTo tab (drop (at + 1) line)) = omega arith in
+        ap (λ (n : ℕ). take n (drop (at + 1) line)) size ∙ up-to-front tab (drop (at + 1) line)
 
-  pub fields-next : fieldsAfter (drop at line) ≡ take (end - (at + 1)) (drop (at + 1) line) ∷ fieldsAfter (drop end line)
-  unfolding fieldsAfter
-  fields-next =
-      ap fieldsAfter (drop-cons line at 0 h)
-      ∙ rw (← add-one at) (fields-of-text (drop (at + 1) line))
-      ∙ ap (λ (l : List ℕ). l ∷ fieldsAfter (drop (length (upTo tab (drop (at + 1) line))) (drop (at + 1) line))) (sym field-is-a-part)
-      ∙ ap (λ (l : List ℕ). take (end - (at + 1)) (drop (at + 1) line) ∷ fieldsAfter l)
-      (drop-drop (length (upTo tab (drop (at + 1) line))) (at + 1) line ∙ ap (λ (n : ℕ). drop n line) (sym e))
+    pub fields-next :
+        fieldsAfter (drop at line) ≡ take (end - (at + 1)) (drop (at + 1) line) ∷ fieldsAfter (drop end line)
+    unfolding fieldsAfter
+    fields-next =
+        ap fieldsAfter (drop-cons line at 0 h)
+        ∙ rw (← add-one at) (fields-of-text (drop (at + 1) line))
+        ∙ ap (λ (l : List ℕ). l ∷ fieldsAfter (drop (length (upTo tab (drop (at + 1) line))) (drop (at + 1) line)))
+        (sym field-is-a-part)
+        ∙ ap (λ (l : List ℕ). take (end - (at + 1)) (drop (at + 1) line) ∷ fieldsAfter l)
+        (drop-drop (length (upTo tab (drop (at + 1) line))) (at + 1) line ∙ ap (λ (n : ℕ). drop n line) (sym e))
 
 pub fields-at-the-end : (line : List ℕ) (at : ℕ) → length line ≤ at → fieldsAfter (drop at line) ≡ []
 unfolding fieldsAfter

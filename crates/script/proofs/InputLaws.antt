@@ -1,5 +1,5 @@
--- The lines of the input, one at a time: a line ends at the next line feed, and what stands after the last is faulty unless it is nothing.
--- Rests on no axiom.
+-- The lines of the input, one at a time: a line ends at the next line feed, and what stands after the last is faulty
+-- unless it is nothing. Rests on no axiom.
 use Prim.Native.Nat.{ℕ, suc, _+_, _-_, _≤_, _<_}
 use mathlib.Core.Path.{_≡_, sym, _∙_, ap, subst}
 use mathlib.Core.Bool.{true, false, not}
@@ -20,26 +20,28 @@ use Rattle.script.specs.Read.{Holds, LinesRead, within, joined}
 use Rattle.script.proofs.BufferLaws.{joined-with-none}
 
 -- the line that starts at a place of the text, where its end was looked for
-module _ (text : List ℕ) (at end : ℕ) (h : at ≤ length text) (e : end ≡ at + length (upTo lineFeed (drop at text))) where
-  pub line-ends-in-text : end ≤ length text
-  line-ends-in-text = omega (arith, up-to-length lineFeed (drop at text), length-drop at text)
+module _ (text : List ℕ) (at end : ℕ) (h : at ≤ length text) (e : end ≡ at + length (upTo lineFeed (drop at text)))
+  where
+    pub line-ends-in-text : end ≤ length text
+    line-ends-in-text = omega (arith, up-to-length lineFeed (drop at text), length-drop at text)
 
-  pub line-is-a-part : take (end - at) (drop at text) ≡ upTo lineFeed (drop at text)
-  line-is-a-part =
-      let size : end - at ≡ length (upTo lineFeed (drop at text)) = omega arith in
-      ap (λ (n : ℕ). take n (drop at text)) size ∙ up-to-front lineFeed (drop at text)
+    pub line-is-a-part : take (end - at) (drop at text) ≡ upTo lineFeed (drop at text)
+    line-is-a-part =
+        let size : end - at ≡ length (upTo lineFeed (drop at text)) = omega arith in
+        ap (λ (n : ℕ). take n (drop at text)) size ∙ up-to-front lineFeed (drop at text)
 
-  pub lines-next : end < length text
-      → piecesOf lineFeed (drop at text) ≡ take (end - at) (drop at text) ∷ piecesOf lineFeed (drop (end + 1) text)
-  lines-next k =
-      let next : at + suc (length (upTo lineFeed (drop at text))) ≡ end + 1 = omega arith in
-      pieces-first lineFeed (drop at text) (omega (arith, length-drop at text))
-      ∙ ap (λ (l : List ℕ). l ∷ piecesOf lineFeed (drop (suc (length (upTo lineFeed (drop at text)))) (drop at text))) (sym line-is-a-part)
-      ∙ ap (λ (l : List ℕ). take (end - at) (drop at text) ∷ piecesOf lineFeed l)
-      (drop-drop (suc (length (upTo lineFeed (drop at text)))) at text ∙ ap (λ (n : ℕ). drop n text) next)
+    pub lines-next : end < length text
+        → piecesOf lineFeed (drop at text) ≡ take (end - at) (drop at text) ∷ piecesOf lineFeed (drop (end + 1) text)
+    lines-next k =
+        let next : at + suc (length (upTo lineFeed (drop at text))) ≡ end + 1 = omega arith in
+        pieces-first lineFeed (drop at text) (omega (arith, length-drop at text))
+        ∙ ap (λ (l : List ℕ). l ∷ piecesOf lineFeed (drop (suc (length (upTo lineFeed (drop at text)))) (drop at text)))
+        (sym line-is-a-part)
+        ∙ ap (λ (l : List ℕ). take (end - at) (drop at text) ∷ piecesOf lineFeed l)
+        (drop-drop (suc (length (upTo lineFeed (drop at text)))) at text ∙ ap (λ (n : ℕ). drop n text) next)
 
-  pub no-line-feed : end ≡ length text → piecesOf lineFeed (drop at text) ≡ drop at text ∷ []
-  no-line-feed k = pieces-last lineFeed (drop at text) (omega (arith, length-drop at text))
+    pub no-line-feed : end ≡ length text → piecesOf lineFeed (drop at text) ≡ drop at text ∷ []
+    no-line-feed k = pieces-last lineFeed (drop at text) (omega (arith, length-drop at text))
 
 -- a line, and the lines after it
 module _ (line rest : List ℕ) where
@@ -49,10 +51,14 @@ module _ (line rest : List ℕ) where
   unfolding garbledFrom
   garbled-next n = rw (pieces-some lineFeed rest .2)
 
-  pub garbled-at-faulty : (n : ℕ) → isItemLine line ≡ false → garbledFrom n (line ∷ piecesOf lineFeed rest) ≡ refused 14 n
+  pub garbled-at-faulty : (n : ℕ)
+      → isItemLine line ≡ false
+      → garbledFrom n (line ∷ piecesOf lineFeed rest) ≡ refused 14 n
   garbled-at-faulty n h = garbled-next n ∙ rw h
 
-  pub garbled-after-good : (n : ℕ) → isItemLine line ≡ true → garbledFrom n (line ∷ piecesOf lineFeed rest) ≡ garbledFrom (suc n) (piecesOf lineFeed rest)
+  pub garbled-after-good : (n : ℕ)
+      → isItemLine line ≡ true
+      → garbledFrom n (line ∷ piecesOf lineFeed rest) ≡ garbledFrom (suc n) (piecesOf lineFeed rest)
   garbled-after-good n h = garbled-next n ∙ rw h
 
   pub items-next : itemsOf (line ∷ piecesOf lineFeed rest) ≡ lineItems line ++ itemsOf (piecesOf lineFeed rest)
@@ -64,7 +70,9 @@ pub garbled-rest : (n : ℕ) (rest : List ℕ) → 0 < length rest → garbledFr
 unfolding garbledFrom
 garbled-rest n rest h = rw (lt-ltb 0 (length rest) h)
 
-pub garbled-at-the-end : (n : ℕ) (text : List ℕ) (at : ℕ) → length text ≤ at → garbledFrom n (piecesOf lineFeed (drop at text)) ≡ accepted 0
+pub garbled-at-the-end : (n : ℕ) (text : List ℕ) (at : ℕ)
+    → length text ≤ at
+    → garbledFrom n (piecesOf lineFeed (drop at text)) ≡ accepted 0
 unfolding garbledFrom piecesOf
 garbled-at-the-end n text at h = rw (drop-of-length-le text h)
 
@@ -73,7 +81,9 @@ unfolding itemsOf piecesOf
 items-at-the-end text at h = rw (drop-of-length-le text h)
 
 -- lines that were read, and lines of which one is faulty
-pub lines-refused : (lines : List (List ℕ)) (buffer after : List ℕ) (n : ℕ) → garbledFrom 2 lines ≡ refused 14 n → LinesRead lines buffer (Refused (MalformedInput n)) after
+pub lines-refused : (lines : List (List ℕ)) (buffer after : List ℕ) (n : ℕ)
+    → garbledFrom 2 lines ≡ refused 14 n
+    → LinesRead lines buffer (Refused (MalformedInput n)) after
 lines-refused lines buffer after n e =
     record { answer = rw e; held = λ m q. absurd (let z : _≡_ {A = ℕ} 0 1 = cc in omega arith) }
 
@@ -82,7 +92,8 @@ pub lines-read : (lines : List (List ℕ)) (buffer after : List ℕ) (n : ℕ)
     → Holds after n (within buffer (itemsOf lines))
     → LinesRead lines buffer (Count n) after
 lines-read lines buffer after n e h =
-    let size : n ≡ length (within buffer (itemsOf lines)) = sym (length-take-le n after (h .fits)) ∙ ap length (h .front) in
+    let size : n ≡ length (within buffer (itemsOf lines)) =
+    sym (length-take-le n after (h .fits)) ∙ ap length (h .front) in
     record {
       answer = rw e (ap accepted size);
       held = λ m q. let z : n ≡ m = cc in subst (λ (i : ℕ). Holds after i (within buffer (itemsOf lines))) z h;

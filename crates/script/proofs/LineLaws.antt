@@ -12,7 +12,8 @@ use Rattle.text.proofs.PieceLaws.{up-to-length, up-to-front}
 use Rattle.text.specs.Decimal.{isDecimal}
 use Rattle.lists.specs.Place.{everywhere}
 use Rattle.script.specs.declared.ProfileLine.the-variants.{Given, Faulty}
-use Rattle.script.specs.Line.{isProfileLine, profileOf, profileRead, wordOf, argumentsOf, areBytes, isItemLine, raised, lineItems}
+use Rattle.script.specs.Line.{isProfileLine, profileOf, profileRead, wordOf, argumentsOf, areBytes, isItemLine}
+use Rattle.script.specs.Line.{raised, lineItems}
 use Rattle.script.specs.Read.{fieldsAfter}
 use Rattle.script.proofs.FieldLaws.{fields-of-text}
 
@@ -52,7 +53,8 @@ module _ (line : List ℕ) (no-crc : sameText line (ascii "crc") ≡ false) wher
   unfolding lineItems
   data-items h = rw (no-crc, h)
 
-module _ (line : List ℕ) (no-crc : sameText line (ascii "crc") ≡ false) (no-data : sameText (wordOf line) (ascii "data") ≡ false) where
+module _ (line : List ℕ) (no-crc : sameText line (ascii "crc") ≡ false)
+    (no-data : sameText (wordOf line) (ascii "data") ≡ false) where
   pub mark-takes-bytes : sameText (wordOf line) (ascii "mark") ≡ true → isItemLine line ≡ areBytes (argumentsOf line)
   unfolding isItemLine
   mark-takes-bytes h = rw (no-crc, no-data, h)

@@ -18,7 +18,8 @@ use Rattle.script.specs.Read.{NumbersRead}
 unfoldable pub fitting : ℕ → ℕ → List (List ℕ) → Bool
 fitting k places fields = eqb (k + length fields) places && everywhere isDecimal fields
 
-pub fitting-from-the-first : (places : ℕ) (fields : List (List ℕ)) → fitting 0 places fields ≡ (eqb (length fields) places && everywhere isDecimal fields)
+pub fitting-from-the-first : (places : ℕ) (fields : List (List ℕ))
+    → fitting 0 places fields ≡ (eqb (length fields) places && everywhere isDecimal fields)
 unfolding fitting
 fitting-from-the-first places fields = rw zero-add
 

@@ -34,7 +34,9 @@ pub faulty-is-no-profile-line : (line : List ℕ) → profileRead line ≡ Fault
 unfolding profileRead
 faulty-is-no-profile-line line e = cond-faulty (isProfileLine line) (profileOf line) e
 
-pub given-is-profile-line : (line : List ℕ) (p : Profile) → profileRead line ≡ Profiled p → (isProfileLine line ≡ true) × (profileOf line ≡ p)
+pub given-is-profile-line : (line : List ℕ) (p : Profile)
+    → profileRead line ≡ Profiled p
+    → (isProfileLine line ≡ true) × (profileOf line ≡ p)
 unfolding profileRead
 given-is-profile-line line p e = cond-given (isProfileLine line) (profileOf line) p e
 
@@ -65,7 +67,8 @@ module _ (text : List ℕ) (end : ℕ) (h : length text ≤ 16384) (e : end ≡ 
   pieces-after k =
       let next : suc (length (upTo lineFeed text)) ≡ end + 1 = omega arith in
       pieces-first lineFeed text (omega arith)
-      ∙ ap (λ (l : List ℕ). l ∷ piecesOf lineFeed (drop (suc (length (upTo lineFeed text))) text)) (sym first-line-is-a-part)
+      ∙ ap (λ (l : List ℕ). l ∷ piecesOf lineFeed (drop (suc (length (upTo lineFeed text))) text))
+      (sym first-line-is-a-part)
       ∙ ap (λ (n : ℕ). take end text ∷ piecesOf lineFeed (drop n text)) next
 
   pub no-profile-is-refused : end < length text → isProfileLine (take end text) ≡ false → inputRule text ≡ refused 14 1
@@ -87,7 +90,9 @@ module _ (text : List ℕ) (end : ℕ) (h : length text ≤ 16384) (e : end ≡ 
   profile-of-the-input = ap profileOf first-line-is-a-part
 
 -- an input that is garbled before its items are read
-pub script-refused : (text buffer after : List ℕ) (r : Refusal) → inputRule text ≡ refused (numberOf r) (placeOf r) → ScriptRead text buffer (Refused r) after
+pub script-refused : (text buffer after : List ℕ) (r : Refusal)
+    → inputRule text ≡ refused (numberOf r) (placeOf r)
+    → ScriptRead text buffer (Refused r) after
 script-refused text buffer after r e =
     record {
       answer = refusal-decides r (inputRule text) _ (sym e);
@@ -98,7 +103,8 @@ script-refused text buffer after r e =
 -- an input whose lines were read
 module _
     (text buffer after : List ℕ) (lines : List (List ℕ)) (c : Counted)
-    (rule : inputRule text ≡ garbledFrom 2 lines) (items : itemsIn text ≡ itemsOf lines) (read : LinesRead lines buffer c after)
+    (rule : inputRule text ≡ garbledFrom 2 lines) (items : itemsIn text ≡ itemsOf lines)
+    (read : LinesRead lines buffer c after)
   where
     same-answer : countedAnswer c ≡ firstRefusal (inputRule text) (accepted (length (within buffer (itemsIn text))))
     same-answer = rw (rule, items) (read .answer)
@@ -111,7 +117,10 @@ module _
           held = λ p n q. absurd (let z : _≡_ {A = ℕ} 0 1 = cc in omega arith);
         }
 
-    pub lines-give-the-script : (p : Profile) (n : ℕ) → p ≡ profileIn text → c ≡ Count n → ScriptRead text buffer (Given p n) after
+    pub lines-give-the-script : (p : Profile) (n : ℕ)
+        → p ≡ profileIn text
+        → c ≡ Count n
+        → ScriptRead text buffer (Given p n) after
     lines-give-the-script p n own e =
         let front : Holds after n (within buffer (itemsIn text)) = rw items (read .held n e) in
         record {

@@ -11,7 +11,8 @@ use Rattle.text.specs.Pieces.{piecesOf, upTo}
 use Rattle.timing.specs.declared.Profile.{Profile}
 use Rattle.script.specs.Line.{isProfileLine, profileOf, isItemLine, lineItems}
 
--- 14, garbled: the lowest faulty line of those from line n on. What stands after the last line feed is a faulty line, unless it is nothing
+-- 14, garbled: the lowest faulty line of those from line n on. What stands after the last line feed is a faulty line,
+-- unless it is nothing
 unfoldable pub garbledFrom : ℕ → List (List ℕ) → Answer
 garbledFrom n [] = accepted 0
 garbledFrom n (rest ∷ []) = refuseIf (ltb 0 (length rest)) 14 n (accepted 0)

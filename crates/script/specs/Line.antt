@@ -25,7 +25,8 @@ argumentsOf line = drop 1 (piecesOf tab line)
 -- first `profile` and nine decimals
 unfoldable pub isProfileLine : List ℕ → Bool
 isProfileLine line =
-    sameText (wordOf line) (ascii "profile") && (eqb (length (argumentsOf line)) 9 && everywhere isDecimal (argumentsOf line))
+    sameText (wordOf line) (ascii "profile") &&
+    (eqb (length (argumentsOf line)) 9 && everywhere isDecimal (argumentsOf line))
 
 -- nine numbers, in the order of the profile
 abbrev pub profileFrom : List ℕ → Profile

@@ -55,7 +55,8 @@ joined buffer n items = within buffer (take n buffer ++ items)
 
 -- fields that are bytes, each with a number added
 abbrev pub BytesRead : List (List ℕ) → ℕ → List ℕ → ℕ → ItemLine → List ℕ → Type 0
-BytesRead fields base buffer count r after = ItemsRead (areBytes fields) (joined buffer count (raised base fields)) r after
+BytesRead fields base buffer count r after =
+    ItemsRead (areBytes fields) (joined buffer count (raised base fields)) r after
 
 -- a line of items
 abbrev pub LineRead : List ℕ → List ℕ → ℕ → ItemLine → List ℕ → Type 0

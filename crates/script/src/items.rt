@@ -10,8 +10,9 @@ ghost use Rattle.text.specs.Ascii.{lineFeed};
 ghost use Rattle.text.specs.Pieces.{piecesOf};
 ghost use Rattle.script.specs.Read.{Holds, BytesRead, LineRead, LinesRead, joined, fieldsAfter};
 
-// One item more, where the buffer has room. Items beyond it need not be kept, as long as the buffer is longer than any list that is accepted.
-pub fn push(buffer: &mut [u16], count: usize, item: u16) -> usize
+// One item more, where the buffer has room. Items beyond it need not be kept, as long as the buffer is longer than
+// any list that is accepted.
+fn push(buffer: &mut [u16], count: usize, item: u16) -> usize
     requires { ⌜ count ≤ length (now buffer) ⌝ }
     ensures { λ r. ⌜ Holds (now (buffer .exit)) r (joined (now (buffer .entry)) count (item ∷ [])) ⌝ }
 {
@@ -23,9 +24,10 @@ pub fn push(buffer: &mut [u16], count: usize, item: u16) -> usize
 }
 
 // The bytes that stand from a tab on, each with a number added.
-pub fn read_bytes(line: &[u8], from: usize, base: u16, buffer: &mut [u16], count: usize) -> ItemLine
+fn read_bytes(line: &[u8], from: usize, base: u16, buffer: &mut [u16], count: usize) -> ItemLine
     requires { ⌜ (base ≤ 256) × (count ≤ length (now buffer)) ⌝ }
-    ensures { λ r. ⌜ BytesRead (fieldsAfter (drop from (now (line .entry)))) base (now (buffer .entry)) count r (now (buffer .exit)) ⌝ }
+    ensures { λ r. ⌜ BytesRead (fieldsAfter (drop from (now (line .entry)))) base (now (buffer .entry)) count r
+        (now (buffer .exit)) ⌝ }
 {
     if line.len() <= from {
         return ItemLine::Faulty;
@@ -45,7 +47,7 @@ pub fn read_bytes(line: &[u8], from: usize, base: u16, buffer: &mut [u16], count
 }
 
 // The items of one line.
-pub fn read_item_line(line: &[u8], buffer: &mut [u16], count: usize) -> ItemLine
+fn read_item_line(line: &[u8], buffer: &mut [u16], count: usize) -> ItemLine
     requires { ⌜ count ≤ length (now buffer) ⌝ }
     ensures { λ r. ⌜ LineRead (now (line .entry)) (now (buffer .entry)) count r (now (buffer .exit)) ⌝ }
 {
@@ -65,7 +67,8 @@ pub fn read_item_line(line: &[u8], buffer: &mut [u16], count: usize) -> ItemLine
 // The items of all lines from the second on, which starts at `from`.
 pub fn read_items(text: &[u8], from: usize, buffer: &mut [u16]) -> Counted
     requires { ⌜ (from ≤ length (now text)) × (length (now text) ≤ 16384) ⌝ }
-    ensures { λ r. ⌜ LinesRead (piecesOf lineFeed (drop from (now (text .entry)))) (now (buffer .entry)) r (now (buffer .exit)) ⌝ }
+    ensures { λ r. ⌜ LinesRead (piecesOf lineFeed (drop from (now (text .entry)))) (now (buffer .entry)) r
+        (now (buffer .exit)) ⌝ }
 {
     let mut at = from;
     let mut line: u32 = 2;

@@ -2,13 +2,8 @@
 mod items;
 mod profile;
 
-pub use items::push;
-pub use items::read_bytes;
-pub use items::read_item_line;
-pub use items::read_items;
-pub use profile::profile_of;
-pub use profile::read_numbers;
-pub use profile::read_profile;
+use items::read_items;
+use profile::read_profile;
 use refusal::Counted;
 use refusal::Refusal;
 use timing::Profile;

@@ -10,8 +10,9 @@ ghost use Rattle.script.specs.Line.{profileFrom, profileRead};
 ghost use Rattle.script.specs.Read.{NumbersRead, fieldsAfter};
 
 // The decimals that stand from a tab on, if they are as many as the buffer has places.
-pub fn read_numbers(line: &[u8], from: usize, numbers: &mut [u16]) -> bool
-    ensures { λ r. ⌜ NumbersRead (fieldsAfter (drop from (now (line .entry)))) (length (now (numbers .entry))) r (now (numbers .exit)) ⌝ }
+fn read_numbers(line: &[u8], from: usize, numbers: &mut [u16]) -> bool
+    ensures { λ r. ⌜ NumbersRead (fieldsAfter (drop from (now (line .entry)))) (length (now (numbers .entry))) r
+        (now (numbers .exit)) ⌝ }
 {
     let mut at = from;
     let mut k = 0;
@@ -32,7 +33,7 @@ pub fn read_numbers(line: &[u8], from: usize, numbers: &mut [u16]) -> bool
 }
 
 // Nine numbers in the profile's order.
-pub fn profile_of(numbers: &[u16; 9]) -> Profile
+fn profile_of(numbers: &[u16; 9]) -> Profile
     ensures { λ r. ⌜ r ≡ profileFrom (now (numbers .entry)) ⌝ }
 {
     Profile {

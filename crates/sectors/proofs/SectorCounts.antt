@@ -1,6 +1,6 @@
 -- How many items and written bytes a sector has: 114 items and 116 written bytes beside its data. Rests on no axiom.
-use Prim.Native.Nat.{ℕ, suc, _+_}
-use mathlib.Core.Path.{_≡_, refl, sym, ap, ap₂, _∙_}
+use Prim.Native.Nat.{ℕ, _+_}
+use mathlib.Core.Path.{_≡_, refl, ap, ap₂, _∙_}
 use mathlib.Core.Bool.{Bool, true, false, not, _||_, true≢false}
 use mathlib.Core.List.{List, [], _∷_, _++_}
 use native.Mathlib.Omega.{arith}
@@ -26,7 +26,9 @@ bytes-count-one-each : (ns : List ℕ) → everywhere isByte ns ≡ true → wri
 unfolding writtenBytes
 bytes-count-one-each [] e = refl
 bytes-count-one-each (n ∷ ns) e =
-    ap₂ _+_ (byte-counts-one n (everywhere-passes-at-first isByte n ns e)) (bytes-count-one-each ns (everywhere-in-rest isByte n ns e))
+    ap₂ _+_
+    (byte-counts-one n (everywhere-passes-at-first isByte n ns e))
+    (bytes-count-one-each ns (everywhere-in-rest isByte n ns e))
     ∙ omega arith
 
 module _ (track side sector code : ℕ) (bytes : List ℕ) where

@@ -1,16 +1,17 @@
--- Laws of a sector's items: how many there are, and that its parts stored one after the other are the whole. Rests on no axiom.
-use Prim.Native.Nat.{ℕ, zero, suc, _+_, _≤_, _<_}
-use mathlib.Core.Path.{_≡_, refl, sym, ap, _∙_}
+-- Laws of a sector's items: how many there are, and that its parts stored one after the other are the whole. Rests on
+-- no axiom.
+use Prim.Native.Nat.{ℕ, _+_, _≤_, _<_}
+use mathlib.Core.Path.{_≡_, refl, ap, _∙_}
 use mathlib.Core.Bool.{true, false}
-use mathlib.Core.List.{List, [], _∷_, _++_, append-assoc}
+use mathlib.Core.List.{List, [], _∷_, _++_}
 use native.Mathlib.Omega.{arith}
 use borrow.Author.Tests.{lt-ltb, le-ltb, eq-eqb, ne-eqb}
 use lib.ListN.{length, set, replicate, length-append}
 use Rattle.refusal.specs.Answer.{Answer, accepted, refused}
 use Rattle.lists.specs.Filled.{storedAt}
 use Rattle.sectors.specs.Sector.{sectorSize, opening, identity, sectorItems, isMisfit, sectorRule, sectorOutput}
-use Rattle.lists.proofs.StoreLaws.{stored-after-stored, stored-at-front-fills}
-use Rattle.sectors.proofs.StoreLaws.{stored-one-more}
+use Rattle.lists.proofs.StoreLaws.{stored-at-front-fills}
+use Rattle.sectors.proofs.StoreLaws.{stored-next, stored-one-more}
 
 module _ (track side sector code : ℕ) (bytes : List ℕ) where
   -- 114 items beside the data
@@ -18,35 +19,27 @@ module _ (track side sector code : ℕ) (bytes : List ℕ) where
   unfolding sectorItems opening identity
   sector-length = simp length-append (omega arith)
 
-  -- the maker's stores, one part after the other
+  -- the maker's stores, one part after the other, each where the one before it ended
   pub sector-stored
-      : (l : List ℕ) (end : ℕ)
-      → end ≡ 60 + length bytes
-      → storedAt
-      (storedAt
-      (storedAt
-      (storedAt
-      (storedAt
-      (storedAt l 0 (opening 0xfe))
-      16 (identity track side sector code))
-      21 (replicate 22 0x4e))
-      43 (opening 0xfb))
-      59 (bytes ++ (512 ∷ [])))
-      end (replicate 54 0x4e)
-      ≡ storedAt l 0 (sectorItems track side sector code bytes)
+      : (l after-opening after-identity after-gap after-second after-data : List ℕ) (id gap second first end : ℕ)
+      → after-opening ≡ storedAt l 0 (opening 0xfe)
+      → id ≡ 16
+      → after-identity ≡ storedAt after-opening id (identity track side sector code)
+      → gap ≡ id + 5
+      → after-gap ≡ storedAt after-identity gap (replicate 22 0x4e)
+      → second ≡ gap + 22
+      → after-second ≡ storedAt after-gap second (opening 0xfb)
+      → first ≡ second + 16
+      → after-data ≡ storedAt after-second first (bytes ++ (512 ∷ []))
+      → end ≡ first + length bytes + 1
+      → storedAt after-data end (replicate 54 0x4e) ≡ storedAt l 0 (sectorItems track side sector code bytes)
   unfolding sectorItems opening identity
-  sector-stored l end e =
-      stored-after-stored
-      (bytes ++ (512 ∷ []))
-      (replicate 54 0x4e)
-      _
-      59
-      end
-      (simp length-append (omega arith))
-      ∙ stored-after-stored (opening 0xfb) _ _ 43 59 refl
-      ∙ stored-after-stored (replicate 22 0x4e) _ _ 21 43 refl
-      ∙ stored-after-stored (identity track side sector code) _ _ 16 21 refl
-      ∙ stored-after-stored (opening 0xfe) _ l 0 16 refl
+  sector-stored l o i g s d id gap second first end e₁ e₂ e₃ e₄ e₅ e₆ e₇ e₈ e₉ e₀ =
+      stored-next (bytes ++ (512 ∷ [])) (replicate 54 0x4e) s d first end e₉ (simp length-append (omega arith))
+      ∙ stored-next (opening 0xfb) _ g s second first e₇ e₈
+      ∙ stored-next (replicate 22 0x4e) _ i g gap second e₅ e₆
+      ∙ stored-next (identity track side sector code) _ o i id gap e₃ e₄
+      ∙ stored-next (opening 0xfe) _ l o 0 id e₁ e₂
 
   code-above-3-is-misfit : 3 < code → isMisfit code bytes ≡ true
   unfolding isMisfit
@@ -63,7 +56,8 @@ module _ (track side sector code : ℕ) (bytes : List ℕ) where
   -- the maker's answer and output from what its tests found
   abbrev Settles : Answer → List ℕ → List ℕ → Type 0
   Settles answer new old =
-      (answer ≡ sectorRule track side sector code bytes (length old)) × (new ≡ sectorOutput track side sector code bytes old)
+      (answer ≡ sectorRule track side sector code bytes (length old))
+      × (new ≡ sectorOutput track side sector code bytes old)
 
   misfit-settles : (l : List ℕ) → isMisfit code bytes ≡ true → Settles (refused 13 0) l l
   unfolding sectorRule sectorOutput
@@ -108,5 +102,5 @@ pub opening-stored
     → set (storedAt (storedAt l i (replicate 12 0)) j (replicate 3 0x1a1)) k kind ≡ storedAt l i (opening kind)
 unfolding opening
 opening-stored l i j k kind e f =
-    ap (λ (m : List ℕ). set m k kind) (stored-after-stored (replicate 12 0) (replicate 3 0x1a1) l i j e)
+    ap (λ (m : List ℕ). set m k kind) (stored-next (replicate 12 0) (replicate 3 0x1a1) l _ i j refl e)
     ∙ stored-one-more (replicate 12 0 ++ replicate 3 0x1a1) l i k kind f

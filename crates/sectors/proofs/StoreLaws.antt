@@ -9,6 +9,14 @@ use lib.Seq.{take-suc, length-take-le}
 use Rattle.lists.specs.Filled.{storedAt}
 use Rattle.lists.proofs.StoreLaws.{stored-one, stored-after-stored}
 
+-- a run of stores where an earlier one ended
+pub stored-next
+    : (vs ws l m : List ℕ) (i j : ℕ)
+    → m ≡ storedAt l i vs
+    → j ≡ i + length vs
+    → storedAt m j ws ≡ storedAt l i (vs ++ ws)
+stored-next vs ws l m i j e h = ap (λ (k : List ℕ). storedAt k j ws) e ∙ stored-after-stored vs ws l i j h
+
 -- one store after a run
 pub stored-one-more
     : (vs l : List ℕ) (i j a : ℕ) → j ≡ i + length vs → set (storedAt l i vs) j a ≡ storedAt l i (vs ++ (a ∷ []))

@@ -1,7 +1,7 @@
 // Document 01, "Sector maker": the items of one sector, ID field and data field.
 ghost use Prim.Native.Nat.{_+_, _≤_};
 ghost use mathlib.Core.Path.{_≡_};
-ghost use mathlib.Core.List.{List, [], _∷_, _++_};
+ghost use mathlib.Core.List.{[], _∷_, _++_};
 ghost use lib.ListN.{length, replicate};
 ghost use Rattle.lists.specs.Filled.{storedAt};
 ghost use Rattle.refusal.specs.Answer.{countedAnswer};
@@ -25,7 +25,8 @@ pub fn sector_size(code: u8) -> usize
 
 fn repeat(out: &mut [u16], at: usize, count: usize, item: u16) -> usize
     requires { ⌜ at + count ≤ length (now out) ⌝ }
-    ensures { λ r. ⌜ (r ≡ at + count) × (now (out .exit) ≡ storedAt (now (out .entry)) at (replicate count item)) ⌝ }
+    ensures next { λ r. ⌜ r ≡ at + count ⌝ }
+    ensures output { λ _. ⌜ now (out .exit) ≡ storedAt (now (out .entry)) at (replicate count item) ⌝ }
 {
     let mut k: usize = 0;
     while k < count {
@@ -38,7 +39,8 @@ fn repeat(out: &mut [u16], at: usize, count: usize, item: u16) -> usize
 // 12 of 00, three marks A1, and the byte that tells an ID field from a data field.
 fn open_field(out: &mut [u16], at: usize, kind: u16) -> usize
     requires { ⌜ at + 16 ≤ length (now out) ⌝ }
-    ensures { λ r. ⌜ (r ≡ at + 16) × (now (out .exit) ≡ storedAt (now (out .entry)) at (opening kind)) ⌝ }
+    ensures next { λ r. ⌜ r ≡ at + 16 ⌝ }
+    ensures output { λ _. ⌜ now (out .exit) ≡ storedAt (now (out .entry)) at (opening kind) ⌝ }
 {
     let marks = repeat(out, at, 12, 0x00);
     let end = repeat(out, marks, 3, 0x1a1);
@@ -48,7 +50,8 @@ fn open_field(out: &mut [u16], at: usize, kind: u16) -> usize
 
 fn put_identity(out: &mut [u16], at: usize, track: u8, side: u8, sector: u8, code: u8) -> usize
     requires { ⌜ at + 5 ≤ length (now out) ⌝ }
-    ensures { λ r. ⌜ (r ≡ at + 5) × (now (out .exit) ≡ storedAt (now (out .entry)) at (identity track side sector code)) ⌝ }
+    ensures next { λ r. ⌜ r ≡ at + 5 ⌝ }
+    ensures output { λ _. ⌜ now (out .exit) ≡ storedAt (now (out .entry)) at (identity track side sector code) ⌝ }
 {
     out[at] = track as u16;
     out[at + 1] = side as u16;
@@ -60,7 +63,8 @@ fn put_identity(out: &mut [u16], at: usize, track: u8, side: u8, sector: u8, cod
 
 fn put_data(out: &mut [u16], at: usize, bytes: &[u8]) -> usize
     requires { ⌜ at + length (now bytes) + 1 ≤ length (now out) ⌝ }
-    ensures { λ r. ⌜ (r ≡ at + length (now (bytes .entry)) + 1) × (now (out .exit) ≡ storedAt (now (out .entry)) at (now (bytes .entry) ++ (512 ∷ []))) ⌝ }
+    ensures next { λ r. ⌜ r ≡ at + length (now (bytes .entry)) + 1 ⌝ }
+    ensures output { λ _. ⌜ now (out .exit) ≡ storedAt (now (out .entry)) at (now (bytes .entry) ++ (512 ∷ [])) ⌝ }
 {
     let mut k: usize = 0;
     while k < bytes.len() {
@@ -74,7 +78,8 @@ fn put_data(out: &mut [u16], at: usize, bytes: &[u8]) -> usize
 // The whole sector at the front of the output.
 fn put_sector(out: &mut [u16], track: u8, side: u8, sector: u8, code: u8, bytes: &[u8])
     requires { ⌜ length (now bytes) + 114 ≤ length (now out) ⌝ }
-    ensures { λ _. ⌜ now (out .exit) ≡ storedAt (now (out .entry)) 0 (sectorItems track side sector code (now (bytes .entry))) ⌝ }
+    ensures { λ _. ⌜
+        now (out .exit) ≡ storedAt (now (out .entry)) 0 (sectorItems track side sector code (now (bytes .entry))) ⌝ }
 {
     let id = open_field(out, 0, 0xfe);
     let gap = put_identity(out, id, track, side, sector, code);
@@ -93,8 +98,10 @@ pub fn make_sector(
     bytes: &[u8],
     out: &mut [u16],
 ) -> Counted
-    ensures answer { λ r. ⌜ countedAnswer r ≡ sectorRule track side sector code (now (bytes .entry)) (length (now (out .entry))) ⌝ }
-    ensures output { λ _. ⌜ now (out .exit) ≡ sectorOutput track side sector code (now (bytes .entry)) (now (out .entry)) ⌝ }
+    ensures answer { λ r. ⌜
+        countedAnswer r ≡ sectorRule track side sector code (now (bytes .entry)) (length (now (out .entry))) ⌝ }
+    ensures output { λ _. ⌜
+        now (out .exit) ≡ sectorOutput track side sector code (now (bytes .entry)) (now (out .entry)) ⌝ }
 {
     if 3 < code {
         return Counted::Refused(Refusal::SectorSizeMismatch);

@@ -42,13 +42,15 @@ line-of-one : (word : List ℕ) (a : ℕ) → length (lineOf word (a ∷ [])) �
 line-of-one word a =
     line-length word (a ∷ []) ∙ omega (arith, fields-length-of-more a [], fields-length-of-none)
 
-line-of-two : (word : List ℕ) (a b : ℕ) → length (lineOf word (a ∷ b ∷ [])) ≡ length word + length (decimal a) + length (decimal b) + 3
+line-of-two : (word : List ℕ) (a b : ℕ)
+    → length (lineOf word (a ∷ b ∷ [])) ≡ length word + length (decimal a) + length (decimal b) + 3
 line-of-two word a b =
     line-length word (a ∷ b ∷ [])
     ∙ omega (arith, fields-length-of-more a (b ∷ []), fields-length-of-more b [], fields-length-of-none)
 
 line-of-three : (word : List ℕ) (a b c : ℕ)
-    → length (lineOf word (a ∷ b ∷ c ∷ [])) ≡ length word + length (decimal a) + length (decimal b) + length (decimal c) + 4
+    → length (lineOf word (a ∷ b ∷ c ∷ []))
+    ≡ length word + length (decimal a) + length (decimal b) + length (decimal c) + 4
 line-of-three word a b c =
     line-length word (a ∷ b ∷ c ∷ [])
     ∙ omega (
@@ -108,14 +110,16 @@ cells-length p k (d ∷ ds) h fits =
 
 -- one cell, and those after it
 module _ (p : Profile) (stream : List ℕ) (k : ℕ) (h : k < length stream) where
-  cells-next : cellsText p k (drop k stream) ≡ cellText p k (getD stream k 0) ++ cellsText p (suc k) (drop (suc k) stream)
+  cells-next :
+      cellsText p k (drop k stream) ≡ cellText p k (getD stream k 0) ++ cellsText p (suc k) (drop (suc k) stream)
   unfolding cellsText
   cells-next = rw (drop-cons stream k 0 h)
 
   pub cells-length-next :
       length (cellsText p k (drop k stream))
       ≡ length (cellText p k (getD stream k 0)) + length (cellsText p (suc k) (drop (suc k) stream))
-  cells-length-next = ap length cells-next ∙ length-append (cellText p k (getD stream k 0)) (cellsText p (suc k) (drop (suc k) stream))
+  cells-length-next =
+      ap length cells-next ∙ length-append (cellText p k (getD stream k 0)) (cellsText p (suc k) (drop (suc k) stream))
 
   pub cells-stored-next : (out : List ℕ) (end next : ℕ)
       → next ≡ end + length (cellText p k (getD stream k 0))
@@ -151,7 +155,8 @@ module _ (p : Profile) (margin : ℕ) (stream : List ℕ) where
       + length (lineOf (ascii "end") (length stream ∷ []))
   unfolding reportText
   report-length =
-      length-append (lineOf (ascii "margin") (margin ∷ []) ++ cellsText p 0 stream) (lineOf (ascii "end") (length stream ∷ []))
+      length-append (lineOf (ascii "margin") (margin ∷ []) ++ cellsText p 0 stream)
+      (lineOf (ascii "end") (length stream ∷ []))
       ∙ ap (λ (n : ℕ). n + length (lineOf (ascii "end") (length stream ∷ [])))
       (length-append (lineOf (ascii "margin") (margin ∷ [])) (cellsText p 0 stream))
 
@@ -167,5 +172,6 @@ module _ (p : Profile) (margin : ℕ) (stream : List ℕ) where
   report-stored out cells end e k =
       ap (λ (l : List ℕ). storedAt l end (lineOf (ascii "end") (length stream ∷ [])))
       (stored-after-stored (lineOf (ascii "margin") (margin ∷ [])) (cellsText p 0 stream) out 0 cells e)
-      ∙ stored-after-stored (lineOf (ascii "margin") (margin ∷ []) ++ cellsText p 0 stream) (lineOf (ascii "end") (length stream ∷ [])) out 0 end
+      ∙ stored-after-stored (lineOf (ascii "margin") (margin ∷ []) ++ cellsText p 0 stream)
+      (lineOf (ascii "end") (length stream ∷ [])) out 0 end
       (omega (arith, length-append (lineOf (ascii "margin") (margin ∷ [])) (cellsText p 0 stream)))

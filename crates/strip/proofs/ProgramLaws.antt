@@ -1,5 +1,5 @@
--- The program's answer as the functions below it give it: refusals decide in their order, and a list of at most 512 written bytes has at most
--- 4,098 cells, so that the writer's output is never too short. Rests on no axiom.
+-- The program's answer as the functions below it give it: refusals decide in their order, and a list of at most 512
+-- written bytes has at most 4,098 cells, so that the writer's output is never too short. Rests on no axiom.
 use Prim.Native.Nat.{ℕ, _≤_, _<_}
 use mathlib.Core.Path.{_≡_, refl, sym, _∙_, ap}
 use mathlib.Core.Bool.{Bool, true, false, cond, false≢true}
@@ -14,7 +14,9 @@ use Rattle.lists.proofs.FilledLaws.{front-of-filled}
 use Rattle.refusal.specs.Answer.{Answer, accepted, refused, firstRefusal}
 use Rattle.refusal.specs.Table.{numberOf, placeOf}
 use Rattle.refusal.specs.declared.Refusal.{Refusal}
-use Rattle.refusal.proofs.AnswerLaws.{number-is-not-zero, refusal-decides, first-refusal-accepts, first-refusal-passes, refuse-if-accepts, refuse-if-passes, acceptance-fills-the-buffer}
+use Rattle.refusal.proofs.AnswerLaws.{number-is-not-zero, refusal-decides, first-refusal-accepts}
+use Rattle.refusal.proofs.AnswerLaws.{first-refusal-passes, refuse-if-accepts, refuse-if-passes}
+use Rattle.refusal.proofs.AnswerLaws.{acceptance-fills-the-buffer}
 use Rattle.timing.specs.Profile.{profileRule}
 use Rattle.timing.specs.declared.Profile.{Profile}
 use Rattle.items.specs.Item.{writtenBytes}
@@ -31,10 +33,14 @@ use Rattle.strip.specs.Output.{refusalText, reportText}
 use Rattle.strip.specs.Program.{scriptRule, scriptText, programRule, programText}
 
 -- a refusal that came before an acceptance is the earlier answer
-refused-earlier : (r : Refusal) (rule : Answer) (n : ℕ) → refused (numberOf r) (placeOf r) ≡ firstRefusal rule (accepted n) → refused (numberOf r) (placeOf r) ≡ rule
+refused-earlier : (r : Refusal) (rule : Answer) (n : ℕ)
+    → refused (numberOf r) (placeOf r) ≡ firstRefusal rule (accepted n)
+    → refused (numberOf r) (placeOf r) ≡ rule
 refused-earlier r rule n e = by-test (eqb (rule .number) 0) e
   where
-    by-test : (t : Bool) → refused (numberOf r) (placeOf r) ≡ cond t (accepted n) rule → refused (numberOf r) (placeOf r) ≡ rule
+    by-test : (t : Bool)
+        → refused (numberOf r) (placeOf r) ≡ cond t (accepted n) rule
+        → refused (numberOf r) (placeOf r) ≡ rule
     by-test true q =
         absurd (false≢true (sym (number-is-not-zero r) ∙ eq-eqb (numberOf r) 0 (ap (λ (a : Answer). a .number) q)))
     by-test false q = q
@@ -46,7 +52,9 @@ accepted-later rule m n e =
     (both .0, ap (λ (a : Answer). a .count) (e ∙ first-refusal-passes rule (accepted n) (both .0)))
 
 -- what the margin operation's answer says of the profile
-pub margin-refused : (p : Profile) (r : Refusal) → refused (numberOf r) (placeOf r) ≡ marginRule p → refused (numberOf r) (placeOf r) ≡ profileRule p
+pub margin-refused : (p : Profile) (r : Refusal)
+    → refused (numberOf r) (placeOf r) ≡ marginRule p
+    → refused (numberOf r) (placeOf r) ≡ profileRule p
 unfolding marginRule
 margin-refused p r e = refused-earlier r (profileRule p) (marginOf p) e
 
@@ -56,16 +64,21 @@ margin-accepted p m e = accepted-later (profileRule p) m (marginOf p) e
 
 -- the text of a refused and of an accepted script
 module _ (p : Profile) (items : List ℕ) where
-  pub refused-script-text : (r : Refusal) → refused (numberOf r) (placeOf r) ≡ scriptRule p items → scriptText p items ≡ refusalText (refused (numberOf r) (placeOf r))
+  pub refused-script-text : (r : Refusal)
+      → refused (numberOf r) (placeOf r) ≡ scriptRule p items
+      → scriptText p items ≡ refusalText (refused (numberOf r) (placeOf r))
   unfolding scriptText
   refused-script-text r e = rw (← e, number-is-not-zero r)
 
-  pub accepted-script-text : scriptRule p items .number ≡ 0 → scriptText p items ≡ reportText p (marginOf p) (streamOf p items)
+  pub accepted-script-text : scriptRule p items .number ≡ 0
+      → scriptText p items ≡ reportText p (marginOf p) (streamOf p items)
   unfolding scriptText
   accepted-script-text e = rw (eq-eqb (scriptRule p items .number) 0 e)
 
   -- 1 and 2
-  pub profile-refuses-script : (r : Refusal) → refused (numberOf r) (placeOf r) ≡ profileRule p → refused (numberOf r) (placeOf r) ≡ scriptRule p items
+  pub profile-refuses-script : (r : Refusal)
+      → refused (numberOf r) (placeOf r) ≡ profileRule p
+      → refused (numberOf r) (placeOf r) ≡ scriptRule p items
   unfolding scriptRule
   profile-refuses-script r e = refusal-decides r (profileRule p) _ e
 
@@ -89,7 +102,8 @@ module _ (p : Profile) (items : List ℕ) (h : writtenBytes items ≤ 512) where
   -- so the writer answers as the program does
   pub writer-answers : writeRule p items 4098 ≡ scriptRule p items
   unfolding writeRule streamRule scriptRule streamOf
-  writer-answers = rw (le-ltb 512 (writtenBytes items) h, le-ltb 4098 (length (byteStream p (written items))) stream-fits)
+  writer-answers =
+      rw (le-ltb 512 (writtenBytes items) h, le-ltb 4098 (length (byteStream p (written items))) stream-fits)
 
   module _ (n : ℕ) (e : accepted n ≡ scriptRule p items) where
     pub script-count : n ≡ length (streamOf p items)
@@ -108,7 +122,8 @@ module _ (p : Profile) (items : List ℕ) (h : writtenBytes items ≤ 512) where
     pub stream-written : (old : List ℕ) → length old ≡ 4098 → take n (writeOutput p items old) ≡ streamOf p items
     unfolding writeOutput
     stream-written old size =
-        let answer : writeRule p items (length old) .number ≡ 0 = rw (size, writer-answers) (sym (ap (λ (a : Answer). a .number) e)) in
+        let answer : writeRule p items (length old) .number ≡ 0 =
+        rw (size, writer-answers) (sym (ap (λ (a : Answer). a .number) e)) in
         ap (take n) (acceptance-fills-the-buffer (writeRule p items (length old)) (streamOf p items) old answer)
         ∙ ap (λ (k : ℕ). take k (filled (streamOf p items) old)) script-count
         ∙ front-of-filled (streamOf p items) old
@@ -117,23 +132,29 @@ module _ (p : Profile) (items : List ℕ) (h : writtenBytes items ≤ 512) where
     few-cells = omega (arith, script-count, stream-fits)
 
 -- a list that is longer than 512 is refused whatever stands beyond its first 513 items
-long-script-text : (p : Profile) (items : List ℕ) → 512 < writtenBytes items → scriptText p items ≡ refusalText (firstRefusal (profileRule p) (refused 4 0))
+long-script-text : (p : Profile) (items : List ℕ)
+    → 512 < writtenBytes items
+    → scriptText p items ≡ refusalText (firstRefusal (profileRule p) (refused 4 0))
 unfolding scriptText scriptRule
 long-script-text p items h = rw (lt-ltb 512 (writtenBytes items) h, never-accepted (eqb (profileRule p .number) 0) refl)
   where
-    never-accepted : (t : Bool) → eqb (profileRule p .number) 0 ≡ t → eqb (cond t (refused 4 0) (profileRule p) .number) 0 ≡ false
+    never-accepted : (t : Bool)
+        → eqb (profileRule p .number) 0 ≡ t
+        → eqb (cond t (refused 4 0) (profileRule p) .number) 0 ≡ false
     never-accepted true e = refl
     never-accepted false e = e
 
 pub first-items-decide : (p : Profile) (items : List ℕ) → scriptText p (take 513 items) ≡ scriptText p items
-first-items-decide p items = by-test (ltb 513 (length items)) (ltb-true 513 (length items)) (ltb-false 513 (length items))
+first-items-decide p items =
+    by-test (ltb 513 (length items)) (ltb-true 513 (length items)) (ltb-false 513 (length items))
   where
     by-test : (t : Bool)
         → (t ≡ true → 513 < length items)
         → (t ≡ false → length items ≤ 513)
         → scriptText p (take 513 items) ≡ scriptText p items
     by-test true long short =
-        long-script-text p (take 513 items) (omega (arith, long refl, length-take 513 items, written-bytes-bounds (take 513 items) .0))
+        long-script-text p (take 513 items)
+        (omega (arith, long refl, length-take 513 items, written-bytes-bounds (take 513 items) .0))
         ∙ sym (long-script-text p items (omega (arith, long refl, written-bytes-bounds items .0)))
     by-test false long short = ap (scriptText p) (take-all 513 items (short refl))
 
@@ -145,7 +166,8 @@ module _ (text : List ℕ) where
   unfolding programText programRule
   garbled-input-text r n e =
       rw (
-        ← refusal-decides r (inputRule text) (scriptRule (profileIn text) (itemsIn text)) (refused-earlier r (inputRule text) n e),
+        ← refusal-decides r (inputRule text) (scriptRule (profileIn text) (itemsIn text))
+            (refused-earlier r (inputRule text) n e),
         number-is-not-zero r,
       )
 

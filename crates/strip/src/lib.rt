@@ -1,10 +1,8 @@
 // Document 01, "The strip program": from the input's bytes to the output's.
 mod output;
 
-pub use output::append_cell;
-pub use output::append_cells;
-pub use output::refuse;
-pub use output::report;
+use output::refuse;
+use output::report;
 use refusal::Counted;
 use refusal::Refusal;
 use script::Script;
@@ -18,9 +16,9 @@ ghost use Rattle.timing.specs.Profile.{profileRule};
 ghost use Rattle.strip.specs.Program.{scriptText, programText};
 ghost use Rattle.strip.specs.Printed.{Front, Printed, outputLength};
 
-// The report of a list of at most 512 written bytes under a true profile, or why the writer refuses it: only 3 is left, since 512 bytes
-// give at most 4,098 cells.
-pub fn print_list(profile: Profile, margin: usize, items: &[u16], out: &mut [u8]) -> usize
+// The report of a list of at most 512 written bytes under a true profile, or why the writer refuses it: only 3 is
+// left, since 512 bytes give at most 4,098 cells.
+fn print_list(profile: Profile, margin: usize, items: &[u16], out: &mut [u8]) -> usize
     requires { ⌜ (profileRule profile .number ≡ 0) × (margin ≡ marginOf profile) ⌝ }
     requires { ⌜ (writtenBytes (now items) ≤ 512) × (outputLength ≤ length (now out)) ⌝ }
     ensures { λ r. ⌜ Printed (scriptText profile (now (items .entry))) r (now (out .entry)) (now (out .exit)) ⌝ }
@@ -33,7 +31,7 @@ pub fn print_list(profile: Profile, margin: usize, items: &[u16], out: &mut [u8]
 }
 
 // A profile and a list, in the writer's order: 1, 2, then 4 above 512 written bytes, then 3.
-pub fn print_script(profile: Profile, items: &[u16], out: &mut [u8]) -> usize
+fn print_script(profile: Profile, items: &[u16], out: &mut [u8]) -> usize
     requires { ⌜ outputLength ≤ length (now out) ⌝ }
     ensures { λ r. ⌜ Printed (scriptText profile (now (items .entry))) r (now (out .entry)) (now (out .exit)) ⌝ }
 {
@@ -48,8 +46,8 @@ pub fn print_script(profile: Profile, items: &[u16], out: &mut [u8]) -> usize
     }
 }
 
-// The program: the input's bytes in, the output's at the front of `out`, and how many they are. One item more is kept than is ever accepted, so that
-// a list that is too long is seen to be.
+// The program: the input's bytes in, the output's at the front of `out`, and how many they are. One item more is kept
+// than is ever accepted, so that a list that is too long is seen to be.
 pub fn run(input: &[u8], out: &mut [u8; 74000]) -> usize
     ensures text { λ r. ⌜ Printed (programText (now (input .entry))) r (now (out .entry)) (now (out .exit)) ⌝ }
     ensures front { λ r. ⌜ Front r (now (out .exit)) ⌝ }

@@ -13,20 +13,15 @@ ghost use Rattle.strip.specs.Printed.{Printed, outputLength};
 // A refusal: its number and its place.
 pub fn refuse(refusal: Refusal, out: &mut [u8]) -> usize
     requires { ⌜ outputLength ≤ length (now out) ⌝ }
-    ensures { λ r. ⌜ Printed (refusalText (refused (numberOf refusal) (placeOf refusal))) r (now (out .entry)) (now (out .exit)) ⌝ }
+    ensures { λ r. ⌜ Printed (refusalText (refused (numberOf refusal) (placeOf refusal))) r (now (out .entry))
+        (now (out .exit)) ⌝ }
 {
     let numbers = [refusal.number() as usize, refusal.place() as usize];
     text::append_line(out, 0, b"refused", &numbers)
 }
 
 // A cell: its place, class and length.
-pub fn append_cell(
-    profile: Profile,
-    place: usize,
-    interval: u16,
-    out: &mut [u8],
-    at: usize,
-) -> usize
+fn append_cell(profile: Profile, place: usize, interval: u16, out: &mut [u8], at: usize) -> usize
     requires { ⌜ at + length (cellText profile place interval) ≤ length (now out) ⌝ }
     ensures { λ r. ⌜ r ≡ at + length (cellText profile place interval) ⌝ }
     ensures { λ _. ⌜ now (out .exit) ≡ storedAt (now (out .entry)) at (cellText profile place interval) ⌝ }
@@ -37,7 +32,7 @@ pub fn append_cell(
 }
 
 // The cells of a stream, in order.
-pub fn append_cells(profile: Profile, stream: &[u16], out: &mut [u8], at: usize) -> usize
+fn append_cells(profile: Profile, stream: &[u16], out: &mut [u8], at: usize) -> usize
     requires { ⌜ at + length (cellsText profile 0 (now stream)) ≤ length (now out) ⌝ }
     ensures { λ r. ⌜ r ≡ at + length (cellsText profile 0 (now (stream .entry))) ⌝ }
     ensures { λ _. ⌜ now (out .exit) ≡ storedAt (now (out .entry)) at (cellsText profile 0 (now (stream .entry))) ⌝ }

@@ -1,4 +1,5 @@
--- Digits as they are read: one after the other, until one is no digit, the number is too large, or none is left. Rests on no axiom.
+-- Digits as they are read: one after the other, until one is no digit, the number is too large, or none is left.
+-- Rests on no axiom.
 use Prim.Native.Nat.{ℕ, _+_, _-_, _*_, _≤_, _<_}
 use mathlib.Core.Path.{_≡_, refl}
 use mathlib.Core.Bool.{Bool, true, false, cond, not, _&&_}
@@ -8,7 +9,8 @@ use lib.Dec.{eqb, leb}
 use lib.ListN.{length, getD}
 use borrow.Author.Tests.{le-leb, lt-leb}
 use Rattle.lists.specs.Place.{everywhere}
-use Rattle.text.specs.Decimal.{digit, isDigit, noLeadingZero, valueFrom, valueOf, isShort, isDecimal, digitsRead, decimalRead}
+use Rattle.text.specs.Decimal.{digit, isDigit, noLeadingZero, valueFrom, valueOf, isShort, isDecimal}
+use Rattle.text.specs.Decimal.{digitsRead, decimalRead}
 use Rattle.text.specs.declared.Decimal.{Decimal}
 use Rattle.text.specs.declared.Decimal.the-variants.{Number, Malformed}
 
@@ -31,13 +33,17 @@ digits-at-the-end n h = rw (le-leb n 65535 h)
 
 pub digits-too-large : (n : ℕ) (ds : List ℕ) → 65535 < n → digitsAfter n ds ≡ Malformed
 unfolding digitsAfter
-digits-too-large n ds h = rw (lt-leb (valueFrom n ds) 65535 (omega (arith, value-grows n ds))) (by-test (everywhere isDigit ds))
+digits-too-large n ds h =
+    rw (lt-leb (valueFrom n ds) 65535 (omega (arith, value-grows n ds))) (by-test (everywhere isDigit ds))
   where
     by-test : (t : Bool) → cond (t && false) (Number (valueFrom n ds)) Malformed ≡ Malformed
     by-test true = refl
     by-test false = refl
 
-pub digits-at-digit : (n d : ℕ) (ds : List ℕ) → 48 ≤ d → d ≤ 57 → digitsAfter n (d ∷ ds) ≡ digitsAfter (n * 10 + (d - 48)) ds
+pub digits-at-digit : (n d : ℕ) (ds : List ℕ)
+    → 48 ≤ d
+    → d ≤ 57
+    → digitsAfter n (d ∷ ds) ≡ digitsAfter (n * 10 + (d - 48)) ds
 unfolding digitsAfter everywhere valueFrom
 digits-at-digit n d ds h k = rw (le-leb 48 d h, le-leb d 57 k)
 
@@ -91,6 +97,8 @@ pub malformed-is-no-decimal : (field : List ℕ) → decimalRead field ≡ Malfo
 unfolding decimalRead
 malformed-is-no-decimal field e = cond-malformed (isDecimal field) (valueOf field) e
 
-pub number-is-decimal : (field : List ℕ) (n : ℕ) → decimalRead field ≡ Number n → (isDecimal field ≡ true) × (valueOf field ≡ n)
+pub number-is-decimal : (field : List ℕ) (n : ℕ)
+    → decimalRead field ≡ Number n
+    → (isDecimal field ≡ true) × (valueOf field ≡ n)
 unfolding decimalRead
 number-is-decimal field n e = cond-number (isDecimal field) (valueOf field) n e

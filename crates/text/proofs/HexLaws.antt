@@ -1,4 +1,5 @@
--- The number of a hexadecimal digit, from the lowest byte to the highest, and the byte of two digits. Rests on no axiom.
+-- The number of a hexadecimal digit, from the lowest byte to the highest, and the byte of two digits. Rests on no
+-- axiom.
 use Prim.Native.Nat.{ℕ, _+_, _-_, _*_, _≤_, _<_}
 use mathlib.Core.Path.{_≡_, refl}
 use mathlib.Core.Bool.{Bool, true, false, cond, _&&_}

@@ -4,4 +4,5 @@ pub mod HexLaws
 pub mod DecimalLaws
 pub mod PrintLaws
 pub mod LineLaws
-pub mod ReadBack
+pub mod DecimalReadBack
+pub mod LineReadBack

@@ -18,7 +18,8 @@ module _ (numbers : List ℕ) (i : ℕ) (h : i < length numbers) where
   fields-next = rw (drop-cons numbers i 0 h)
 
   pub fields-length-next :
-      length (fieldsOf (drop i numbers)) ≡ 1 + length (decimal (getD numbers i 0)) + length (fieldsOf (drop (suc i) numbers))
+      length (fieldsOf (drop i numbers))
+      ≡ 1 + length (decimal (getD numbers i 0)) + length (fieldsOf (drop (suc i) numbers))
   fields-length-next =
       ap length fields-next
       ∙ length-append (tab ∷ decimal (getD numbers i 0)) (fieldsOf (drop (suc i) numbers))
@@ -33,7 +34,8 @@ module _ (numbers : List ℕ) (i : ℕ) (h : i < length numbers) where
       ≡ storedAt out end (fieldsOf (drop i numbers))
   unfolding storedAt
   fields-stored-next out end =
-      stored-after-stored (decimal (getD numbers i 0)) (fieldsOf (drop (suc i) numbers)) (set out end tab) (end + 1) _ refl
+      stored-after-stored (decimal (getD numbers i 0)) (fieldsOf (drop (suc i) numbers)) (set out end tab) (end + 1) _
+      refl
       ∙ rw (fields-next, add-one end)
 
 pub fields-length-of-none : length (fieldsOf []) ≡ 0
@@ -50,7 +52,8 @@ module _ (word numbers : List ℕ) where
   pub line-length : length (lineOf word numbers) ≡ length word + length (fieldsOf numbers) + 1
   unfolding lineOf
   line-length =
-      length-append (word ++ fieldsOf numbers) (lineFeed ∷ []) ∙ ap (λ (n : ℕ). n + 1) (length-append word (fieldsOf numbers))
+      length-append (word ++ fieldsOf numbers) (lineFeed ∷ [])
+      ∙ ap (λ (n : ℕ). n + 1) (length-append word (fieldsOf numbers))
 
   pub line-stored : (out : List ℕ) (at : ℕ)
       → storedAt
@@ -62,4 +65,5 @@ module _ (word numbers : List ℕ) where
   line-stored out at =
       ap (λ (l : List ℕ). storedAt l (at + length word + length (fieldsOf numbers)) (lineFeed ∷ []))
       (stored-after-stored word (fieldsOf numbers) out at _ refl)
-      ∙ stored-after-stored (word ++ fieldsOf numbers) (lineFeed ∷ []) out at _ (omega (arith, length-append word (fieldsOf numbers)))
+      ∙ stored-after-stored (word ++ fieldsOf numbers) (lineFeed ∷ []) out at _
+      (omega (arith, length-append word (fieldsOf numbers)))

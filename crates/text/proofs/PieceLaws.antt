@@ -1,5 +1,5 @@
--- The pieces of a text, one at a time: the first is what stands before the first separator, and the others are the pieces of what stands
--- after it. Rests on no axiom.
+-- The pieces of a text, one at a time: the first is what stands before the first separator, and the others are the
+-- pieces of what stands after it. Rests on no axiom.
 use Prim.Native.Nat.{ℕ, suc, _≤_, _<_}
 use mathlib.Core.Path.{_≡_, refl, ap}
 use mathlib.Core.Bool.{Bool, true, false, cond}
@@ -17,7 +17,10 @@ unfolding upTo
 up-to-at-separator sep s at h e = rw (drop-cons s at 0 h, eq-eqb (getD s at 0) sep e)
 
 -- a piece that starts at another byte is that byte and the piece that starts after it
-pub up-to-at-other : (sep : ℕ) (s : List ℕ) (at : ℕ) → at < length s → (getD s at 0 ≡ sep → ⊥) → upTo sep (drop at s) ≡ getD s at 0 ∷ upTo sep (drop (suc at) s)
+pub up-to-at-other : (sep : ℕ) (s : List ℕ) (at : ℕ)
+    → at < length s
+    → (getD s at 0 ≡ sep → ⊥)
+    → upTo sep (drop at s) ≡ getD s at 0 ∷ upTo sep (drop (suc at) s)
 unfolding upTo
 up-to-at-other sep s at h e = rw (drop-cons s at 0 h, ne-eqb (getD s at 0) sep e)
 
@@ -50,7 +53,8 @@ pieces-first sep [] h = absurd (omega arith)
 pieces-first sep (b ∷ bs) h = by-test (eqb b sep) (pieces-first sep bs) h
   where
     by-test : (t : Bool)
-        → (length (upTo sep bs) < length bs → piecesOf sep bs ≡ upTo sep bs ∷ piecesOf sep (drop (suc (length (upTo sep bs))) bs))
+        → (length (upTo sep bs) < length bs → piecesOf sep bs
+        ≡ upTo sep bs ∷ piecesOf sep (drop (suc (length (upTo sep bs))) bs))
         → length (cond t [] (b ∷ upTo sep bs)) < suc (length bs)
         → cond t ([] ∷ piecesOf sep bs) (before b (piecesOf sep bs))
         ≡ cond t [] (b ∷ upTo sep bs) ∷ piecesOf sep (drop (suc (length (cond t [] (b ∷ upTo sep bs)))) (b ∷ bs))

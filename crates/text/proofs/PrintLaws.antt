@@ -1,5 +1,5 @@
--- Text that is stored at a place of a buffer, and the digits of a number: the last digit stands after those of the number without it.
--- Rests on no axiom.
+-- Text that is stored at a place of a buffer, and the digits of a number: the last digit stands after those of the
+-- number without it. Rests on no axiom.
 use Prim.Native.Nat.{ℕ, zero, suc, _+_, _/_, _%_, _^_, _≤_, _<_}
 use mathlib.Core.Path.{_≡_, refl, _∙_, ap}
 use mathlib.Core.Bool.{Bool, true, false, cond}
@@ -26,7 +26,9 @@ unfolding digitsOf
 digits-within zero zero n p q = refl
 digits-within zero (suc k) n p q = rw (lt-ltb n 10 (omega arith))
 digits-within (suc m) zero n p q = rw (lt-ltb n 10 (omega arith))
-digits-within (suc m) (suc k) n p q = by-test (ltb n 10) (λ h. digits-within m k (n / 10) (omega (arith, ltb-false n 10 h)) (omega (arith, ltb-false n 10 h))) refl
+digits-within (suc m) (suc k) n p q =
+    by-test (ltb n 10)
+    (λ h. digits-within m k (n / 10) (omega (arith, ltb-false n 10 h)) (omega (arith, ltb-false n 10 h))) refl
   where
     by-test : (t : Bool)
         → (ltb n 10 ≡ false → digitsOf m (n / 10) ≡ digitsOf k (n / 10))
@@ -46,7 +48,8 @@ unfolding decimal digitsOf
 decimal-of-more zero h = absurd (omega arith)
 decimal-of-more (suc n) h =
     rw (le-ltb (suc n) 10 h)
-    (ap (λ (l : List ℕ). l ++ (digit (suc n % 10) ∷ [])) (digits-within n (suc n / 10) (suc n / 10) (omega arith) (omega arith)))
+    (ap (λ (l : List ℕ). l ++ (digit (suc n % 10) ∷ []))
+    (digits-within n (suc n / 10) (suc n / 10) (omega arith) (omega arith)))
 
 pub decimal-length-of-digit : (n : ℕ) → n < 10 → length (decimal n) ≡ 1
 decimal-length-of-digit n h = rw (decimal-of-digit n h)

@@ -11,7 +11,8 @@ use Rattle.text.specs.declared.Decimal.the-variants.{Number, Malformed}
 abbrev pub digit : ℕ → ℕ
 digit d = 48 + d
 
--- the digits of a number, without leading zeros: its last digit after those of the number without it. A number has no more digits than `most`
+-- the digits of a number, without leading zeros: its last digit after those of the number without it. A number has no
+-- more digits than `most`
 unfoldable pub digitsOf : ℕ → ℕ → List ℕ
 digitsOf zero n = digit n ∷ []
 digitsOf (suc most) n =

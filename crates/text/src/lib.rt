@@ -2,11 +2,8 @@
 mod print;
 mod read;
 
-pub use print::append;
-pub use print::append_decimal;
 pub use print::append_line;
 pub use read::find;
-pub use read::hex_digit;
 pub use read::parse_byte;
 pub use read::parse_decimal;
 pub use read::same;

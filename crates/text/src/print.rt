@@ -7,7 +7,7 @@ ghost use Rattle.text.specs.Decimal.{decimal};
 ghost use Rattle.text.specs.Line.{fieldsOf, lineOf};
 
 // A text as it is.
-pub fn append(out: &mut [u8], at: usize, text: &[u8]) -> usize
+fn append(out: &mut [u8], at: usize, text: &[u8]) -> usize
     requires { ⌜ at + length (now text) ≤ length (now out) ⌝ }
     ensures { λ r. ⌜ r ≡ at + length (now (text .entry)) ⌝ }
     ensures { λ _. ⌜ now (out .exit) ≡ storedAt (now (out .entry)) at (now (text .entry)) ⌝ }
@@ -21,7 +21,7 @@ pub fn append(out: &mut [u8], at: usize, text: &[u8]) -> usize
 }
 
 // A number as a decimal without leading zeros.
-pub fn append_decimal(out: &mut [u8], at: usize, n: usize) -> usize
+fn append_decimal(out: &mut [u8], at: usize, n: usize) -> usize
     requires { ⌜ at + length (decimal n) ≤ length (now out) ⌝ }
     ensures { λ r. ⌜ r ≡ at + length (decimal n) ⌝ }
     ensures { λ _. ⌜ now (out .exit) ≡ storedAt (now (out .entry)) at (decimal n) ⌝ }

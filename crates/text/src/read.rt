@@ -53,7 +53,8 @@ fn no_leading_zero(field: &[u8]) -> bool
     field[0] != b'0'
 }
 
-// The number of a field's digits, if it is at most 65,535. A larger one is left at once, so that no digit can make the sum wrap.
+// The number of a field's digits, if it is at most 65,535. A larger one is left at once, so that no digit can make
+// the sum wrap.
 fn parse_digits(field: &[u8]) -> Decimal
     ensures { λ r. ⌜ r ≡ digitsRead (now (field .entry)) ⌝ }
 {
@@ -87,7 +88,7 @@ pub fn parse_decimal(field: &[u8]) -> Decimal
 }
 
 // The number of a digit 0-9 A-F; 16 for every other byte.
-pub fn hex_digit(b: u8) -> u8
+fn hex_digit(b: u8) -> u8
     ensures { λ r. ⌜ r ≡ hexDigit b ⌝ }
 {
     if b < b'0' {

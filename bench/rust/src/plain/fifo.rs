@@ -9,7 +9,7 @@ const MARK_AS_DATA: u16 = 2;
 const PROCESSOR_FAULT: u16 = 4;
 
 fn given(item: u16, next: Fifo) -> FifoAnswer {
-    FifoAnswer { number: 0, place: 0, item: u32::from(item), next }
+    FifoAnswer { number: 0, place: 0, item, next }
 }
 
 fn with_error(fifo: Fifo, bit: u16) -> Fifo {

@@ -1,6 +1,7 @@
--- Why `intervals::store` stores what the last cell closed: one item where it closed a byte, none where not. Rests on no axiom.
+-- Why `intervals::store` stores what the last cell closed: one item where it closed a byte, none where not. Rests on no
+-- axiom.
 use Prim.Native.Nat.{ℕ, _+_, _≤_}
-use mathlib.Core.Path.{_≡_, refl, sym, ap, _∙_}
+use mathlib.Core.Path.{_≡_, refl, sym}
 use mathlib.Core.Bool.{true, false}
 use mathlib.Core.List.{List, [], _∷_}
 use native.Mathlib.Nat.{add-zero}

@@ -1,7 +1,8 @@
--- Why `sectors::make_sector` answers `sectorRule` and leaves `sectorOutput`: the test that failed decides, and where none did
--- the sector's items are at the front. Rests on no axiom.
+-- Why `sectors::make_sector` answers `sectorRule` and leaves `sectorOutput`: the test that failed decides, and where
+-- none did the sector's items are at the front. Rests on no axiom.
 use mathlib.Core.Path.{sym, _∙_}
-use Rattle.sectors.proofs.SectorLaws.{code-above-3-settles, wrong-size-settles, short-output-settles, sector-settles}
+use Rattle.sectors.proofs.SectorLaws.{code-above-3-settles, wrong-size-settles, short-output-settles}
+use Rattle.sectors.proofs.SectorLaws.{sector-settles}
 use borrow.Author.Needs.{needs}
 use Rattle.sectors.proofs.make_sector.Statement.{statement}
 use Rattle.sectors.proofs.make_sector.Tie as tie
@@ -14,7 +15,10 @@ sector-size-requires c κs = search needs
 
 returns-2 : tie.Need-returns-2
 returns-2 c =
-    wrong-size-settles _ _ _ _ _ _ (c .before .before .if1 .left) (λ e. c .if2 .taken (e ∙ sym (c .before .sector-size .ensures)))
+    wrong-size-settles
+    _ _ _ _ _ _
+    (c .before .before .if1 .left)
+    (λ e. c .if2 .taken (e ∙ sym (c .before .sector-size .ensures)))
 
 add-count : tie.Need-add-count
 add-count c = search needs

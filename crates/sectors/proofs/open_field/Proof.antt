@@ -1,9 +1,7 @@
--- Why `sectors::open_field` stores `opening`: two runs and one store, each where the one before it ends. Rests on no axiom.
-use Prim.Native.Nat.{ℕ, _+_}
-use mathlib.Core.Path.{_≡_, ap, _∙_}
-use mathlib.Core.List.{List, [], _∷_}
+-- Why `sectors::open_field` stores `opening`: two runs and one store, each where the one before it ends. Rests on no
+-- axiom.
 use native.Mathlib.Omega.{arith}
-use lib.ListN.{length-set, replicate}
+use lib.ListN.{length-set}
 use borrow.Author.Needs.{needs}
 use Rattle.sectors.proofs.SectorLaws.{opening-stored}
 use Rattle.sectors.proofs.open_field.Statement.{statement}

@@ -1,7 +1,8 @@
--- Why `sectors::put_data` stores the bytes and the check order: after k turns it has stored the first k bytes. Rests on no axiom.
+-- Why `sectors::put_data` stores the bytes and the check order: after k turns it has stored the first k bytes. Rests on
+-- no axiom.
 use Prim.Native.Nat.{ℕ, _+_, _-_, _≤_}
 use mathlib.Core.Path.{_≡_, refl, sym, ap, _∙_}
-use mathlib.Core.List.{List, [], _∷_, _++_}
+use mathlib.Core.List.{List}
 use native.Mathlib.Omega.{arith}
 use lib.ListN.{length, set, take, length-set}
 use lib.Seq.{take-length}
@@ -12,7 +13,8 @@ use Rattle.sectors.proofs.put_data.Statement.{statement}
 use Rattle.sectors.proofs.put_data.Tie as tie
 
 abbrev Inv-loop : tie.InvT-loop
-Inv-loop out₀ at bytes k₀ out k = (k ≤ length bytes) × (out ≡ storedAt out₀ at (take k bytes)) × (length out ≡ length out₀)
+Inv-loop out₀ at bytes k₀ out k =
+    (k ≤ length bytes) × (out ≡ storedAt out₀ at (take k bytes)) × (length out ≡ length out₀)
 
 abbrev μ-loop : tie.MeasureT-loop
 μ-loop out₀ at bytes k₀ out k = length bytes - k

@@ -1,6 +1,6 @@
--- Why `sectors::put_identity` stores the four bytes and the check order: it is a store for each, one place after the other.
--- Rests on no axiom.
-use Prim.Native.Nat.{ℕ, suc, _+_}
+-- Why `sectors::put_identity` stores the four bytes and the check order: it is a store for each, one place after the
+-- other. Rests on no axiom.
+use Prim.Native.Nat.{suc, _+_}
 use mathlib.Core.Path.{_≡_, refl}
 use native.Mathlib.Omega.{arith}
 use lib.ListN.{length-set}

@@ -1,8 +1,8 @@
 -- Why `sectors::repeat` stores the item `count` times: after k turns it has stored it k times. Rests on no axiom.
-use Prim.Native.Nat.{ℕ, _+_, _-_, _≤_}
+use Prim.Native.Nat.{_-_, _≤_}
 use mathlib.Core.Path.{_≡_, refl, sym}
 use native.Mathlib.Omega.{arith}
-use lib.ListN.{length, set, replicate, length-set}
+use lib.ListN.{length, replicate, length-set}
 use Rattle.lists.specs.Filled.{storedAt}
 use Rattle.lists.proofs.StoreLaws.{stored-none}
 use Rattle.sectors.proofs.StoreLaws.{stored-repeats}
@@ -10,7 +10,8 @@ use Rattle.sectors.proofs.repeat.Statement.{statement}
 use Rattle.sectors.proofs.repeat.Tie as tie
 
 abbrev Inv-loop : tie.InvT-loop
-Inv-loop out₀ at count item k₀ out k = (k ≤ count) × (out ≡ storedAt out₀ at (replicate k item)) × (length out ≡ length out₀)
+Inv-loop out₀ at count item k₀ out k =
+    (k ≤ count) × (out ≡ storedAt out₀ at (replicate k item)) × (length out ≡ length out₀)
 
 abbrev μ-loop : tie.MeasureT-loop
 μ-loop out₀ at count item k₀ out k = count - k

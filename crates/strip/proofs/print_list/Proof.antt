@@ -1,22 +1,18 @@
--- Why `strip::print_list` prints the script's text: the writer answers as the program does, and its output begins with the stream.
--- Rests on no axiom.
+-- Why `strip::print_list` prints the script's text: the writer answers as the program does, and its output begins
+-- with the stream. Rests on no axiom.
 use mathlib.Core.Path.{_≡_, refl, sym, _∙_, ap}
 use Prim.Native.Nat.{_≤_}
 use native.Mathlib.Omega.{arith}
-use lib.ListN.{length, take, length-replicate}
+use lib.ListN.{length, take}
 use lib.Seq.{length-take-le}
 use Rattle.refusal.specs.Answer.{Answer, accepted, countedAnswer}
-use Rattle.lengths.specs.Margin.{marginOf}
 use Rattle.lengths.specs.Stream.{streamOf}
-use Rattle.strip.specs.Output.{reportText}
 use Rattle.strip.specs.Program.{scriptRule}
-use Rattle.strip.specs.Printed.{Printed}
-use Rattle.strip.proofs.ProgramLaws.{writer-answers, refused-script-text, accepted-script-text, script-count, stream-written, few-cells}
+use Rattle.strip.proofs.ProgramLaws.{writer-answers, refused-script-text, accepted-script-text, stream-written}
+use Rattle.strip.proofs.ProgramLaws.{few-cells}
 use borrow.Author.Needs.{needs}
 use Rattle.strip.proofs.print_list.Statement.{statement}
 use Rattle.strip.proofs.print_list.Tie as tie
-use Rattle.strip.proofs.print_list.Reads as reads
-use Rattle.strip.proofs.print_list.Lts as lts
 
 answer : (c : tie.After-write)
     → let args = c .before .before .before .before .args in
@@ -38,7 +34,8 @@ few c =
 
 the-stream : (c : tie.After-cells)
     → let args = c .before .before .before .before .before .before .before .args in
-    take (c .cells .given .0 .0) (c .before .before .before .write .last .1 .1 .0) ≡ streamOf (args .profile) (args .items .now)
+    take (c .cells .given .0 .0) (c .before .before .before .write .last .1 .1 .0)
+    ≡ streamOf (args .profile) (args .items .now)
 the-stream c =
     let start = c .before .before .before .before .before .before .before in
     ap (take (c .cells .given .0 .0)) (c .before .before .before .write .ensures .1)
@@ -66,15 +63,19 @@ slice-aggregate-report : tie.Need-slice-aggregate-report
 slice-aggregate-report c =
     let given = c .before .before in
     sym
-    (length-take-le (given .cells .given .0 .0) _ (omega (arith, few given, given .before .before .before .write .kept .1 .1 .0)))
+    (length-take-le (given .cells .given .0 .0) _
+    (omega (arith, few given, given .before .before .before .write .kept .1 .1 .0)))
 
 report-requires : tie.Need-report-requires
 report-requires c κs =
     let given = c .before .before .before in
     let start = given .before .before .before .before .before .before .before in
     let written = given .before .before .before .write in
-    let within : given .cells .given .0 .0 ≤ length (written .last .1 .1 .0) = omega (arith, few given, written .kept .1 .1 .0) in
-    (omega (arith, few given, length-take-le (given .cells .given .0 .0) (written .last .1 .1 .0) within), start .pre .1 .1)
+    let within : given .cells .given .0 .0 ≤ length (written .last .1 .1 .0) =
+    omega (arith, few given, written .kept .1 .1 .0) in (
+      omega (arith, few given, length-take-le (given .cells .given .0 .0) (written .last .1 .1 .0) within),
+      start .pre .1 .1,
+    )
 
 same-length : tie.Need-same-length
 same-length c = search needs
@@ -85,7 +86,8 @@ returns c =
     let written = refusal .before .before .before in
     let start = written .before .before .before .before in
     let rule = sym (ap countedAnswer (refusal .refusal .given .1)) ∙ answer written in
-    rw (refused-script-text (start .args .profile) (start .args .items .now) (refusal .refusal .given .0 .0) rule) (c .before .before .refuse .ensures)
+    rw (refused-script-text (start .args .profile) (start .args .items .now) (refusal .refusal .given .0 .0) rule)
+    (c .before .before .refuse .ensures)
 
 same-length-2 : tie.Need-same-length-2
 same-length-2 c = search needs
@@ -96,7 +98,8 @@ returns-2 c =
     let start = given .before .before .before .before .before .before .before in
     let report = c .before .before .report .ensures in
     rw (
-      accepted-script-text (start .args .profile) (start .args .items .now) (sym (ap (λ (a : Answer). a .number) (count given))),
+      accepted-script-text (start .args .profile) (start .args .items .now)
+          (sym (ap (λ (a : Answer). a .number) (count given))),
       ← the-stream given,
       ← start .pre .0 .1,
     )

@@ -1,17 +1,16 @@
--- Why `strip::print_script` prints the script's text: the margin operation turns the profile away with 1 or 2, then 512 written bytes are the
--- limit, and the rest is the list's. Rests on no axiom.
+-- Why `strip::print_script` prints the script's text: the margin operation turns the profile away with 1 or 2, then
+-- 512 written bytes are the limit, and the rest is the list's. Rests on no axiom.
 use mathlib.Core.Path.{_≡_, sym, _∙_, ap}
 use native.Mathlib.Omega.{arith}
 use Rattle.refusal.specs.Answer.{countedAnswer}
 use Rattle.refusal.specs.declared.Refusal.the-variants.{TooLong}
 use Rattle.lengths.specs.Margin.{marginOf}
 use Rattle.timing.specs.Profile.{profileRule}
-use Rattle.strip.proofs.ProgramLaws.{margin-refused, margin-accepted, refused-script-text, profile-refuses-script, long-list-is-refused}
+use Rattle.strip.proofs.ProgramLaws.{margin-refused, margin-accepted, refused-script-text}
+use Rattle.strip.proofs.ProgramLaws.{profile-refuses-script, long-list-is-refused}
 use borrow.Author.Needs.{needs}
 use Rattle.strip.proofs.print_script.Statement.{statement}
 use Rattle.strip.proofs.print_script.Tie as tie
-use Rattle.strip.proofs.print_script.Reads as reads
-use Rattle.strip.proofs.print_script.Lts as lts
 
 -- where the margin operation accepts
 true-profile : (c : tie.After-margin2)
@@ -66,8 +65,12 @@ returns-2 c =
     let margin = refusal .before .before in
     let args = margin .before .before .before .args in
     let r = refusal .refusal .given .0 .0 in
-    let rule = margin-refused (args .profile) r (sym (ap countedAnswer (refusal .refusal .given .1)) ∙ margin .margin .ensures) in
-    rw (refused-script-text (args .profile) (args .items .now) r (profile-refuses-script (args .profile) (args .items .now) r rule))
+    let rule =
+    margin-refused (args .profile) r
+    (sym (ap countedAnswer (refusal .refusal .given .1)) ∙ margin .margin .ensures) in
+    rw
+    (refused-script-text (args .profile) (args .items .now) r
+    (profile-refuses-script (args .profile) (args .items .now) r rule))
     (c .before .before .refuse .ensures)
 
 same-length-3 : tie.Need-same-length-3

@@ -1,14 +1,13 @@
--- Why `strip::run` prints the program's text: what the input is garbled with comes first, and a list longer than its first 513 items is refused
--- for them alone. Rests on no axiom.
+-- Why `strip::run` prints the program's text: what the input is garbled with comes first, and a list longer than its
+-- first 513 items is refused for them alone. Rests on no axiom.
 use Prim.Native.Nat.{ℕ}
-use mathlib.Core.Path.{_≡_, sym, _∙_, ap, subst}
+use mathlib.Core.Path.{sym, _∙_, ap, subst}
 use mathlib.Core.List.{List}
-use native.Mathlib.Omega.{arith}
-use lib.ListN.{length, take}
+use lib.ListN.{take}
 use lib.Seq.{length-take-le}
 use Rattle.timing.specs.declared.Profile.{Profile}
 use Rattle.script.specs.Input.{itemsIn, profileIn}
-use Rattle.script.specs.Read.{Holds, within, scriptAnswer}
+use Rattle.script.specs.Read.{Holds, scriptAnswer}
 use Rattle.strip.specs.Program.{scriptText}
 use Rattle.strip.specs.Printed.{Printed}
 use Rattle.strip.proofs.OutputLaws.{printed-is-front}
@@ -16,12 +15,11 @@ use Rattle.strip.proofs.ProgramLaws.{first-items-decide, garbled-input-
 use borrow.Author.Needs.{needs}
 use Rattle.strip.proofs.run.Statement.{statement}
 use Rattle.strip.proofs.run.Tie as tie
-use Rattle.strip.proofs.run.Reads as reads
-use Rattle.strip.proofs.run.Lts as lts
 
 -- where the input is read, the first items stand in the buffer
 held : (c : tie.After-profile)
-    → Holds (c .before .before .before .read .last .1 .0) (c .profile .given .0 .1 .0) (take 513 (itemsIn (c .before .before .before .before .before .before .args .input .now)))
+    → Holds (c .before .before .before .read .last .1 .0) (c .profile .given .0 .1 .0)
+    (take 513 (itemsIn (c .before .before .before .before .before .before .args .input .now)))
 held c = c .before .before .before .read .ensures .held _ _ (c .profile .given .1)
 
 slice-aggregate-read : tie.Need-slice-aggregate-read
@@ -45,7 +43,9 @@ array-share-prefix-items c = held (c .before) .fits
 slice-aggregate-print-script : tie.Need-slice-aggregate-print-script
 slice-aggregate-print-script c =
     let given = c .before .before in
-    sym (length-take-le (given .profile .given .0 .1 .0) (given .before .before .before .read .last .1 .0) (held given .fits))
+    sym
+    (length-take-le (given .profile .given .0 .1 .0) (given .before .before .before .read .last .1 .0)
+    (held given .fits))
 
 print-script-requires : tie.Need-print-script-requires
 print-script-requires c κs = search needs
@@ -58,7 +58,8 @@ returns c =
     let rule = sym (ap scriptAnswer (refusal .refusal .given .1)) ∙ read .read .ensures .answer in
     let start = read .before .before .before in
     let same = sym (garbled-input-text text (refusal .refusal .given .0 .0) _ rule) in (
-      subst (λ (t : List ℕ). Printed t (c .refuse .result) (start .args .out .now) (c .refuse .last .1 .0)) same (c .refuse .ensures),
+      subst (λ (t : List ℕ). Printed t (c .refuse .result) (start .args .out .now) (c .refuse .last .1 .0)) same
+          (c .refuse .ensures),
       printed-is-front _ _ _ _ (c .refuse .ensures),
     )
 
@@ -77,7 +78,8 @@ returns-2 c =
     ∙ sym (read-input-text text _ _ rule) in
     let start = read .before .before .before in
     let after = c .print-script .last .1 .1 .0 in (
-      subst (λ (t : List ℕ). Printed t (c .print-script .result) (start .args .out .now) after) same (c .print-script .ensures),
+      subst (λ (t : List ℕ). Printed t (c .print-script .result) (start .args .out .now) after) same
+          (c .print-script .ensures),
       printed-is-front _ _ _ _ (c .print-script .ensures),
     )
 

@@ -8,7 +8,7 @@ use borrow.Author.Needs.{needs}
 use lib.ListN.{length}
 use Rattle.timing.specs.declared.Class.{Class}
 use Rattle.symbols.specs.Step.{itemsOf}
-use Rattle.codec.specs.Scan.{advanced}
+use Rattle.intervals.specs.Cells.{advanced}
 use Turn.{Passing, begins, turn-stops, turn-goes-on, pass-ends}
 use Rattle.codec.proofs.reader.pass_over.Statement.{statement}
 use Rattle.codec.proofs.reader.pass_over.Tie as tie

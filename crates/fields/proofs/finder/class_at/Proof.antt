@@ -1,5 +1,5 @@
--- Why `fields::finder::class_at` answers the class at a place: inside the list it is the interval's class, and past the end the
--- default. Rests on no axiom.
+-- Why `fields::finder::class_at` answers the class at a place: inside the list it is the interval's class, and past the
+-- end the default. Rests on no axiom.
 use mathlib.Core.Path.{sym, _∙_}
 use Rattle.fields.proofs.LockLaws.{class-at-place, class-past-end-is-narrow}
 use borrow.Author.Needs.{needs}

@@ -1,4 +1,5 @@
--- Why `fields::finder::find_lock` answers `findRule`: a refusal of the profile decides, and an acceptance leaves the scan. Rests on no axiom.
+-- Why `fields::finder::find_lock` answers `findRule`: a refusal of the profile decides, and an acceptance leaves the
+-- scan. Rests on no axiom.
 use mathlib.Core.Path.{_∙_}
 use Rattle.refusal.proofs.AnswerLaws.{verdict-refuses, verdict-passes}
 use Rattle.fields.specs.Lock.{findRule}

@@ -1,4 +1,5 @@
--- Why `fields::finder::may_stand` answers `mayStand`: it agrees with the patterns for each class at each of the five places. Rests on no axiom.
+-- Why `fields::finder::may_stand` answers `mayStand`: it agrees with the patterns for each class at each of the five
+-- places. Rests on no axiom.
 use Prim.Native.Nat.{ℕ, zero, suc, _%_, _<_}
 use mathlib.Core.Path.{_≡_, refl, sym, ap, _∙_}
 use mathlib.Core.Bool.{false}

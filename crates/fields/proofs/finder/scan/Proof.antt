@@ -1,16 +1,15 @@
--- Why `fields::finder::scan` answers `lockFrom`: each turn keeps the run and passes over no lock, and the ways out are a lock and the
--- end of the list. Rests on no axiom.
+-- Why `fields::finder::scan` answers `lockFrom`: each turn keeps the run and passes over no lock, and the ways out are
+-- a lock and the end of the list. Rests on no axiom.
 mod Turn
 use Prim.Native.Nat.{ℕ, _+_, _-_, _<_, _≤_, max}
 use mathlib.Core.Path.{_≡_, refl, sym, ap, _∙_}
-use mathlib.Core.Bool.{true, false}
+use mathlib.Core.Bool.{true}
 use native.Mathlib.Omega.{arith}
 use borrow.Author.Count.{below-more}
 use borrow.Author.Needs.{needs}
 use lib.ListN.{length, getD}
 use Rattle.timing.specs.Class.{classesOf, classNumber}
 use Rattle.timing.proofs.ClassLaws.{classes-length}
-use Rattle.timing.specs.declared.Class.{Class}
 use Rattle.timing.specs.declared.Class.the-variants.{Narrow, Two}
 use Rattle.fields.specs.Lock.{mayStand}
 use Rattle.fields.proofs.LockLaws.{number-2-is-two}
@@ -65,7 +64,8 @@ scan-again c =
     let looked = c .before .before .before .before .before in
     let class-at = c .before .before .class-at in
     let other : class-at .result ≡ Two → ⊥ = λ e. c .if2 .taken (c .before .number .ensures ∙ ap classNumber e) in
-    (run-breaks (looked .loop .inv .0) (omega arith) (λ e. other (class-at .ensures ∙ e)), omega arith, omega arith, omega arith)
+    let broken = run-breaks (looked .loop .inv .0) (omega arith) (λ e. other (class-at .ensures ∙ e)) in
+    (broken, omega arith, omega arith, omega arith)
 
 loop-less : tie.Need-loop-less Inv-loop μ-loop Inv-loop2 μ-loop2 Inv-scan μ-scan
 loop-less c = omega arith
@@ -103,7 +103,9 @@ loop2-again : tie.Need-loop2-again Inv-loop μ-loop Inv-loop2 μ-loop2 Inv-scan 
 loop2-again c =
     let looked = c .before .before .before .before in
     let stands =
-    ap (mayStand _) (sym (c .before .before .class-at2 .ensures)) ∙ sym (c .before .may-stand .ensures) ∙ c .if3 .taken in
+    ap (mayStand _) (sym (c .before .before .class-at2 .ensures))
+    ∙ sym (c .before .may-stand .ensures)
+    ∙ c .if3 .taken in
     (looked .loop2 .inv .0, omega arith, below-more _ _ (looked .loop2 .inv .2) stands)
 
 add-first : tie.Need-add-first Inv-loop μ-loop Inv-loop2 μ-loop2 Inv-scan μ-scan
@@ -117,7 +119,9 @@ scan-again-2 c =
     let looked = c .before .before .before .before in
     let run = looked .before .before .loop .inv .0 in
     let failed =
-    ap (mayStand _) (sym (c .before .before .class-at2 .ensures)) ∙ sym (c .before .may-stand .ensures) ∙ c .if3 .left in
+    ap (mayStand _) (sym (c .before .before .class-at2 .ensures))
+    ∙ sym (c .before .may-stand .ensures)
+    ∙ c .if3 .left in
     (run-moves-on run _ _ (omega arith) (omega arith) failed (omega arith), omega arith, omega arith, omega arith)
 
 returns : tie.Need-returns Inv-loop μ-loop Inv-loop2 μ-loop2 Inv-scan μ-scan

@@ -1,11 +1,10 @@
 -- Why `fields::reader::copy` stores the items at the front: after k turns it has stored the first k. Rests on no axiom.
-use Prim.Native.Nat.{ℕ, _+_, _-_, _≤_}
-use mathlib.Core.Path.{_≡_, refl, sym, ap, _∙_}
-use mathlib.Core.List.{List}
+use Prim.Native.Nat.{ℕ, _-_, _≤_}
+use mathlib.Core.Path.{_≡_, refl, _∙_}
 use native.Mathlib.Omega.{arith}
 use native.Mathlib.Nat.{zero-add}
 use native.Mathlib.Numerals.{add-one}
-use lib.ListN.{length, set, take, getD, length-set}
+use lib.ListN.{length, length-set}
 use lib.Seq.{paste, paste-zero, paste-suc, take-length}
 use Rattle.lists.specs.Filled.{filled}
 use Rattle.fields.proofs.reader.copy.Statement.{statement}

@@ -1,38 +1,35 @@
 -- Why `fields::reader::deliver` fills the output or turns it away: its one test is that of 9. Rests on no axiom.
 use Prim.Native.Nat.{ℕ, _≤_, _<_}
 use mathlib.Core.Path.{_≡_, refl, _∙_}
-use mathlib.Core.Bool.{Bool}
 use mathlib.Core.List.{List}
 use borrow.Author.Tests.{lt-ltb, le-ltb}
 use borrow.Author.Needs.{needs}
 use lib.ListN.{length}
 use Rattle.lists.specs.Filled.{filled}
-use Rattle.refusal.specs.Answer.{accepted, refused, settled}
+use Rattle.refusal.specs.Answer.{accepted, refused}
 use Rattle.fields.specs.Field.{holdsAfter}
-use Rattle.fields.specs.FieldRule.{FieldAnswer, fieldTurnedAway, answerWith, deliverRule}
+use Rattle.fields.specs.FieldRule.{FieldAnswer, fieldTurnedAway, deliverRule, deliverReading, deliverOutput}
 use Rattle.fields.proofs.reader.deliver.Statement.{statement}
 use Rattle.fields.proofs.reader.deliver.Tie as tie
 
-module _ (items old : List ℕ) (used : ℕ) (holds : Bool) where
+module _ (items old : List ℕ) (used : ℕ) where
   abbrev Delivers : FieldAnswer → List ℕ → Type 0
-  Delivers answer new =
-      (answer ≡ answerWith (deliverRule (length items) (length old)) used holds)
-      × (new ≡ settled (deliverRule (length items) (length old)) items old)
+  Delivers answer new = (answer ≡ deliverReading items used (length old)) × (new ≡ deliverOutput items old)
 
   no-room-is-turned-away : length old < length items → Delivers (fieldTurnedAway (refused 9 0)) old
-  unfolding deliverRule
+  unfolding deliverReading deliverOutput deliverRule
   no-room-is-turned-away h = rw (lt-ltb (length old) (length items) h) (refl, refl)
 
   room-is-filled
       : length items ≤ length old
-      → Delivers (record { answer = accepted (length items); used = used; holds = holds }) (filled items old)
-  unfolding deliverRule
+      → Delivers (record { answer = accepted (length items); used = used; holds = holdsAfter items }) (filled items old)
+  unfolding deliverReading deliverOutput deliverRule
   room-is-filled h = rw (le-ltb (length old) (length items) h) (refl, refl)
 
 returns : tie.Need-returns
 returns c =
     let args = c .before .before .before .args in
-    no-room-is-turned-away (args .items .now) (args .out .now) (args .used) (holdsAfter (args .items .now)) (c .if1 .taken)
+    no-room-is-turned-away (args .items .now) (args .out .now) (args .used) (c .if1 .taken)
 
 copy-requires : tie.Need-copy-requires
 copy-requires c κs = search needs
@@ -47,8 +44,8 @@ returns-2 : tie.Need-returns-2
 returns-2 c =
     let tested = c .before .before .before .before .before in
     let args = tested .before .before .before .args in
-    let full = room-is-filled (args .items .now) (args .out .now) (args .used) (c .holds .result) (tested .if1 .left) in
-    (rw (← c .holds .ensures) (full .0), c .before .before .before .copy .ensures ∙ full .1)
+    let full = room-is-filled (args .items .now) (args .out .now) (args .used) (tested .if1 .left) in
+    (rw (c .holds .ensures) (full .0), c .before .before .before .copy .ensures ∙ full .1)
 
 pub deliver-spec : {M : Type 1} → statement M
 deliver-spec = tie.close (tie.spec returns copy-requires holds-requires same-length returns-2)

@@ -1,16 +1,16 @@
--- Why `fields::reader::gather` answers `gatherRule` and stores the field's items: each turn reads one cell of the field, and the ways out
--- are the rule's cases. Rests on no axiom.
+-- Why `fields::reader::gather` answers `gatherRule` and stores the field's items: each turn reads one cell of the
+-- field, and the ways out are the rule's cases. Rests on no axiom.
 mod Turn
-use Prim.Native.Nat.{ℕ, _-_, _≤_, _<_}
+mod End
+use Prim.Native.Nat.{_-_}
 use mathlib.Core.Path.{_≡_, sym, ap, _∙_}
-use native.Mathlib.Omega.{arith}
 use lib.ListN.{length, getD}
 use Rattle.timing.specs.Class.{classOf}
 use Rattle.timing.specs.declared.Class.{Class}
 use Rattle.intervals.specs.Cells.{advanced}
 use Rattle.refusal.specs.declared.Refusal.the-variants.{EndsEarly, MisplacedMark}
-use Rattle.symbols.specs.declared.Reading.{Reading}
-use Turn.{Gathering, begins, no-items, count-is-small, turn-ends, turn-stops, turn-goes-on, pass-is-stray, pass-is-whole, pass-stored}
+use Turn.{Gathering, begins, no-items, count-is-small, turn-ends, turn-stops, turn-goes-on}
+use End.{pass-is-stray, pass-is-whole, pass-stored}
 use borrow.Author.Needs.{needs}
 use Rattle.fields.proofs.reader.gather.Statement.{statement}
 use Rattle.fields.proofs.reader.gather.Tie as tie
@@ -20,6 +20,18 @@ Inv-loop p intervals n out₀ m₀ count₀ k₀ out m count k = Gathering p int
 
 abbrev μ-loop : tie.MeasureT-loop
 μ-loop p intervals n out₀ m₀ count₀ k₀ out m count k = length intervals - k
+
+-- the machine after the interval's own class
+advanced-here
+    : (c : tie.After-advance Inv-loop μ-loop)
+    → let turn = c .before .before .before .before .before .before in
+    let args = turn .before .before .before .before .args in
+    c .advance .result
+    ≡ advanced (turn .loop .m) (classOf (args .p) (getD (args .intervals .now) (turn .loop .k) 0)) (turn .loop .k)
+advanced-here c =
+    let turn = c .before .before .before .before .before .before in
+    c .advance .ensures
+    ∙ ap (λ (class : Class). advanced (turn .loop .m) class (turn .loop .k)) (c .before .classify .ensures)
 
 new-requires : tie.Need-new-requires Inv-loop μ-loop
 new-requires c κs = search needs
@@ -58,11 +70,20 @@ same-length-2 c = c .before .before .before .before .before .before .before .bef
 
 returns-2 : tie.Need-returns-2 Inv-loop μ-loop
 returns-2 c =
-    let tested = c .before .before .before .before .before .before in
-    let turn = tested .before .before .before in
-    let stopped = sym (c .before .refusal .given .1) ∙ c .before .before .before .advance .ensures
-    ∙ ap (λ (class : Class). advanced (turn .loop .m) class (turn .loop .k)) (c .before .before .before .before .classify .ensures) in
-    let refusal = turn-stops _ _ _ _ (turn .loop .inv) _ (tested .before .if1 .taken) (tested .if2 .left) stopped in
+    let at-advance = c .before .before .before in
+    let tested = at-advance .before .before .before in
+    let stopped = sym (c .before .refusal .given .1) ∙ advanced-here at-advance in
+    let refusal =
+    turn-stops
+    _
+    _
+    _
+    _
+    (tested .before .before .before .loop .inv)
+    _
+    (tested .before .if1 .taken)
+    (tested .if2 .left)
+    stopped in
     (refusal, no-items _ _ _ _ (c .before .refusal .given .0 .0) _ refusal)
 
 enum-known-next : tie.Need-enum-known-next Inv-loop μ-loop
@@ -70,8 +91,9 @@ enum-known-next c = search needs
 
 store-requires : tie.Need-store-requires Inv-loop μ-loop
 store-requires c κs =
-    let turn = c .before .before .before .before .before .before .before .before .before .before in
-    count-is-small _ _ _ _ (turn .loop .inv) (c .before .before .before .before .before .before .before .before .if1 .taken) (turn .before .before .before .before .pre .1)
+    let tested = c .before .before .before .before .before .before .before .before in
+    let turn = tested .before .before in
+    count-is-small _ _ _ _ (turn .loop .inv) (tested .if1 .taken) (turn .before .before .before .before .pre .1)
 
 add-k : tie.Need-add-k Inv-loop μ-loop
 add-k c = search needs
@@ -81,12 +103,25 @@ loop-less c = search needs
 
 loop-again : tie.Need-loop-again Inv-loop μ-loop
 loop-again c =
-    let tested = c .before .before .before .before .before .before .before .before .before .before in
+    let stored = c .before .before .store in
+    let at-advance = c .before .before .before .before .before .before .before in
+    let tested = at-advance .before .before .before in
     let turn = tested .before .before .before in
-    let read = sym (c .before .before .before .before .before .next .given .1) ∙ c .before .before .before .before .before .before .before .advance .ensures
-    ∙ ap (λ (class : Class). advanced (turn .loop .m) class (turn .loop .k)) (c .before .before .before .before .before .before .before .before .classify .ensures) in
-    turn-goes-on _ _ _ _ (turn .loop .inv) _ _ _ (tested .before .if1 .taken) (tested .if2 .left) (turn .before .before .before .before .pre .0) read
-    (c .before .before .store .ensures .0) (c .before .before .store .ensures .1)
+    turn-goes-on
+    _
+    _
+    _
+    _
+    (turn .loop .inv)
+    _
+    _
+    _
+    (tested .before .if1 .taken)
+    (tested .if2 .left)
+    (turn .before .before .before .before .pre .0)
+    (sym (c .before .before .before .before .before .next .given .1) ∙ advanced-here at-advance)
+    (stored .ensures .0)
+    (stored .ensures .1)
 
 same-length-3 : tie.Need-same-length-3 Inv-loop μ-loop
 same-length-3 c = c .before .before .before .before .loop .inv .same-length

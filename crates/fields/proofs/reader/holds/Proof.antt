@@ -1,4 +1,5 @@
--- Why `fields::reader::holds` answers `holdsAfter`: the register starts as all ones and every item passes through. Rests on no axiom.
+-- Why `fields::reader::holds` answers `holdsAfter`: the register starts as all ones and every item passes through.
+-- Rests on no axiom.
 use mathlib.Core.Path.{ap, _∙_}
 use lib.Dec.{eqb}
 use Rattle.items.specs.Written.{afterBytes}

@@ -1,6 +1,6 @@
--- Why `fields::reader::read_checked` answers `checkedReading` and leaves `checkedOutput`: no interval past the front is used, and what was
--- gathered in the buffer is what is delivered. Rests on no axiom.
-use Prim.Native.Nat.{ℕ, _+_, _*_, _≤_}
+-- Why `fields::reader::read_checked` answers `checkedReading` and leaves `checkedOutput`: no interval past the front is
+-- used, and what was gathered in the buffer is what is delivered. Rests on no axiom.
+use Prim.Native.Nat.{_+_, _*_, _≤_}
 use mathlib.Core.Path.{_≡_, sym, ap, _∙_}
 use native.Mathlib.Omega.{arith}
 use lib.ListN.{length, take, replicate, length-take}
@@ -69,7 +69,12 @@ returns c =
     (8 * args .n + 1)
     (omega arith)
     (at-front .front .ensures) in
-    gather-refuses (classesOf (args .p) (args .intervals .now)) (args .n) (c .before .refusal .given .0 .0) (args .out .now) refusal
+    gather-refuses
+    (classesOf (args .p) (args .intervals .now))
+    (args .n)
+    (c .before .refusal .given .0 .0)
+    (args .out .now)
+    refusal
 
 same-length : tie.Need-same-length
 same-length c = search needs

@@ -1,5 +1,5 @@
--- Why `fields::reader::read_field` answers `fieldReading` and leaves `fieldOutput`: the profile's verdict and the range of the count are
--- its first tests, and the rest is read below them. Rests on no axiom.
+-- Why `fields::reader::read_field` answers `fieldReading` and leaves `fieldOutput`: the profile's verdict and the range
+-- of the count are its first tests, and the rest is read below them. Rests on no axiom.
 use mathlib.Core.Path.{sym, ap, _∙_}
 use Rattle.refusal.specs.Answer.{verdictAnswer}
 use Rattle.fields.proofs.ReaderLaws.{profile-refuses, count-refuses, checked-settles, count-in-range}
@@ -18,7 +18,9 @@ enum-told c = search needs
 
 returns : tie.Need-returns
 returns c =
-    count-refuses _ _ _ _ (sym (ap verdictAnswer (c .before .enum-told .given .1)) ∙ c .before .before .before .check .ensures) (c .if1 .taken)
+    let fair =
+    sym (ap verdictAnswer (c .before .enum-told .given .1)) ∙ c .before .before .before .check .ensures in
+    count-refuses _ _ _ _ fair (c .if1 .taken)
 
 read-checked-requires : tie.Need-read-checked-requires
 read-checked-requires c κs = count-in-range _ (c .before .if1 .left)

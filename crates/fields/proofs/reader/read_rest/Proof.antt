@@ -1,5 +1,5 @@
--- Why `fields::reader::read_rest` answers `fieldRest`: it drops as many intervals as the reading used, which a refusal puts at 0.
--- Rests on no axiom.
+-- Why `fields::reader::read_rest` answers `fieldRest`: it drops as many intervals as the reading used, which a refusal
+-- puts at 0. Rests on no axiom.
 use Prim.Native.Nat.{ℕ, _-_, _≤_}
 use mathlib.Core.Path.{_≡_, sym, ap, _∙_}
 use mathlib.Core.List.{List}
@@ -33,7 +33,8 @@ used-is
     : (c : tie.After-known-told)
     → let read = c .before .before .before .before .before in
     let args = read .before .before .before .before .args in
-    c .before .used .given .0 .1 .0 ≡ fieldReading (args .p) (args .intervals .now) (args .n) (length (args .out .now)) .used
+    c .before .used .given .0 .1 .0
+    ≡ fieldReading (args .p) (args .intervals .now) (args .n) (length (args .out .now)) .used
 used-is c =
     sym (ap used-of (c .before .used .given .1))
     ∙ ap (λ (a : FieldAnswer). a .used) (c .before .before .before .before .before .read-field .ensures .0)
@@ -54,7 +55,9 @@ enum-known-used : tie.Need-enum-known-used
 enum-known-used c = search needs
 
 mul-result : tie.Need-mul-result
-mul-result c = omega (arith, used-in-list c, c .before .before .before .before .before .before .before .before .before .good)
+mul-result c =
+    let start = c .before .before .before .before .before .before .before .before .before in
+    omega (arith, used-in-list c, start .good)
 
 sub-result : tie.Need-sub-result
 sub-result c = used-in-list c
@@ -71,7 +74,8 @@ same-length c = search needs
 returns : tie.Need-returns
 returns c =
     let read = c .before .before .before .before in
-    let none = sym (ap used-of (c .enum-told .given .1)) ∙ ap (λ (a : FieldAnswer). a .used) (read .read-field .ensures .0) in
+    let none =
+    sym (ap used-of (c .enum-told .given .1)) ∙ ap (λ (a : FieldAnswer). a .used) (read .read-field .ensures .0) in
     (rest-is _ _ _ _ 0 none, read .read-field .ensures .1)
 
 same-length-2 : tie.Need-same-length-2

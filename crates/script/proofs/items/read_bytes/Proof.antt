@@ -1,5 +1,5 @@
--- Why `script::read_bytes` keeps the bytes of a line: the fields that are left are bytes where those from the first on are, and they come after
--- the items that the buffer holds. Rests on no axiom.
+-- Why `script::read_bytes` keeps the bytes of a line: the fields that are left are bytes where those from the first
+-- on are, and they come after the items that the buffer holds. Rests on no axiom.
 use Prim.Native.Nat.{ℕ, _+_, _-_, _≤_}
 use mathlib.Core.Path.{_≡_, refl, sym, _∙_, ap}
 use mathlib.Core.List.{List, _∷_}
@@ -11,7 +11,8 @@ use Rattle.text.specs.Hex.{isHexByte}
 use Rattle.script.specs.Line.{raised}
 use Rattle.script.specs.Read.{joined, fieldsAfter}
 use Rattle.script.proofs.FieldLaws.{field-ends-in-line, fields-next}
-use Rattle.script.proofs.ByteLaws.{bytes-of-no-byte, bytes-after-byte, byte-kept, bytes-from-tab, no-bytes-at-the-end, bytes-at-the-end, all-bytes-kept}
+use Rattle.script.proofs.ByteLaws.{bytes-of-no-byte, bytes-after-byte, byte-kept, bytes-from-tab}
+use Rattle.script.proofs.ByteLaws.{no-bytes-at-the-end, bytes-at-the-end, all-bytes-kept}
 use Rattle.text.proofs.HexLaws.{malformed-is-no-byte, value-is-byte}
 use Rattle.script.proofs.BufferLaws.{faulty-read, items-read}
 use Rattle.script.proofs.items.read_bytes.Statement.{statement}
@@ -23,7 +24,9 @@ Inv-loop line from base buffer₀ count at₀ n₀ buffer at n =
     × (length buffer ≡ length buffer₀)
     × (n ≤ length buffer)
     × (everywhere isHexByte (fieldsAfter (drop at line)) ≡ everywhere isHexByte (fieldsAfter (drop from line)))
-    × (joined buffer n (raised base (fieldsAfter (drop at line))) ≡ joined buffer₀ count (raised base (fieldsAfter (drop from line))))
+    ×
+    (joined buffer n (raised base (fieldsAfter (drop at line)))
+    ≡ joined buffer₀ count (raised base (fieldsAfter (drop from line))))
 
 abbrev μ-loop : tie.MeasureT-loop
 μ-loop line from base buffer₀ count at₀ n₀ buffer at n = length line - at
@@ -35,7 +38,8 @@ next : (c : tie.After-find Inv-loop μ-loop)
     let end = c .find .result in
     fieldsAfter (drop at line) ≡ take (end - (at + 1)) (drop (at + 1) line) ∷ fieldsAfter (drop end line)
 next c =
-    fields-next (c .before .before .before .before .before .before .args .line .now) (c .before .before .loop .at) (c .find .result)
+    fields-next (c .before .before .before .before .before .before .args .line .now) (c .before .before .loop .at)
+    (c .find .result)
     (c .before .loop-test .taken)
     (c .find .ensures)
 
@@ -58,7 +62,9 @@ part-parse-byte-start : tie.Need-part-parse-byte-start Inv-loop μ-loop
 part-parse-byte-start c = omega (arith, c .find .ensures)
 
 part-parse-byte-end : tie.Need-part-parse-byte-end Inv-loop μ-loop
-part-parse-byte-end c = field-ends-in-line (c .before .before .before .before .before .before .args .line .now) (c .before .before .loop .at) (c .find .result) (c .before .loop-test .taken) (c .find .ensures)
+part-parse-byte-end c =
+    field-ends-in-line (c .before .before .before .before .before .before .args .line .now)
+    (c .before .before .loop .at) (c .find .result) (c .before .loop-test .taken) (c .find .ensures)
 
 parse-byte-requires : tie.Need-parse-byte-requires Inv-loop μ-loop
 parse-byte-requires c κs = tt
@@ -107,12 +113,14 @@ loop-again c =
     let args = at .before .before .before .before .args in
     let push = c .before .before .push in
     let byte = value-is-byte _ _ (sym (parsed .before .before .parse-byte .ensures) ∙ parsed .b .given .1) in (
-      field-ends-in-line (args .line .now) (at .loop .at) (found .find .result) (found .before .loop-test .taken) (found .find .ensures),
+      field-ends-in-line (args .line .now) (at .loop .at) (found .find .result) (found .before .loop-test .taken)
+          (found .find .ensures),
       push .kept .0 ∙ at .loop .inv .1,
       push .ensures .fits,
       sym (bytes-after-byte _ _ (byte .0)) ∙ sym (ap (everywhere isHexByte) (next found)) ∙ at .loop .inv .3,
       byte-kept _ _ (args .base) _ (at .loop .n) _ (at .loop .buffer) _ (byte .1) (push .kept .0) (push .ensures)
-          ∙ ap (λ (fields : List (List ℕ)). joined (at .loop .buffer) (at .loop .n) (raised (args .base) fields)) (sym (next found))
+          ∙ ap (λ (fields : List (List ℕ)). joined (at .loop .buffer) (at .loop .n) (raised (args .base) fields))
+          (sym (next found))
           ∙ at .loop .inv .4,
     )
 
@@ -127,7 +135,8 @@ returns-3 c =
     (bytes-from-tab (args .line .now) (args .from) (at .before .if1 .left)
     ∙ sym (at .loop .inv .3)
     ∙ bytes-at-the-end (args .line .now) (at .loop .at) (c .loop-test .left))
-    (all-bytes-kept (args .line .now) (at .loop .at) (args .base) _ _ _ (c .loop-test .left) (at .loop .inv .2) (at .loop .inv .4))
+    (all-bytes-kept (args .line .now) (at .loop .at) (args .base) _ _ _ (c .loop-test .left) (at .loop .inv .2)
+    (at .loop .inv .4))
 
 pub read-bytes-spec : {M : Type 1} → statement M
 read-bytes-spec =

@@ -1,5 +1,5 @@
--- Why `script::read_items` keeps the items of all lines: the answer is that of the lines left, counted on, and their items come after those
--- that the buffer holds. Rests on no axiom.
+-- Why `script::read_items` keeps the items of all lines: the answer is that of the lines left, counted on, and their
+-- items come after those that the buffer holds. Rests on no axiom.
 use Prim.Native.Nat.{_+_, _-_, _≤_, _<_}
 use mathlib.Core.Path.{_≡_, refl, sym, _∙_, ap}
 use mathlib.Core.List.{_∷_}
@@ -13,7 +13,9 @@ use Rattle.script.specs.Line.{lineItems}
 use Rattle.script.specs.Input.{garbledFrom, itemsOf}
 use Rattle.script.specs.Read.{within, joined, isRead}
 use Rattle.script.proofs.BufferLaws.{joined-again}
-use Rattle.script.proofs.InputLaws.{line-ends-in-text, lines-next, no-line-feed, garbled-at-faulty, garbled-after-good, items-next, garbled-rest, garbled-at-the-end, lines-refused, lines-read, all-items-kept}
+use Rattle.script.proofs.InputLaws.{line-ends-in-text, lines-next, no-line-feed, garbled-at-faulty}
+use Rattle.script.proofs.InputLaws.{garbled-after-good, items-next, garbled-rest, garbled-at-the-end}
+use Rattle.script.proofs.InputLaws.{lines-refused, lines-read, all-items-kept}
 use Rattle.script.proofs.items.read_items.Statement.{statement}
 use Rattle.script.proofs.items.read_items.Tie as tie
 
@@ -24,17 +26,24 @@ Inv-loop text from buffer₀ at₀ line₀ count₀ buffer at line count =
     × (count ≤ length buffer)
     × (line ≤ at + 2)
     × (garbledFrom line (piecesOf lineFeed (drop at text)) ≡ garbledFrom 2 (piecesOf lineFeed (drop from text)))
-    × (joined buffer count (itemsOf (piecesOf lineFeed (drop at text))) ≡ within buffer₀ (itemsOf (piecesOf lineFeed (drop from text))))
+    ×
+    (joined buffer count (itemsOf (piecesOf lineFeed (drop at text)))
+    ≡ within buffer₀ (itemsOf (piecesOf lineFeed (drop from text))))
 
 abbrev μ-loop : tie.MeasureT-loop
 μ-loop text from buffer₀ at₀ line₀ count₀ buffer at line count = length text - at
 
 -- a line that ends in a line feed
-line-found : (c : tie.Else1 Inv-loop μ-loop) → c .before .find .result < length (c .before .before .before .before .before .before .args .text .now)
+line-found : (c : tie.Else1 Inv-loop μ-loop)
+    → c .before .find .result < length (c .before .before .before .before .before .before .args .text .now)
 line-found c =
     let at = c .before .before .before in
     let text = at .before .before .before .args .text .now in
-    omega (arith, c .if1 .left, line-ends-in-text text (at .loop .at) (c .before .find .result) (at .loop .inv .0) (c .before .find .ensures))
+    omega (
+      arith,
+      c .if1 .left,
+      line-ends-in-text text (at .loop .at) (c .before .find .result) (at .loop .inv .0) (c .before .find .ensures),
+    )
 
 next : (c : tie.Else1 Inv-loop μ-loop)
     → let text = c .before .before .before .before .before .before .args .text .now in
@@ -43,7 +52,8 @@ next : (c : tie.Else1 Inv-loop μ-loop)
     piecesOf lineFeed (drop at text) ≡ take (end - at) (drop at text) ∷ piecesOf lineFeed (drop (end + 1) text)
 next c =
     let at = c .before .before .before in
-    lines-next (at .before .before .before .args .text .now) (at .loop .at) (c .before .find .result) (at .loop .inv .0) (c .before .find .ensures)
+    lines-next (at .before .before .before .args .text .now) (at .loop .at) (c .before .find .result) (at .loop .inv .0)
+    (c .before .find .ensures)
     (line-found c)
 
 loop-holds : tie.Need-loop-holds Inv-loop μ-loop
@@ -59,10 +69,15 @@ returns : tie.Need-returns Inv-loop μ-loop
 returns c =
     let at = c .before .before .before in
     let text = at .before .before .before .args .text .now in
-    let rest = no-line-feed text (at .loop .at) (c .before .find .result) (at .loop .inv .0) (c .before .find .ensures) (c .if1 .taken) in
-    let some : 0 < length (drop (at .loop .at) text) = omega (arith, length-drop (at .loop .at) text, c .before .before .loop-test .taken) in
+    let rest =
+    no-line-feed text (at .loop .at) (c .before .find .result) (at .loop .inv .0) (c .before .find .ensures)
+    (c .if1 .taken) in
+    let some : 0 < length (drop (at .loop .at) text) =
+    omega (arith, length-drop (at .loop .at) text, c .before .before .loop-test .taken) in
     lines-refused _ _ _ _
-    (sym (at .loop .inv .4) ∙ ap (garbledFrom (at .loop .line)) rest ∙ garbled-rest (at .loop .line) (drop (at .loop .at) text) some)
+    (sym (at .loop .inv .4)
+    ∙ ap (garbledFrom (at .loop .line)) rest
+    ∙ garbled-rest (at .loop .line) (drop (at .loop .at) text) some)
 
 sub-read-item-line : tie.Need-sub-read-item-line Inv-loop μ-loop
 sub-read-item-line c = omega (arith, c .before .find .ensures)
@@ -71,7 +86,9 @@ part-read-item-line-start : tie.Need-part-read-item-line-start Inv-loop μ-loop
 part-read-item-line-start c = omega (arith, c .before .find .ensures)
 
 part-read-item-line-end : tie.Need-part-read-item-line-end Inv-loop μ-loop
-part-read-item-line-end c = line-ends-in-text (c .before .before .before .before .before .before .args .text .now) (c .before .before .before .loop .at) (c .before .find .result) (omega arith) (c .before .find .ensures)
+part-read-item-line-end c =
+    line-ends-in-text (c .before .before .before .before .before .before .args .text .now)
+    (c .before .before .before .loop .at) (c .before .find .result) (omega arith) (c .before .find .ensures)
 
 read-item-line-requires : tie.Need-read-item-line-requires Inv-loop μ-loop
 read-item-line-requires c κs = omega arith
@@ -80,13 +97,17 @@ enum-told : tie.Need-enum-told Inv-loop μ-loop
 enum-told c = search needs
 
 same-length-2 : tie.Need-same-length-2 Inv-loop μ-loop
-same-length-2 c = c .before .before .before .before .read-item-line .kept .1 .0 ∙ c .before .before .before .before .before .before .before .before .before .before .loop .inv .1
+same-length-2 c =
+    c .before .before .before .before .read-item-line .kept .1 .0
+    ∙ c .before .before .before .before .before .before .before .before .before .before .loop .inv .1
 
 returns-2 : tie.Need-returns-2 Inv-loop μ-loop
 returns-2 c =
     let found = c .before .before .before .before .before .before .before in
     let at = found .before .before .before in
-    let faulty = sym (c .before .before .before .before .read-item-line .ensures .verdict) ∙ ap isRead (c .enum-told .given .1) in
+    let faulty =
+    sym (c .before .before .before .before .read-item-line .ensures .verdict)
+    ∙ ap isRead (c .enum-told .given .1) in
     lines-refused _ _ _ _
     (sym (at .loop .inv .4)
     ∙ ap (garbledFrom (at .loop .line)) (next found)

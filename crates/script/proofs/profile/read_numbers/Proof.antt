@@ -1,5 +1,5 @@
--- Why `script::read_numbers` stores the decimals of a line: those that are left fit the places left where all fit all, and they come after those
--- that are stored. Rests on no axiom.
+-- Why `script::read_numbers` stores the decimals of a line: those that are left fit the places left where all fit
+-- all, and they come after those that are stored. Rests on no axiom.
 use Prim.Native.Nat.{ℕ, _+_, _-_, _≤_, _<_}
 use mathlib.Core.Path.{_≡_, refl, sym, _∙_, ap}
 use mathlib.Core.Bool.{_&&_}
@@ -13,7 +13,9 @@ use Rattle.text.specs.Decimal.{isDecimal, valueOf}
 use Rattle.text.proofs.DecimalLaws.{malformed-is-no-decimal, number-is-decimal}
 use Rattle.script.specs.Read.{fieldsAfter}
 use Rattle.script.proofs.FieldLaws.{field-ends-in-line, fields-next, fields-at-the-end}
-use Rattle.script.proofs.NumberLaws.{fitting, fitting-from-the-first, fitting-without-place, fitting-at-malformed, fitting-after-number, number-stored, no-numbers-read, all-numbers-read}
+use Rattle.script.proofs.NumberLaws.{fitting, fitting-from-the-first, fitting-without-place}
+use Rattle.script.proofs.NumberLaws.{fitting-at-malformed, fitting-after-number, number-stored}
+use Rattle.script.proofs.NumberLaws.{no-numbers-read, all-numbers-read}
 use Rattle.script.proofs.profile.read_numbers.Statement.{statement}
 use Rattle.script.proofs.profile.read_numbers.Tie as tie
 
@@ -22,7 +24,9 @@ Inv-loop line from numbers₀ at₀ k₀ numbers at k =
     (length numbers ≡ length numbers₀)
     × (k ≤ length numbers)
     × (fitting k (length numbers₀) (fieldsAfter (drop at line))
-    ≡ (eqb (length (fieldsAfter (drop from line))) (length numbers₀) && everywhere isDecimal (fieldsAfter (drop from line))))
+    ≡
+    (eqb (length (fieldsAfter (drop from line))) (length numbers₀) && everywhere isDecimal
+    (fieldsAfter (drop from line))))
     × (take k numbers ++ map valueOf (fieldsAfter (drop at line)) ≡ map valueOf (fieldsAfter (drop from line)))
 
 abbrev μ-loop : tie.MeasureT-loop
@@ -35,7 +39,8 @@ next : (c : tie.After-find Inv-loop μ-loop)
     let end = c .find .result in
     fieldsAfter (drop at line) ≡ take (end - (at + 1)) (drop (at + 1) line) ∷ fieldsAfter (drop end line)
 next c =
-    fields-next (c .before .before .before .before .before .before .args .line .now) (c .before .before .before .loop .at) (c .find .result)
+    fields-next (c .before .before .before .before .before .before .args .line .now)
+    (c .before .before .before .loop .at) (c .find .result)
     (c .before .before .loop-test .taken)
     (c .find .ensures)
 
@@ -73,7 +78,8 @@ part-parse-decimal-start c = omega (arith, c .find .ensures)
 
 part-parse-decimal-end : tie.Need-part-parse-decimal-end Inv-loop μ-loop
 part-parse-decimal-end c =
-    field-ends-in-line (c .before .before .before .before .before .before .args .line .now) (c .before .before .before .loop .at) (c .find .result)
+    field-ends-in-line (c .before .before .before .before .before .before .args .line .now)
+    (c .before .before .before .loop .at) (c .find .result)
     (c .before .before .loop-test .taken)
     (c .find .ensures)
 
@@ -91,7 +97,8 @@ returns-2 c =
     let found = c .before .before .before .before in
     let at = found .before .before .before in
     let args = at .before .before .before .args in
-    let no-decimal = malformed-is-no-decimal _ (sym (c .before .before .parse-decimal .ensures) ∙ c .enum-told .given .1) in
+    let no-decimal =
+    malformed-is-no-decimal _ (sym (c .before .before .parse-decimal .ensures) ∙ c .enum-told .given .1) in
     no-numbers-read _ _ _
     (sym (at .loop .inv .2)
     ∙ ap (fitting (at .loop .k) (length (args .numbers .now))) (next found)
@@ -119,14 +126,17 @@ loop-again c =
     let found = c .before .before .before .before .before in
     let at = found .before .before .before in
     let args = at .before .before .before .args in
-    let number = number-is-decimal _ _ (sym (c .before .before .before .parse-decimal .ensures) ∙ c .before .n .given .1) in (
+    let number =
+    number-is-decimal _ _ (sym (c .before .before .before .parse-decimal .ensures) ∙ c .before .n .given .1) in (
       simp length-set (at .loop .inv .0),
       simp length-set (omega (arith, place-left (found .before))),
       sym (fitting-after-number (at .loop .k) (length (args .numbers .now)) _ _ (number .0))
           ∙ sym (ap (fitting (at .loop .k) (length (args .numbers .now))) (next found))
           ∙ at .loop .inv .2,
-      number-stored (at .loop .numbers) (at .loop .k) _ _ (fieldsAfter (drop (found .find .result) (args .line .now))) (place-left (found .before)) (number .1)
-          ∙ ap (λ (fields : List (List ℕ)). take (at .loop .k) (at .loop .numbers) ++ map valueOf fields) (sym (next found))
+      number-stored (at .loop .numbers) (at .loop .k) _ _ (fieldsAfter (drop (found .find .result) (args .line .now)))
+          (place-left (found .before)) (number .1)
+          ∙ ap (λ (fields : List (List ℕ)). take (at .loop .k) (at .loop .numbers) ++ map valueOf fields)
+          (sym (next found))
           ∙ at .loop .inv .3,
     )
 
@@ -141,7 +151,8 @@ returns-3 c =
     all-numbers-read _ _ _ _
     (sym (ap (fitting (at .loop .k) (length (args .numbers .now))) none) ∙ at .loop .inv .2)
     (at .loop .inv .0)
-    (ap (λ (fields : List (List ℕ)). take (at .loop .k) (at .loop .numbers) ++ map valueOf fields) (sym none) ∙ at .loop .inv .3)
+    (ap (λ (fields : List (List ℕ)). take (at .loop .k) (at .loop .numbers) ++ map valueOf fields) (sym none)
+    ∙ at .loop .inv .3)
 
 pub read-numbers-spec : {M : Type 1} → statement M
 read-numbers-spec =

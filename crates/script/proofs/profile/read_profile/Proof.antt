@@ -1,4 +1,5 @@
--- Why `script::read_profile` answers `profileRead`: the word is `profile`, and the fields after it are nine decimals. Rests on no axiom.
+-- Why `script::read_profile` answers `profileRead`: the word is `profile`, and the fields after it are nine decimals.
+-- Rests on no axiom.
 use mathlib.Core.Path.{_≡_, sym, _∙_, ap}
 use mathlib.Core.List.{map}
 use lib.ListN.{take}
@@ -6,7 +7,8 @@ use lib.Seq.{length-take-le}
 use Rattle.script.specs.Line.{wordOf, profileFrom, profileOf}
 use Rattle.script.specs.declared.ProfileLine.the-variants.{Given}
 use Rattle.text.specs.Decimal.{valueOf}
-use Rattle.script.proofs.LineLaws.{word-ends-in-line, word-is-a-part, arguments-after-word, profile-is-read, other-numbers-are-faulty, no-profile-is-faulty}
+use Rattle.script.proofs.LineLaws.{word-ends-in-line, word-is-a-part, arguments-after-word, profile-is-read}
+use Rattle.script.proofs.LineLaws.{other-numbers-are-faulty, no-profile-is-faulty}
 use borrow.Author.Needs.{needs}
 use Rattle.script.proofs.profile.read_profile.Statement.{statement}
 use Rattle.script.proofs.profile.read_profile.Tie as tie
@@ -22,7 +24,9 @@ find-requires c κs = search needs
 slice-aggregate-same : tie.Need-slice-aggregate-same
 slice-aggregate-same c =
     let line = c .before .before .before .args .line .now in
-    sym (length-take-le (c .before .find .result) line (word-ends-in-line line (c .before .find .result) (c .before .find .ensures)))
+    sym
+    (length-take-le (c .before .find .result) line
+    (word-ends-in-line line (c .before .find .result) (c .before .find .ensures)))
 
 slice-aggregate-same-2 : tie.Need-slice-aggregate-same-2
 slice-aggregate-same-2 c = search needs
@@ -45,12 +49,14 @@ returns c =
     let read = c .before .before .before .before in
     let found = read .before .before .before .before .before .before in
     let line = found .before .before .args .line .now in
-    let word = rw (the-word found) at (sym (read .before .before .before .same .ensures) ∙ read .before .before .if1 .taken) in
+    let word =
+    rw (the-word found) at (sym (read .before .before .before .same .ensures) ∙ read .before .before .if1 .taken) in
     let arguments = arguments-after-word line (found .find .result) (found .find .ensures) in
     let nine = rw arguments at (sym (read .read-numbers .ensures .verdict) ∙ c .before .before .if2 .taken) in
     ap Given
     (c .profile-of .ensures
-    ∙ ap profileFrom (read .read-numbers .ensures .numbers (c .before .before .if2 .taken) ∙ ap (map valueOf) arguments))
+    ∙ ap profileFrom
+    (read .read-numbers .ensures .numbers (c .before .before .if2 .taken) ∙ ap (map valueOf) arguments))
     ∙ sym (profile-is-read line word nine)
 
 returns-2 : tie.Need-returns-2
@@ -58,9 +64,11 @@ returns-2 c =
     let read = c .before .before in
     let found = read .before .before .before .before .before .before in
     let line = found .before .before .args .line .now in
-    let word = rw (the-word found) at (sym (read .before .before .before .same .ensures) ∙ read .before .before .if1 .taken) in
+    let word =
+    rw (the-word found) at (sym (read .before .before .before .same .ensures) ∙ read .before .before .if1 .taken) in
     let arguments = arguments-after-word line (found .find .result) (found .find .ensures) in
-    sym (other-numbers-are-faulty line word (rw arguments at (sym (read .read-numbers .ensures .verdict) ∙ c .if2 .left)))
+    sym
+    (other-numbers-are-faulty line word (rw arguments at (sym (read .read-numbers .ensures .verdict) ∙ c .if2 .left)))
 
 returns-3 : tie.Need-returns-3
 returns-3 c =

@@ -1,4 +1,5 @@
--- Why `strip::append_cell` stores the line of a cell: its numbers are the place, the class of the interval and the interval. Rests on no axiom.
+-- Why `strip::append_cell` stores the line of a cell: its numbers are the place, the class of the interval and the
+-- interval. Rests on no axiom.
 use mathlib.Core.Path.{_≡_, _∙_, ap}
 use Rattle.timing.specs.Class.{classOf, classNumber}
 use Rattle.strip.specs.Output.{cellText}
@@ -7,7 +8,8 @@ use Rattle.strip.proofs.output.append_cell.Statement.{statement}
 use Rattle.strip.proofs.output.append_cell.Tie as tie
 
 the-class : (c : tie.After-number)
-    → c .number .result ≡ classNumber (classOf (c .before .before .before .args .profile) (c .before .before .before .args .interval))
+    → c .number .result
+    ≡ classNumber (classOf (c .before .before .before .args .profile) (c .before .before .before .args .interval))
 the-class c = c .number .ensures ∙ ap classNumber (c .before .classify .ensures)
 
 classify-requires : tie.Need-classify-requires

@@ -1,4 +1,5 @@
--- Why `strip::append_cells` stores the lines of all cells: what is left of them goes to the place reached. Rests on no axiom.
+-- Why `strip::append_cells` stores the lines of all cells: what is left of them goes to the place reached. Rests on
+-- no axiom.
 use Prim.Native.Nat.{ℕ, suc, _+_, _-_, _≤_}
 use mathlib.Core.Path.{_≡_, refl, sym, _∙_, ap}
 use mathlib.Core.List.{List}
@@ -64,7 +65,8 @@ loop-again c =
       call .kept .1 .1 .1 .0 ∙ at .loop .inv .1,
       rw (add-one (at .loop .place)) (omega (arith, next turn, call .ensures .0, at .loop .inv .2)),
       rw (add-one (at .loop .place), call .ensures .1)
-          (cells-stored-next (args .profile) (args .stream .now) (at .loop .place) (turn .loop-test .taken) (at .loop .out) (at .loop .end) _ (call .ensures .0)
+          (cells-stored-next (args .profile) (args .stream .now) (at .loop .place) (turn .loop-test .taken)
+          (at .loop .out) (at .loop .end) _ (call .ensures .0)
           ∙ at .loop .inv .3),
     )
 

@@ -1,4 +1,5 @@
--- Why `strip::refuse` prints a refusal: its line has the number and the place of the table, and both fit 32 bits. Rests on no axiom.
+-- Why `strip::refuse` prints a refusal: its line has the number and the place of the table, and both fit 32 bits.
+-- Rests on no axiom.
 use Prim.Native.Nat.{_≤_}
 use mathlib.Core.Path.{_≡_, ap}
 use native.Mathlib.Omega.{arith}
@@ -25,7 +26,8 @@ fits c =
 
 the-text : (c : tie.After-place)
     → let refusal = c .before .before .before .args .refusal in
-    lineOf (ascii "refused") (c .before .number .result ∷ c .place .result ∷ []) ≡ refusalText (refused (numberOf refusal) (placeOf refusal))
+    lineOf (ascii "refused") (c .before .number .result ∷ c .place .result ∷ [])
+    ≡ refusalText (refused (numberOf refusal) (placeOf refusal))
 unfolding refusalText
 the-text c = rw (c .before .number .ensures, c .place .ensures)
 

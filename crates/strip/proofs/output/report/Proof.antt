@@ -1,5 +1,5 @@
--- Why `strip::report` prints the report: its three parts go one after the other, and at most 4,098 cells leave room for them.
--- Rests on no axiom.
+-- Why `strip::report` prints the report: its three parts go one after the other, and at most 4,098 cells leave room
+-- for them. Rests on no axiom.
 use Prim.Native.Nat.{_+_, _≤_}
 use mathlib.Core.List.{[], _∷_}
 use native.Mathlib.Omega.{arith}
@@ -23,7 +23,8 @@ room c =
     let args = c .before .args in
     omega (
       arith,
-      report-fits (args .profile) (args .margin) (args .stream .now) (omega arith) (c .before .pre .0) (λ i. omega (arith, c .shared-slice-known .given i)),
+      report-fits (args .profile) (args .margin) (args .stream .now) (omega arith) (c .before .pre .0)
+          (λ i. omega (arith, c .shared-slice-known .given i)),
       c .before .pre .1,
     )
 
@@ -39,7 +40,12 @@ append-line-requires c κs = omega (arith, room (c .before .before .before .befo
 append-cells-requires : tie.Need-append-cells-requires
 append-cells-requires c κs =
     let margin = c .before .before .before in
-    omega (arith, room (margin .before .before .before .before .before), margin .append-line .ensures .0, margin .append-line .kept .0)
+    omega (
+      arith,
+      room (margin .before .before .before .before .before),
+      margin .append-line .ensures .0,
+      margin .append-line .kept .0,
+    )
 
 slice-aggregate-append-line-3 : tie.Need-slice-aggregate-append-line-3
 slice-aggregate-append-line-3 c = search needs
@@ -74,7 +80,8 @@ returns c =
     printed-at-front _ (args .out .now) _ _
     (omega (arith, end .ensures .0, cells .append-cells .ensures .0, margin .append-line .ensures .0))
     (rw (end .ensures .1, cells .append-cells .ensures .1, margin .append-line .ensures .1)
-    (report-stored (args .profile) (args .margin) (args .stream .now) (args .out .now) _ _ (margin .append-line .ensures .0) (cells .append-cells .ensures .0)))
+    (report-stored (args .profile) (args .margin) (args .stream .now) (args .out .now) _ _
+    (margin .append-line .ensures .0) (cells .append-cells .ensures .0)))
     (omega (arith, room known))
 
 pub report-spec : {M : Type 1} → statement M

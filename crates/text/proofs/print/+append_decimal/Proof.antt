@@ -1,5 +1,5 @@
--- Why `text::append_decimal` stores the decimal: the last digit goes after those of the number without it, which is less.
--- Rests on no axiom.
+-- Why `text::append_decimal` stores the decimal: the last digit goes after those of the number without it, which is
+-- less. Rests on no axiom.
 use Prim.Native.Nat.{ℕ, _<_, _/_, _%_}
 use mathlib.Core.Path.{sym, _∙_}
 use mathlib.Core.List.{[], _∷_}
@@ -7,7 +7,8 @@ use native.Mathlib.Omega.{arith}
 use lib.ListN.{length-set}
 use Rattle.lists.proofs.StoreLaws.{stored-one, stored-after-stored}
 use Rattle.text.specs.Decimal.{digit, decimal}
-use Rattle.text.proofs.PrintLaws.{decimal-of-digit, decimal-of-more, decimal-length-of-digit, decimal-length-of-more}
+use Rattle.text.proofs.PrintLaws.{decimal-of-digit, decimal-of-more, decimal-length-of-digit}
+use Rattle.text.proofs.PrintLaws.{decimal-length-of-more}
 use borrow.Fn.Kinds.{In}
 use borrow.Fn.PlainCycle.{Measures, is, falls, and}
 use Rattle.text.proofs.print.append_decimal.Reads as reads
@@ -42,7 +43,10 @@ same-length : (t : ℕ) → lts.Need-same-length (asked t, reads.Post) (given t)
 same-length t c = simp length-set
 
 returns : (t : ℕ) → lts.Need-returns (asked t, reads.Post) (given t) reads.Post
-returns t c = (omega (arith, decimal-length-of-digit _ (c .if1 .taken)), rw (decimal-of-digit _ (c .if1 .taken)) (sym (stored-one _ _ _)))
+returns t c = (
+  omega (arith, decimal-length-of-digit _ (c .if1 .taken)),
+  rw (decimal-of-digit _ (c .if1 .taken)) (sym (stored-one _ _ _)),
+)
 
 append-decimal-requires : (t : ℕ) → lts.Need-append-decimal-requires (asked t, reads.Post) (given t) reads.Post
 append-decimal-requires t c κs =
@@ -82,7 +86,8 @@ returns-2 t c =
       omega (arith, call .ensures .0),
       sym (stored-one (call .last .0) (call .result) (digit (args .n % 10)))
           ∙ rw (call .ensures .1, decimal-of-more _ (start .if1 .left))
-          (stored-after-stored (decimal (args .n / 10)) (digit (args .n % 10) ∷ []) (args .out .now) (args .at) _ (call .ensures .0)),
+          (stored-after-stored (decimal (args .n / 10)) (digit (args .n % 10) ∷ []) (args .out .now) (args .at) _
+          (call .ensures .0)),
     )
 
 pub +append-decimal-spec : {M : Type 1} → statement M

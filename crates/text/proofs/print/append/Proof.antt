@@ -39,8 +39,11 @@ loop-less c = omega arith
 loop-again : tie.Need-loop-again Inv-loop μ-loop
 loop-again c =
     let at = c .before .before in
-    let a = at .before .args in
-    (omega arith, simp length-set (at .loop .inv .1), rw add-one (stored-next _ _ _ _ (c .before .loop-test .taken) ∙ at .loop .inv .2))
+    let a = at .before .args in (
+      omega arith,
+      simp length-set (at .loop .inv .1),
+      rw add-one (stored-next _ _ _ _ (c .before .loop-test .taken) ∙ at .loop .inv .2),
+    )
 
 add-result : tie.Need-add-result Inv-loop μ-loop
 add-result c = omega arith

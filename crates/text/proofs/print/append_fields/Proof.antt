@@ -1,4 +1,5 @@
--- Why `text::append_fields` stores numbers, each after a tab: what is left of the fields goes to the place reached. Rests on no axiom.
+-- Why `text::append_fields` stores numbers, each after a tab: what is left of the fields goes to the place reached.
+-- Rests on no axiom.
 use Prim.Native.Nat.{ℕ, suc, _+_, _-_, _≤_}
 use mathlib.Core.Path.{_≡_, refl, sym, _∙_, ap}
 use mathlib.Core.List.{List}
@@ -28,8 +29,11 @@ abbrev μ-loop : tie.MeasureT-loop
 next : (c : tie.In-loop Inv-loop μ-loop)
     → let numbers = c .before .before .before .before .args .numbers .now in
     length (fieldsOf (drop (c .before .loop .i) numbers))
-    ≡ 1 + length (decimal (getD numbers (c .before .loop .i) 0)) + length (fieldsOf (drop (suc (c .before .loop .i)) numbers))
-next c = fields-length-next (c .before .before .before .before .args .numbers .now) (c .before .loop .i) (c .loop-test .taken)
+    ≡ 1 + length (decimal (getD numbers (c .before .loop .i) 0)) + length
+    (fieldsOf (drop (suc (c .before .loop .i)) numbers))
+next c =
+    fields-length-next (c .before .before .before .before .args .numbers .now) (c .before .loop .i)
+    (c .loop-test .taken)
 
 loop-holds : tie.Need-loop-holds Inv-loop μ-loop
 loop-holds c = (omega arith, refl, refl, refl)
@@ -65,7 +69,8 @@ loop-again c =
       call .kept .0 ∙ simp length-set (at .loop .inv .1),
       rw add-one (omega (arith, next turn, call .ensures .0)),
       rw (add-one, call .ensures .1, call .ensures .0)
-          (fields-stored-next (args .numbers .now) (at .loop .i) (turn .loop-test .taken) (at .loop .out) (at .loop .end) ∙ at .loop .inv .3),
+          (fields-stored-next (args .numbers .now) (at .loop .i) (turn .loop-test .taken) _ (at .loop .end)
+          ∙ at .loop .inv .3),
     )
 
 same-length : tie.Need-same-length Inv-loop μ-loop

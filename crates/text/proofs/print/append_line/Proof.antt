@@ -1,4 +1,5 @@
--- Why `text::append_line` stores a line: its word, its fields and a line feed go one after the other. Rests on no axiom.
+-- Why `text::append_line` stores a line: its word, its fields and a line feed go one after the other. Rests on no
+-- axiom.
 use Prim.Native.Nat.{_+_, _≤_}
 use native.Mathlib.Omega.{arith}
 use lib.ListN.{length}
@@ -10,7 +11,8 @@ use Rattle.text.proofs.print.append_line.Tie as tie
 
 -- the buffer has room for the parts
 room : (c : tie.Start)
-    → c .args .at + (length (c .args .word .now) + length (fieldsOf (c .args .numbers .now)) + 1) ≤ length (c .args .out .now)
+    → c .args .at + (length (c .args .word .now) + length (fieldsOf (c .args .numbers .now)) + 1) ≤ length
+    (c .args .out .now)
 room c = rw line-length at (c .pre)
 
 append-requires : tie.Need-append-requires
@@ -19,7 +21,8 @@ append-requires c κs = omega (arith, room (c .before .before .before .before))
 append-fields-requires : tie.Need-append-fields-requires
 append-fields-requires c κs =
     let word = c .before .before .before .append in
-    omega (arith, room (c .before .before .before .before .before .before .before .before), word .ensures .0, word .kept .0)
+    omega
+    (arith, room (c .before .before .before .before .before .before .before .before), word .ensures .0, word .kept .0)
 
 slice-aggregate-append : tie.Need-slice-aggregate-append
 slice-aggregate-append c = search needs
@@ -48,8 +51,13 @@ returns c =
     let args = word .before .before .before .before .before .args in
     let length-of = line-length (args .word .now) (args .numbers .now) in (
       omega (arith, end .ensures .0, fields .append-fields .ensures .0, word .append .ensures .0),
-      rw
-          (end .ensures .1, fields .append-fields .ensures .1, fields .append-fields .ensures .0, word .append .ensures .1, word .append .ensures .0)
+      rw (
+        end .ensures .1,
+        fields .append-fields .ensures .1,
+        fields .append-fields .ensures .0,
+        word .append .ensures .1,
+        word .append .ensures .0,
+      )
           (line-stored (args .word .now) (args .numbers .now) (args .out .now) (args .at)),
     )
 

@@ -1,5 +1,5 @@
--- Why `text::find` answers the end of the piece: while no separator is met, the piece that is left begins at the place reached.
--- Rests on no axiom.
+-- Why `text::find` answers the end of the piece: while no separator is met, the piece that is left begins at the
+-- place reached. Rests on no axiom.
 use Prim.Native.Nat.{ℕ, _+_, _-_}
 use mathlib.Core.Path.{_≡_, refl, ap}
 use mathlib.Core.List.{List, []}
@@ -28,7 +28,12 @@ returns : tie.Need-returns Inv-loop μ-loop
 returns c =
     let h = c .before .before .before in
     let a = h .before .args in
-    omega (arith, ap length (up-to-at-separator (a .separator) (a .text .now) (h .loop .at) (c .before .before .loop-test .taken) (c .if1 .taken)))
+    omega (
+      arith,
+      ap length
+          (up-to-at-separator (a .separator) (a .text .now) (h .loop .at) (c .before .before .loop-test .taken)
+          (c .if1 .taken)),
+    )
 
 add-at : tie.Need-add-at Inv-loop μ-loop
 add-at c = omega arith
@@ -41,7 +46,12 @@ loop-again c =
     let h = c .before .before .before in
     let a = h .before .args in
     rw add-one
-    (omega (arith, ap length (up-to-at-other (a .separator) (a .text .now) (h .loop .at) (c .before .before .loop-test .taken) (c .if1 .left))))
+    (omega (
+      arith,
+      ap length
+          (up-to-at-other (a .separator) (a .text .now) (h .loop .at) (c .before .before .loop-test .taken)
+          (c .if1 .left)),
+    ))
 
 returns-2 : tie.Need-returns-2 Inv-loop μ-loop
 unfolding upTo

@@ -1,4 +1,5 @@
--- Why `text::hex_digit` answers `hexDigit`: the tests part the bytes into the ranges of the definition. Rests on no axiom.
+-- Why `text::hex_digit` answers `hexDigit`: the tests part the bytes into the ranges of the definition. Rests on no
+-- axiom.
 use mathlib.Core.Path.{sym}
 use Rattle.text.proofs.HexLaws.{hex-below-0, hex-0-to-9, hex-above-9, hex-A-to-F, hex-above-F}
 use borrow.Author.Needs.{needs}

@@ -1,5 +1,5 @@
--- Why `text::no_leading_zero` answers `noLeadingZero`: they part fields alike, into those of no character, of one and of more.
--- Rests on no axiom.
+-- Why `text::no_leading_zero` answers `noLeadingZero`: they part fields alike, into those of no character, of one and
+-- of more. Rests on no axiom.
 use mathlib.Core.Path.{sym}
 use native.Mathlib.Omega.{arith}
 use borrow.Author.Needs.{needs}

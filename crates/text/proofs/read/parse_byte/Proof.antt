@@ -1,4 +1,5 @@
--- Why `text::parse_byte` answers `byteRead`: the field has two characters, and each is a digit where its number is below 16. Rests on no axiom.
+-- Why `text::parse_byte` answers `byteRead`: the field has two characters, and each is a digit where its number is
+-- below 16. Rests on no axiom.
 use mathlib.Core.Path.{sym}
 use native.Mathlib.Omega.{arith}
 use borrow.Author.Tests.{lt-ltb, le-ltb}
@@ -35,7 +36,13 @@ returns-3 c =
     let two = byte-of-two (start .before .before .args .field .now) (start .if1 .left) in
     let high = c .before .before .before .before .hex-digit .ensures in
     let low = c .before .before .hex-digit2 .ensures in
-    rw (two, ← high, ← low, lt-ltb (c .before .before .before .before .hex-digit .result) 16 (omega arith), le-ltb (c .before .before .hex-digit2 .result) 16 (c .if3 .taken))
+    rw (
+      two,
+      ← high,
+      ← low,
+      lt-ltb (c .before .before .before .before .hex-digit .result) 16 (omega arith),
+      le-ltb (c .before .before .hex-digit2 .result) 16 (c .if3 .taken),
+    )
 
 mul-t7 : tie.Need-mul-t7
 mul-t7 c = search needs
@@ -49,7 +56,13 @@ returns-4 c =
     let two = byte-of-two (start .before .before .args .field .now) (start .if1 .left) in
     let high = c .before .before .before .before .hex-digit .ensures in
     let low = c .before .before .hex-digit2 .ensures in
-    rw (two, ← high, ← low, lt-ltb (c .before .before .before .before .hex-digit .result) 16 (omega arith), lt-ltb (c .before .before .hex-digit2 .result) 16 (omega arith))
+    rw (
+      two,
+      ← high,
+      ← low,
+      lt-ltb (c .before .before .before .before .hex-digit .result) 16 (omega arith),
+      lt-ltb (c .before .before .hex-digit2 .result) 16 (omega arith),
+    )
 
 pub parse-byte-spec : {M : Type 1} → statement M
 parse-byte-spec =

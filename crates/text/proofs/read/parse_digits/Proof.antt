@@ -1,5 +1,5 @@
--- Why `text::parse_digits` answers `digitsRead`: at each place the answer is that of the digits left after the number so far.
--- Rests on no axiom.
+-- Why `text::parse_digits` answers `digitsRead`: at each place the answer is that of the digits left after the number
+-- so far. Rests on no axiom.
 use Prim.Native.Nat.{ℕ, suc, _≤_, _<_, _-_}
 use mathlib.Core.Path.{_≡_, sym, _∙_, ap}
 use mathlib.Core.List.{List, _∷_}
@@ -8,7 +8,8 @@ use native.Mathlib.Omega.{arith}
 use lib.ListN.{length, drop, getD, drop-of-length-le}
 use lib.Seq.{drop-cons}
 use Rattle.text.specs.Decimal.{digitsRead}
-use Rattle.text.proofs.DecimalLaws.{digitsAfter, digits-after-none, digits-at-the-end, digits-too-large, digits-at-digit, digits-below, digits-above}
+use Rattle.text.proofs.DecimalLaws.{digitsAfter, digits-after-none, digits-at-the-end, digits-too-large}
+use Rattle.text.proofs.DecimalLaws.{digits-at-digit, digits-below, digits-above}
 use Rattle.text.proofs.read.parse_digits.Statement.{statement}
 use Rattle.text.proofs.read.parse_digits.Tie as tie
 
@@ -38,7 +39,9 @@ returns c =
 returns-2 : tie.Need-returns-2 Inv-loop μ-loop
 returns-2 c =
     let at = c .before .before .before .before in
-    sym (next-digit _ _ _ (c .before .before .before .loop-test .taken) (at .loop .inv .2) ∙ digits-above _ _ _ (c .if2 .taken))
+    sym
+    (next-digit _ _ _ (c .before .before .before .loop-test .taken) (at .loop .inv .2)
+    ∙ digits-above _ _ _ (c .if2 .taken))
 
 mul-value : tie.Need-mul-value Inv-loop μ-loop
 mul-value c = omega arith

@@ -1,5 +1,5 @@
--- Why `text::same` answers whether two texts are the same: texts of different lengths are not, and while the bytes agree it depends on what
--- is left. Rests on no axiom.
+-- Why `text::same` answers whether two texts are the same: texts of different lengths are not, and while the bytes
+-- agree it depends on what is left. Rests on no axiom.
 use Prim.Native.Nat.{_≤_, _-_}
 use mathlib.Core.Path.{_≡_, refl, sym}
 use native.Mathlib.Numerals.{add-one}
@@ -54,7 +54,12 @@ unfolding sameText
 returns-3 c =
     let h = c .before in
     let a = h .before .before .args in
-    rw (← h .loop .inv .2, drop-of-length-le (a .a .now) (c .loop-test .left), drop-of-length-le (a .b .now) {i = h .loop .i} (omega arith))
+    rw (
+      ← h .loop .inv .2,
+      drop-of-length-le (a .a .now) (c .loop-test .left),
+      drop-of-length-le (a .b .now) {i =
+          h .loop .i} (omega arith),
+    )
 
 pub same-spec : {M : Type 1} → statement M
 same-spec =

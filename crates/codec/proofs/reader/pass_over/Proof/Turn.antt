@@ -21,9 +21,10 @@ use Rattle.symbols.specs.Machine.{fresh}
 use Rattle.symbols.specs.Step.{stepped, itemsOf}
 use Rattle.symbols.specs.declared.Cell.the-variants.{Short, Medium, Long}
 use Rattle.symbols.specs.declared.Reading.{Reading}
-use Rattle.codec.specs.Scan.{advanced, scanned, gathered}
-use Rattle.codec.specs.declared.reader.Scan.{Scan}
-use Rattle.codec.specs.declared.reader.Scan.the-variants.{Whole, Stopped}
+use Rattle.intervals.specs.Cells.{advanced}
+use Rattle.codec.specs.Scan.{scanned, gathered}
+use Rattle.intervals.specs.declared.Scan.{Scan}
+use Rattle.intervals.specs.declared.Scan.the-variants.{Whole, Stopped}
 
 -- ---- one class more
 

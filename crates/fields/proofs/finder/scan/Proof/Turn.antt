@@ -1,6 +1,6 @@
--- What a turn of the finder's scan keeps: the intervals from `first` up to k are of class 2, and no lock was passed over. One law for
--- each way in which a turn ends. Rests on no axiom.
-use Prim.Native.Nat.{ℕ, suc, _+_, _-_, _<_, _≤_}
+-- What a turn of the finder's scan keeps: the intervals from `first` up to k are of class 2, and no lock was passed
+-- over. One law for each way in which a turn ends. Rests on no axiom.
+use Prim.Native.Nat.{ℕ, _+_, _<_, _≤_}
 use mathlib.Core.Path.{_≡_, refl, sym, ap, _∙_}
 use mathlib.Core.Bool.{true, false}
 use mathlib.Core.Logic.{⊎-elim}
@@ -8,14 +8,12 @@ use mathlib.Core.List.{List}
 use native.Mathlib.Omega.{arith}
 use native.Mathlib.Nat.{eq-or-lt-of-le}
 use lib.ListN.{length, getD}
-use Rattle.refusal.specs.Answer.{Answer, accepted, refused}
-use Rattle.timing.specs.Class.{classesOf}
-use Rattle.timing.proofs.ClassLaws.{classes-length}
-use Rattle.timing.specs.declared.Profile.{Profile}
+use Rattle.refusal.specs.Answer.{accepted, refused}
 use Rattle.timing.specs.declared.Class.{Class}
 use Rattle.timing.specs.declared.Class.the-variants.{Narrow, Two}
 use Rattle.fields.specs.Lock.{lockAt, lockFrom, mayStand}
-use Rattle.fields.proofs.FinderLaws.{lock-stands, broken-mark-has-no-lock, broken-run-is-passed, no-lock-goes-on, lock-is-first, end-is-adrift}
+use Rattle.fields.proofs.FinderLaws.{lock-stands, broken-mark-has-no-lock, broken-run-is-passed, no-lock-goes-on}
+use Rattle.fields.proofs.FinderLaws.{lock-is-first, end-is-adrift}
 
 pub record Run (cs : List Class) (start first k : ℕ) : Type 0 where
   pub ordered : first ≤ k

@@ -1,43 +1,40 @@
--- One turn of the pass over a field: the interval's class stops both the code and the definition, or is a cell that both read; and once
--- the machine has closed the lead and n bytes, no bit is wanted any more. Rests on no axiom.
-use Prim.Native.Nat.{ℕ, suc, _+_, _-_, _*_, _^_, _≤_, _<_}
+-- One turn of the pass over a field: the interval's class stops both the code and the definition, or is a cell that
+-- both read; and once the machine has closed the lead and n bytes, no bit is wanted any more. Rests on no axiom.
+use Prim.Native.Nat.{ℕ, suc, _+_, _^_, _≤_, _<_}
 use mathlib.Core.Path.{_≡_, refl, sym, ap, subst, _∙_}
-use mathlib.Core.Bool.{Bool, true, false}
 use mathlib.Core.List.{List, [], _∷_, _++_}
 use native.Mathlib.Numerals.{add-one}
 use native.Mathlib.Omega.{arith}
-use borrow.Author.Tests.{eq-eqb, ne-eqb, eqb-false}
-use lib.Dec.{eqb}
+use borrow.Author.Tests.{eqb-false}
 use lib.ListN.{length, drop, getD, length-append, drop-of-length-le}
 use lib.Seq.{drop-cons}
 use Rattle.lists.specs.Filled.{storedAt}
 use Rattle.lists.proofs.StoreLaws.{stored-none, stored-after-stored, stored-length}
 use Rattle.refusal.specs.Table.{numberOf, placeOf}
-use Rattle.refusal.specs.Answer.{Answer, accepted, refused, firstRefusal, refuseIf}
+use Rattle.refusal.specs.Answer.{Answer, refused}
 use Rattle.refusal.specs.declared.Refusal.{Refusal}
-use Rattle.refusal.specs.declared.Refusal.the-variants.{EndsEarly, MisplacedMark}
-use Rattle.refusal.proofs.AnswerLaws.{number-is-not-zero, refusal-decides, acceptance-passes}
+use Rattle.refusal.specs.declared.Refusal.the-variants.{EndsEarly}
+use Rattle.refusal.proofs.AnswerLaws.{number-is-not-zero, refusal-decides}
 use Rattle.timing.specs.Class.{classOf, classesOf}
 use Rattle.timing.specs.declared.Profile.{Profile}
 use Rattle.timing.specs.declared.Class.{Class}
 use Rattle.timing.proofs.ClassLaws.{classes-of-cons, classes-of-drop, classes-length}
 use Rattle.symbols.specs.Bytes.{itemsRead}
 use Rattle.symbols.specs.Reading.{readFrom, readBits}
-use Rattle.symbols.specs.Strip.{isStray, strayPlace}
 use Rattle.symbols.specs.Machine.{fresh}
 use Rattle.symbols.specs.Step.{stepped, itemsOf}
 use Rattle.symbols.specs.declared.Cell.{Cell}
 use Rattle.symbols.specs.declared.Reading.{Reading}
 use Rattle.symbols.proofs.ReadsLaws.{Reads, reads-fresh}
 use Rattle.symbols.proofs.StepLaws.{reads-step, items-step}
-use Rattle.symbols.proofs.AnswerLaws.{reads-enough, reads-too-few, reads-items-count, reads-stray, reads-place}
+use Rattle.symbols.proofs.AnswerLaws.{reads-too-few, reads-items-count}
 use Rattle.intervals.specs.Cells.{advanced}
 use Rattle.intervals.specs.declared.Scan.the-variants.{Whole, Stopped}
 use Rattle.intervals.proofs.CellLaws.{GoesOn, goes-on, stops}
-use Rattle.fields.specs.Field.{bitsWanted, fieldStop, fieldCells, fieldUsed, fieldItems, fieldStray, fieldStrayPlace}
+use Rattle.fields.specs.Field.{fieldStop, fieldItems}
 use Rattle.fields.specs.FieldRule.{gatherRule}
-use Rattle.fields.proofs.FieldLaws.{field-items-of-cells, field-stray-of-cells, field-place-of-cells}
-use Rattle.fields.proofs.FrontLaws.{wantedOf, Front, front-starts, front-goes-on, front-ends, front-meets-narrow, front-meets-wide, front-is-whole}
+use Rattle.fields.proofs.FrontLaws.{wantedOf, Front, front-starts, front-goes-on, front-ends, front-meets-narrow}
+use Rattle.fields.proofs.FrontLaws.{front-meets-wide}
 
 module _ (p : Profile) (ds old : List ℕ) (n : ℕ) where
   abbrev cs : List Class
@@ -153,7 +150,8 @@ module _ (p : Profile) (ds old : List ℕ) (n : ℕ) where
         rw add-one
         (record {
           done = more;
-          reads = subst (λ (r : Reading). Reads r more) (sym machine) (reads-step m (so-far .done) (so-far .reads) room x);
+          reads =
+              subst (λ (r : Reading). Reads r more) (sym machine) (reads-step m (so-far .done) (so-far .reads) room x);
           placed = length-append (so-far .done) (x ∷ []) ∙ (let at = so-far .placed in omega arith);
           within = inside;
           front = front-goes-on cs n (so-far .done) (wanted h) (on .read) (drop (suc k) cs) (front-here inside);
@@ -175,46 +173,3 @@ module _ (p : Profile) (ds old : List ℕ) (n : ℕ) where
               (let at = so-far .counted in omega arith)
               ∙ ap (storedAt old 0) (sym items);
         })
-
-    whole : n < m .rows → (fieldCells cs n ≡ so-far .done) × (fieldStop cs n ≡ accepted 0)
-    whole h =
-        let enough = reads-enough m (so-far .done) (so-far .reads) n h in
-        front-is-whole cs n (so-far .done) (drop k cs) (omega arith) (so-far .front)
-
-    stops-nowhere : n < m .rows → fieldStop cs n .number ≡ 0
-    stops-nowhere h = ap (λ (a : Answer). a .number) (whole h .1)
-
-    -- the field's cells are those that were read
-    stray-is : n < m .rows → fieldStray cs n ≡ eqb (m .stray) 1
-    stray-is h =
-        field-stray-of-cells cs n (stops-nowhere h)
-        ∙ ap (λ (l : List Cell). isStray (readBits l)) (whole h .0)
-        ∙ sym (reads-stray m (so-far .done) (so-far .reads))
-
-    pub pass-is-stray : n < m .rows → m .stray ≡ 1 → refused 8 (m .place) ≡ gatherRule cs n
-    unfolding gatherRule
-    pass-is-stray h stray =
-        let out-of-place : fieldStray cs n ≡ true = stray-is h ∙ eq-eqb (m .stray) 1 stray in
-        let place : m .place ≡ fieldStrayPlace cs n =
-        reads-place
-        m
-        (so-far .done)
-        (so-far .reads)
-        (sym (reads-stray m (so-far .done) (so-far .reads)) ∙ eq-eqb (m .stray) 1 stray)
-        ∙ ap strayPlace (sym (whole h .0))
-        ∙ sym (field-place-of-cells cs n (stops-nowhere h)) in
-        rw (whole h .1, out-of-place) (ap (refused 8) place)
-
-    pub pass-is-whole : n < m .rows → (m .stray ≡ 1 → ⊥) → accepted k ≡ gatherRule cs n
-    unfolding gatherRule fieldUsed
-    pass-is-whole h fair =
-        let in-place : fieldStray cs n ≡ false = stray-is h ∙ ne-eqb (m .stray) 1 fair in
-        rw (whole h .1, in-place) (ap accepted (sym (ap length (whole h .0) ∙ so-far .placed)))
-
-    pub pass-stored : n < m .rows → out ≡ storedAt old 0 (fieldItems cs n)
-    pass-stored h =
-        so-far .stored
-        ∙ ap (storedAt old 0)
-        (sym
-        (field-items-of-cells cs n (stops-nowhere h)
-        ∙ ap (λ (l : List Cell). itemsRead (readBits l)) (whole h .0)))
