@@ -1,7 +1,7 @@
 -- How many items and written bytes a sector has: 114 items and 116 written bytes beside its data. Rests on no axiom.
-use Prim.Native.Nat.{ℕ, _+_}
+use Prim.Native.Nat.{ℕ, _+_, _≤_}
 use mathlib.Core.Path.{_≡_, refl, ap, ap₂, _∙_}
-use mathlib.Core.Bool.{Bool, true, false, not, _||_, true≢false}
+use mathlib.Core.Bool.{Bool, true, false, cond, not, _||_, true≢false}
 use mathlib.Core.List.{List, [], _∷_, _++_}
 use native.Mathlib.Omega.{arith}
 use borrow.Author.Tests.{eqb-true, not-false}
@@ -57,8 +57,18 @@ fits-size : (above : Bool) (n m : ℕ) → (above || not (eqb n m)) ≡ false �
 fits-size true n m e = absurd (true≢false e)
 fits-size false n m e = eqb-true n m (not-false (eqb n m) e)
 
+pub size-at-most-1024 : (code : ℕ) → sectorSize code ≤ 1024
+unfolding sectorSize
+size-at-most-1024 code = by (eqb code 0) (eqb code 1) (eqb code 2)
+  where
+    by : (is-0 is-1 is-2 : Bool) → cond is-0 128 (cond is-1 256 (cond is-2 512 1024)) ≤ 1024
+    by true is-1 is-2 = omega arith
+    by false true is-2 = omega arith
+    by false false true = omega arith
+    by false false false = omega arith
+
 module _ (track side sector code : ℕ) (bytes : List ℕ) (fits : isMisfit code bytes ≡ false) where
-  size-of-code : length bytes ≡ sectorSize code
+  pub size-of-code : length bytes ≡ sectorSize code
   unfolding isMisfit
   size-of-code = fits-size (ltb 3 code) (length bytes) (sectorSize code) fits
 

@@ -17,6 +17,7 @@ use Rattle.timing.specs.Class.{classesOf, classNumber}
 use Rattle.timing.specs.declared.Profile.{Profile}
 use Rattle.timing.specs.declared.Class.{Class}
 use Rattle.timing.proofs.ProfileLaws.{Kept, kept}
+use Rattle.items.specs.Written.{written}
 use Rattle.symbols.specs.Cells.{writtenCells}
 use Rattle.symbols.specs.Reading.{units}
 use Rattle.symbols.proofs.RoundTripLaws.{cells-are-read}
@@ -49,23 +50,36 @@ numbers-of-cells ws =
 
 module _ (p : Profile) (accepts : AcceptedProfile p) where
   -- a stream near the written one has the cells' classes
+  near-has-classes
+      : (ws ds : List ℕ)
+      → Near (marginOf p) ds (byteStream p ws)
+      → classesOf p ds ≡ map classOfUnits (writtenCells ws)
+  near-has-classes = near-stream-has-classes (margin-leaves-room (kept p accepts)) (kept p accepts)
+
   near-has-cells : (ws ds : List ℕ) → Near (marginOf p) ds (byteStream p ws) → CellsAreClasses p ws ds
-  near-has-cells ws ds near =
-      ap (map classNumber) (near-stream-has-classes (margin-leaves-room (kept p accepts)) (kept p accepts) ws ds near)
-      ∙ numbers-of-cells ws
+  near-has-cells ws ds near = ap (map classNumber) (near-has-classes ws ds near) ∙ numbers-of-cells ws
+
+  -- so has the stream of any items, moved by at most the margin
+  pub moved-has-classes
+      : (items ds : List ℕ)
+      → Moved (stated p) (streamOf p items) ds
+      → classesOf p ds ≡ map classOfUnits (writtenCells (written items))
+  unfolding streamOf
+  moved-has-classes items ds moved =
+      near-has-classes (written items) ds
+      (subst (λ (m : ℕ). Near m ds (streamOf p items)) (stated-is-the-margin p accepts)
+      (near-of-each (stated p) ds (streamOf p items) (moved .as-many)
+      (λ k h.
+      let j : k < length ds = subst (λ (n : ℕ). k < n) (sym (moved .as-many)) h in
+      (moved .no-longer k j, moved .no-shorter k j))))
 
   moved-has-cells
       : (ws ds : List ℕ) → AcceptedList ws → Moved (stated p) (streamOf p ws) ds → CellsAreClasses p ws ds
-  unfolding streamOf
   moved-has-cells ws ds a moved =
-      let stream : streamOf p ws ≡ byteStream p ws = ap (byteStream p) (listed a .as-written) in
-      near-has-cells ws ds
-      (subst (λ (ls : List ℕ). Near (marginOf p) ds ls) stream
-      (subst (λ (m : ℕ). Near m ds (streamOf p ws)) (stated-is-the-margin p accepts)
-      (near-of-each (stated p) ds (streamOf p ws) (moved .as-many)
-      (λ k h.
-      let j : k < length ds = subst (λ (n : ℕ). k < n) (sym (moved .as-many)) h in
-      (moved .no-longer k j, moved .no-shorter k j)))))
+      ap (map classNumber)
+      (moved-has-classes ws ds moved
+      ∙ ap (λ (us : List ℕ). map classOfUnits (writtenCells us)) (listed a .as-written))
+      ∙ numbers-of-cells ws
 
   reads-back
       : (ws : List ℕ)

@@ -18,7 +18,7 @@ use Rattle.lengths.specs.Stream.{listRule}
 use Rattle.unique.specs.Streams.{AcceptedList}
 
 -- a list of bytes by either name
-bytes-everywhere : (ws : List ℕ) → everywhere isByte ws ≡ areBytes ws
+pub bytes-everywhere : (ws : List ℕ) → everywhere isByte ws ≡ areBytes ws
 unfolding everywhere areBytes
 bytes-everywhere [] = refl
 bytes-everywhere (w ∷ ws) = ap (λ (t : Bool). isByte w && t) (bytes-everywhere ws)

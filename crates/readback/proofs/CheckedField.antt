@@ -1,0 +1,66 @@
+-- A field with its check bytes is read whole: they are bytes too, and the register is zero after them.
+use Prim.Native.Nat.{ℕ, _+_, _≤_, _<_}
+use mathlib.Core.Path.{_≡_, refl, sym, ap, ap₂, subst, _∙_}
+use mathlib.Core.Bool.{Bool, true, false, _&&_}
+use mathlib.Core.List.{List, [], _∷_, _++_, map}
+use native.Mathlib.Omega.{arith}
+use borrow.Author.Tests.{le-ltb}
+use lib.Dec.{T}
+use lib.ListN.{length, length-append}
+use Rattle.lists.specs.Place.{everywhere}
+use Rattle.lists.proofs.PlaceLaws.{everywhere-of-append}
+use Rattle.timing.specs.Profile.{outside}
+use Rattle.timing.specs.Class.{classesOf}
+use Rattle.timing.specs.declared.Profile.{Profile}
+use Rattle.items.specs.Item.{isByte}
+use Rattle.items.specs.Register.{highByte, lowByte}
+use Rattle.items.specs.Written.{fresh, afterBytes, checkBytes}
+use Rattle.items.specs.declared.Check.{Check}
+use Rattle.items.proofs.ItemLaws.{data-is-byte}
+use Rattle.items.proofs.CheckLaws.{fresh-bound, after-bytes-bound, high-byte-bound, low-byte-bound}
+use Rattle.items.proofs.CheckLaws.{crc-of-check-bytes-is-zero}
+use Rattle.symbols.specs.Bits.{O, allBits, areBytes}
+use Rattle.symbols.specs.Reading.{readBits}
+use Rattle.symbols.specs.declared.Cell.{Cell}
+use Rattle.unique.specs.Streams.{AcceptedProfile}
+use Rattle.unique.proofs.ListLaws.{bytes-everywhere}
+use Rattle.readback.specs.SectorReads.{withCheck, ReadsField}
+use Rattle.readback.proofs.FrontField.{classOfCell, field-is-read}
+
+module _ (ws : List ℕ) where
+  checked-length : length (withCheck ws) ≡ length ws + 2
+  checked-length = length-append ws (checkBytes (afterBytes fresh ws))
+
+  zero-after : afterBytes fresh (withCheck ws) .register ≡ 0
+  zero-after = ap (λ (c : Check). c .register) (crc-of-check-bytes-is-zero fresh ws fresh-bound)
+
+  checked-bytes : everywhere isByte ws ≡ true → T (areBytes (withCheck ws))
+  unfolding everywhere
+  checked-bytes e =
+      let bound = after-bytes-bound fresh ws fresh-bound in
+      let r : ℕ = afterBytes fresh ws .register in
+      let all : everywhere isByte (withCheck ws) ≡ true =
+      everywhere-of-append isByte ws (checkBytes (afterBytes fresh ws))
+      ∙ rw (e, data-is-byte (highByte r) (high-byte-bound r bound), data-is-byte (lowByte r) (low-byte-bound r)) in
+      subst T (sym all ∙ bytes-everywhere (withCheck ws)) tt
+
+  module _
+      (vs : List ℕ)
+      (xs : List Cell)
+      (n : ℕ)
+      (p : Profile)
+      (ds : List ℕ)
+    where
+      pub checked-field-is-read
+          : everywhere isByte ws ≡ true
+          → length ws + 2 ≡ n
+          → n ≤ 1030
+          → readBits xs ≡ O ∷ allBits (withCheck ws ++ vs) ++ (O ∷ [])
+          → AcceptedProfile p
+          → classesOf p ds ≡ map classOfCell xs
+          → ReadsField p ds n (withCheck ws)
+      checked-field-is-read bytes count few reads accepts same =
+          let long = checked-length in
+          subst (λ (k : ℕ). ReadsField p ds k (withCheck ws)) (long ∙ count)
+          (field-is-read (withCheck ws) vs xs reads (checked-bytes bytes) p ds accepts same
+          (rw (le-ltb (length (withCheck ws)) 1 (omega arith), le-ltb 1030 (length (withCheck ws)) (omega arith))) zero-after)

@@ -1,0 +1,1 @@
+// No code: that a made sector reads back, stated over the definitions that the contracts cite, and proved.
