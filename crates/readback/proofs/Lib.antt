@@ -8,3 +8,4 @@ pub mod RestOfField
 pub mod LockLaws
 -- The cells of sync and gap
 pub mod GapCells
+pub mod SectorReads

@@ -1,9 +1,9 @@
 -- The first lock: a gap without a run of 64 minimum intervals is passed over, and a run that is long enough, with a
 -- mark A1 after it, has its first lock at the mark, since within the run no mark begins.
 use Prim.Native.Nat.{ℕ, zero, suc, _+_, _-_, _<_, _≤_}
-use mathlib.Core.Path.{_≡_, refl, sym, ap, _∙_}
+use mathlib.Core.Path.{_≡_, refl, sym, ap, ap₂, _∙_}
 use mathlib.Core.Bool.{Bool, true, false, cond, _&&_, true≢false}
-use mathlib.Core.List.{List, [], _∷_, _++_}
+use mathlib.Core.List.{List, [], _∷_, _++_, append-assoc}
 use native.Mathlib.Omega.{arith}
 use lib.Dec.{eqb, ltb}
 use lib.ListN.{length, getD, replicate, length-append, length-replicate, getD-replicate, List·getD-append}
@@ -138,3 +138,18 @@ module _ (tail : List Class) where
       → lockFrom (front ++ (gap ++ tail)) (length front) ≡ lockFrom (front ++ (gap ++ tail)) (length front + length gap)
   gap-is-passed gap front e =
       ap (lockFrom (front ++ (gap ++ tail))) (omega arith) ∙ gap-passes gap front 0 (omega arith) (omega arith) e
+
+-- ---- a gap, a run and a mark
+
+pub lock-after-gap
+    : (front gap : List Class) (m : ℕ) (rest : List Class)
+    → passes 0 gap ≡ true
+    → lockFrom (front ++ (gap ++ (replicate (m + 64) Two ++ markA1 rest))) (length front)
+    ≡ accepted (length front + length gap + (m + 64))
+lock-after-gap front gap m rest e =
+    let tail = replicate (m + 64) Two ++ markA1 rest in
+    let there : length (front ++ gap) ≡ length front + length gap = length-append front gap in
+    gap-is-passed tail gap front e
+    ∙ ap₂ lockFrom (sym (append-assoc front gap tail)) (sym there)
+    ∙ lock-after-run (front ++ gap) m rest
+    ∙ ap accepted (omega arith)

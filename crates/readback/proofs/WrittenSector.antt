@@ -16,7 +16,7 @@ use Rattle.items.proofs.WrittenLaws.{written-from-of-append, written-from-of-no
 use Rattle.sectors.specs.Sector.{opening, identity, sectorItems}
 use Rattle.readback.specs.SectorReads.{withCheck, Made, idField, dataField}
 
-abbrev A1 : ℕ
+abbrev pub A1 : ℕ
 A1 = 256 + 0xa1
 
 -- a check order after bytes
@@ -63,10 +63,10 @@ abbrev pub middleGap : List ℕ
 middleGap = replicate 22 0x4e ++ replicate 12 0x00
 
 module _ (track side sector code : ℕ) (bytes : List ℕ) where
-  abbrev idBytes : List ℕ
+  abbrev pub idBytes : List ℕ
   idBytes = A1 ∷ A1 ∷ 0xfe ∷ track ∷ side ∷ sector ∷ code ∷ []
 
-  abbrev dataBytes : List ℕ
+  abbrev pub dataBytes : List ℕ
   dataBytes = A1 ∷ A1 ∷ 0xfb ∷ bytes
 
   sector-grouped
