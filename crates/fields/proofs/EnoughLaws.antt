@@ -2,18 +2,18 @@
 -- induction on the classes. Rests on no axiom.
 use Prim.Native.Nat.{ℕ, zero, suc, _+_, _*_, _≤_, _<_}
 use mathlib.Core.Path.{_≡_, sym, ap, _∙_}
-use mathlib.Core.List.{List, [], _∷_}
+use mathlib.Core.List.{List, [], _∷_, _++_, map}
 use native.Mathlib.Omega.{arith}
 use lib.ListN.{length, take, length-append}
-use Rattle.refusal.specs.Answer.{Answer}
+use Rattle.refusal.specs.Answer.{Answer, accepted}
 use Rattle.timing.specs.declared.Class.{Class}
 use Rattle.symbols.specs.Bits.{Bit}
 use Rattle.symbols.specs.Reading.{given, lastAfter, readFrom}
 use Rattle.symbols.specs.declared.Cell.{Cell}
-use Rattle.intervals.proofs.CellLaws.{by-each-class}
+use Rattle.intervals.proofs.CellLaws.{by-each-class, classOfCell, cell-is-read}
 use Rattle.fields.specs.Field.{wantedAfter, cellsTaken, stopFrom}
 use Rattle.fields.proofs.TakenLaws.{given-at-least-one, given-at-most-two, read-one-more, read-none}
-use Rattle.fields.proofs.TakenLaws.{taken-one-more, stop-one-more, taken-none}
+use Rattle.fields.proofs.TakenLaws.{taken-one-more, stop-one-more, taken-none, stop-none}
 
 -- ---- as many bits as are wanted, or one more
 
@@ -90,3 +90,35 @@ fewer-give-less (c ∷ cs) (suc want) b =
     (fewer-of-one-more b x want _ (fewer-give-less cs (wantedAfter (suc want) b x) (lastAfter b x))))
     (λ j h. absurd (omega arith))
     c
+
+-- ---- cells that give as many bits as are wanted: those that are used, and the rest
+
+pub record Taken (xs : List Cell) (k want : ℕ) (b : Bit) : Type 0 where
+  pub stop : stopFrom (map classOfCell xs) k want b ≡ accepted 0
+  pub rest : List Cell
+  pub split : cellsTaken (map classOfCell xs) want b ++ rest ≡ xs
+
+none-wanted : (xs : List Cell) (k : ℕ) (b : Bit) → Taken xs k 0 b
+none-wanted xs k b =
+    record {
+      stop = stop-none (map classOfCell xs) k b;
+      rest = xs;
+      split = ap (λ (ys : List Cell). ys ++ xs) (taken-none (map classOfCell xs) b);
+    }
+
+pub enough-are-taken : (xs : List Cell) (k want : ℕ) (b : Bit) → want ≤ length (readFrom b xs) → Taken xs k want b
+enough-are-taken [] k zero b h = none-wanted [] k b
+enough-are-taken (x ∷ xs) k zero b h = none-wanted (x ∷ xs) k b
+enough-are-taken [] k (suc want) b h = absurd (let none = ap length (read-none b) in omega arith)
+enough-are-taken (x ∷ xs) k (suc want) b h =
+    let cs = map classOfCell xs in
+    let all : length (readFrom b (x ∷ xs)) ≡ length (given b x) + length (readFrom (lastAfter b x) xs) =
+    ap length (read-one-more b x xs) ∙ length-append (given b x) (readFrom (lastAfter b x) xs) in
+    let more = enough-are-taken xs (suc k) (wantedAfter (suc want) b x) (lastAfter b x) (omega arith) in
+    record {
+      stop = stop-one-more (cell-is-read x) cs want b k ∙ more .stop;
+      rest = more .rest;
+      split =
+          ap (λ (ys : List Cell). ys ++ more .rest) (taken-one-more (cell-is-read x) cs want b)
+          ∙ ap (λ (ys : List Cell). x ∷ ys) (more .split);
+    }

@@ -20,6 +20,17 @@ pub data ReadAs : Class → Cell → Type 0 where
   as-medium : ReadAs Three Medium
   as-long : ReadAs Four Long
 
+-- and which it is
+abbrev pub classOfCell : Cell → Class
+classOfCell Short = Two
+classOfCell Medium = Three
+classOfCell Long = Four
+
+pub cell-is-read : (x : Cell) → ReadAs (classOfCell x) x
+cell-is-read Short = as-short
+cell-is-read Medium = as-medium
+cell-is-read Long = as-long
+
 pub by-each-class
     : (P : Class → Type 0) → P Narrow → ((c : Class) (x : Cell) → ReadAs c x → P c) → P Wide → (c : Class) → P c
 by-each-class P narrow read wide Narrow = narrow

@@ -30,10 +30,15 @@ check-order-alone-writes-FF-FF = refl
 -- ---- every list
 
 -- a list that ends in a check order
+pub written-from-of-check-at-end : (c : Check) (ns : List ℕ)
+    → writtenFrom c (ns ++ (512 ∷ [])) ≡ writtenFrom c ns ++ checkBytes (afterBytes c (writtenFrom c ns))
+unfolding writtenFrom itemBytes isCheck
+written-from-of-check-at-end c ns = written-from-of-append c ns (512 ∷ [])
+
 written-of-check-at-end : (ns : List ℕ)
     → written (ns ++ (512 ∷ [])) ≡ written ns ++ checkBytes (afterBytes fresh (written ns))
-unfolding written writtenFrom itemBytes isCheck
-written-of-check-at-end ns = written-from-of-append fresh ns (512 ∷ [])
+unfolding written
+written-of-check-at-end ns = written-from-of-check-at-end fresh ns
 
 pub register-after-check-order-is-zero : (ns : List ℕ) → afterBytes fresh (written (ns ++ (512 ∷ []))) ≡ unmarked 0
 register-after-check-order-is-zero ns =

@@ -67,6 +67,20 @@ pub after-data : (c : Check) (w : ℕ) → w < 256 → afterByte c w ≡ unmarke
 unfolding afterByte afterData
 after-data c w h = rw (data-is-no-mark w h, mod-eq-of-lt h)
 
+-- ---- marks
+
+-- no mark is running after a data byte
+pub unmarked-after-data : (c : Check) (ws : List ℕ) (w : ℕ) → w < 256 → afterBytes c (ws ++ (w ∷ [])) .marked ≡ false
+unfolding afterBytes
+unmarked-after-data c ws w h =
+    ap (λ (s : Check). s .marked) (after-bytes-of-append c ws (w ∷ []) ∙ after-data (afterBytes c ws) w h)
+
+-- so the register of the mark bytes that follow is that of a list of their own
+pub mark-starts-again : (c : Check) (w : ℕ) (ws : List ℕ) → isMark w ≡ true → c .marked ≡ false
+    → afterBytes c (w ∷ ws) ≡ afterBytes fresh (w ∷ ws)
+unfolding afterBytes afterByte afterMark beforeMark
+mark-starts-again c w ws mark unmarked = rw (mark, unmarked)
+
 -- ---- check bytes
 
 pub after-check-is-zero : (c : Check) → c .register < 0x10000 → afterCheck c ≡ unmarked 0

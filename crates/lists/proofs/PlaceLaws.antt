@@ -6,7 +6,7 @@ use mathlib.Core.List.{List, [], _∷_, _++_}
 use native.Mathlib.Nat.{add-zero, not-suc-le-zero, le-of-suc-le-suc}
 use native.Mathlib.Numerals.{add-one}
 use native.Mathlib.Omega.{arith}
-use lib.ListN.{length, getD, drop, drop-of-length-le}
+use lib.ListN.{length, getD, drop, replicate, drop-of-length-le}
 use lib.Seq.{drop-cons}
 use Rattle.lists.specs.Place.{anywhere, everywhere, lowest}
 
@@ -121,6 +121,10 @@ module _ {A : Type 0} (f : A → Bool) where
   everywhere-of-append (x ∷ xs) ys =
       elim (f x) as (λ t. (t && everywhere f (xs ++ ys)) ≡ (t && everywhere f xs && everywhere f ys))
       [ true ↦ everywhere-of-append xs ys | false ↦ refl ]
+
+  pub everywhere-of-replicate : (n : ℕ) (x : A) → f x ≡ true → everywhere f (replicate n x) ≡ true
+  everywhere-of-replicate zero x e = everywhere-of-none
+  everywhere-of-replicate (suc n) x e = everywhere-of-passing x (replicate n x) e ∙ everywhere-of-replicate n x e
 
   pub everywhere-passes-at-each-place : (xs : List A) (d : A) (k : ℕ) → everywhere f xs ≡ true → k < length xs
       → f (getD xs k d) ≡ true

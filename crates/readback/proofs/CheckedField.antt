@@ -22,10 +22,13 @@ use Rattle.items.proofs.CheckLaws.{crc-of-check-bytes-is-zero}
 use Rattle.symbols.specs.Bits.{O, allBits, areBytes}
 use Rattle.symbols.specs.Reading.{readBits}
 use Rattle.symbols.specs.declared.Cell.{Cell}
+use Rattle.intervals.proofs.CellLaws.{classOfCell}
+use Rattle.fields.specs.Field.{holdsAfter}
+use Rattle.fields.specs.FieldRule.{FieldAnswer}
+use Rattle.fields.proofs.WrittenFieldLaws.{written-field-is-read, written-field-is-stored}
 use Rattle.unique.specs.Streams.{AcceptedProfile}
 use Rattle.unique.proofs.ListLaws.{bytes-everywhere}
 use Rattle.readback.specs.SectorReads.{withCheck, ReadsField}
-use Rattle.readback.proofs.FrontField.{classOfCell, field-is-read}
 
 module _ (ws : List ℕ) where
   checked-length : length (withCheck ws) ≡ length ws + 2
@@ -44,23 +47,26 @@ module _ (ws : List ℕ) where
       ∙ rw (e, data-is-byte (highByte r) (high-byte-bound r bound), data-is-byte (lowByte r) (low-byte-bound r)) in
       subst T (sym all ∙ bytes-everywhere (withCheck ws)) tt
 
-  module _
-      (vs : List ℕ)
-      (xs : List Cell)
-      (n : ℕ)
-      (p : Profile)
-      (ds : List ℕ)
-    where
-      pub checked-field-is-read
-          : everywhere isByte ws ≡ true
-          → length ws + 2 ≡ n
-          → n ≤ 1030
-          → readBits xs ≡ O ∷ allBits (withCheck ws ++ vs) ++ (O ∷ [])
-          → AcceptedProfile p
-          → classesOf p ds ≡ map classOfCell xs
-          → ReadsField p ds n (withCheck ws)
-      checked-field-is-read bytes count few reads accepts same =
-          let long = checked-length in
-          subst (λ (k : ℕ). ReadsField p ds k (withCheck ws)) (long ∙ count)
-          (field-is-read (withCheck ws) vs xs reads (checked-bytes bytes) p ds accepts same
-          (rw (le-ltb (length (withCheck ws)) 1 (omega arith), le-ltb 1030 (length (withCheck ws)) (omega arith))) zero-after)
+  pub checked-field-is-read
+      : (vs : List ℕ) (xs : List Cell) (n : ℕ) (p : Profile) (ds : List ℕ)
+      → everywhere isByte ws ≡ true
+      → length ws + 2 ≡ n
+      → n ≤ 1030
+      → readBits xs ≡ O ∷ allBits (withCheck ws ++ vs) ++ (O ∷ [])
+      → AcceptedProfile p
+      → classesOf p ds ≡ map classOfCell xs
+      → ReadsField p ds n (withCheck ws)
+  unfolding holdsAfter
+  checked-field-is-read vs xs n p ds bytes count few reads accepts same =
+      let us : List ℕ = withCheck ws in
+      let all : T (areBytes us) = checked-bytes bytes in
+      let long = checked-length in
+      let in-range : outside 1 1030 (length us) ≡ false =
+      rw (le-ltb (length us) 1 (omega arith), le-ltb 1030 (length us) (omega arith)) in
+      subst (λ (k : ℕ). ReadsField p ds k us) (long ∙ count)
+      (record {
+        count = refl;
+        answer =
+            λ room h. written-field-is-read us vs xs reads all p ds accepts same in-range room h ∙ rw zero-after;
+        output = written-field-is-stored us vs xs reads all p ds accepts same in-range;
+      })

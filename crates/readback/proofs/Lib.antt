@@ -1,11 +1,7 @@
--- The sector's written bytes
+-- The sector's written bytes, and the classes of their cells
 pub mod WrittenSector
--- A field at the front of some cells, and what follows it
-pub mod FrontField
+pub mod CellClasses
+-- A field with its check bytes
 pub mod CheckedField
-pub mod RestOfField
--- Runs, gaps and the first lock
-pub mod LockLaws
--- The cells of sync and gap
-pub mod GapCells
+-- The law
 pub mod SectorReads

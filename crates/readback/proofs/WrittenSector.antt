@@ -1,68 +1,90 @@
 -- The written bytes of a sector are its gaps as they stand and its two fields with their check bytes: a mark after a
--- data byte starts the register again, so a field is written as if it stood alone.
-use Prim.Native.Nat.{ℕ, _+_, _<_}
-use mathlib.Core.Path.{_≡_, refl, sym, ap, ap₂, _∙_}
-use mathlib.Core.Bool.{Bool, true, false}
-use mathlib.Core.List.{List, [], _∷_, _++_, append-assoc}
-use lib.ListN.{length, replicate}
+-- data byte starts the register again, so a field is written as if it stood alone. Rests on no axiom.
+use Prim.Native.Nat.{ℕ, _+_}
+use mathlib.Core.Path.{_≡_, refl, ap, _∙_}
+use mathlib.Core.Bool.{true, false, _&&_}
+use mathlib.Core.List.{List, [], _∷_, _++_}
+use native.Mathlib.Omega.{arith}
+use lib.ListN.{replicate}
 use Rattle.lists.specs.Place.{anywhere, everywhere}
-use Rattle.lists.proofs.PlaceLaws.{everywhere-of-passing}
+use Rattle.lists.proofs.PlaceLaws.{everywhere-of-passing, everywhere-of-append, everywhere-of-replicate}
 use Rattle.items.specs.Item.{isByte, isMark, isCheck}
-use Rattle.items.specs.Written.{fresh, beforeMark, afterMark, afterData, afterByte, afterBytes, checkBytes}
-use Rattle.items.specs.Written.{itemBytes, writtenFrom, written}
+use Rattle.items.specs.Written.{fresh, afterBytes, checkBytes, writtenFrom, written}
 use Rattle.items.specs.declared.Check.{Check}
-use Rattle.items.proofs.ItemLaws.{bytes-have-no-check}
-use Rattle.items.proofs.WrittenLaws.{written-from-of-append, written-from-of-no-check, written-from-item}
+use Rattle.items.proofs.ItemLaws.{data-is-byte, bytes-have-no-check}
+use Rattle.items.proofs.CheckLaws.{unmarked-after-data, mark-starts-again}
+use Rattle.items.proofs.CheckFacts.{written-from-of-check-at-end}
+use Rattle.items.proofs.WrittenLaws.{written-from-of-append, written-from-of-no-check}
 use Rattle.sectors.specs.Sector.{opening, identity, sectorItems}
 use Rattle.readback.specs.SectorReads.{withCheck, Made, idField, dataField}
 
 abbrev pub A1 : ℕ
 A1 = 256 + 0xa1
 
--- a check order after bytes
-check-written
-    : (c : Check) (ws : List ℕ) → anywhere isCheck ws ≡ false → writtenFrom c (ws ++ (512 ∷ [])) ≡ ws ++ checkBytes (afterBytes c ws)
-unfolding writtenFrom itemBytes isCheck
-check-written c ws e =
-    written-from-of-append c ws (512 ∷ [])
-    ∙ ap₂ (λ (us : List ℕ) (vs : List ℕ). us ++ checkBytes (afterBytes c vs)) (written-from-of-no-check c ws e) (written-from-of-no-check c ws e)
+A1-is-mark : isMark A1 ≡ true
+unfolding isMark
+A1-is-mark = refl
 
--- a mark after a data byte starts the register again
-mark-starts-again : (c : Check) (ws : List ℕ) → c .marked ≡ false → afterBytes c (A1 ∷ ws) ≡ afterBytes fresh (A1 ∷ ws)
-unfolding afterBytes afterByte afterMark beforeMark isMark
-mark-starts-again c ws e = rw e
+A1-is-byte : isByte A1 ≡ true
+unfolding isByte isMark
+A1-is-byte = refl
+
+-- ---- a gap and the field after it
 
 field-written
     : (c : Check) (ws : List ℕ)
     → c .marked ≡ false
-    → anywhere isCheck (A1 ∷ ws) ≡ false
+    → everywhere isByte (A1 ∷ ws) ≡ true
     → writtenFrom c ((A1 ∷ ws) ++ (512 ∷ [])) ≡ withCheck (A1 ∷ ws)
-field-written c ws e none =
-    check-written c (A1 ∷ ws) none
-    ∙ ap (λ (s : Check). (A1 ∷ ws) ++ checkBytes s) (mark-starts-again c ws e)
+field-written c ws unmarked bytes =
+    written-from-of-check-at-end c (A1 ∷ ws)
+    ∙ ap (λ (us : List ℕ). us ++ checkBytes (afterBytes c us))
+    (written-from-of-no-check c (A1 ∷ ws) (bytes-have-no-check (A1 ∷ ws) bytes))
+    ∙ ap (λ (s : Check). (A1 ∷ ws) ++ checkBytes s) (mark-starts-again c A1 ws A1-is-mark unmarked)
 
--- a gap and the field after it
+-- a gap that ends in a byte 00
 gap-and-field
     : (c : Check) (gap ws rest : List ℕ)
-    → anywhere isCheck gap ≡ false
-    → afterBytes c gap .marked ≡ false
-    → anywhere isCheck (A1 ∷ ws) ≡ false
-    → writtenFrom c (gap ++ (((A1 ∷ ws) ++ (512 ∷ [])) ++ rest))
-    ≡ gap ++ (withCheck (A1 ∷ ws) ++ writtenFrom (afterBytes (afterBytes c gap) (withCheck (A1 ∷ ws))) rest)
-gap-and-field c gap ws rest no-check unmarked none =
-    let start = afterBytes c gap in
-    let field = (A1 ∷ ws) ++ (512 ∷ []) in
-    let alone = field-written start ws unmarked none in
-    written-from-of-append c gap (field ++ rest)
-    ∙ ap (λ (us : List ℕ). us ++ writtenFrom (afterBytes c us) (field ++ rest)) (written-from-of-no-check c gap no-check)
-    ∙ ap (λ (us : List ℕ). gap ++ us) (written-from-of-append start field rest)
-    ∙ ap (λ (us : List ℕ). gap ++ (us ++ writtenFrom (afterBytes start us) rest)) alone
+    → everywhere isByte (gap ++ (0x00 ∷ [])) ≡ true
+    → everywhere isByte (A1 ∷ ws) ≡ true
+    → (after : Check)
+    × (writtenFrom c ((gap ++ (0x00 ∷ [])) ++ (((A1 ∷ ws) ++ (512 ∷ [])) ++ rest))
+    ≡ (gap ++ (0x00 ∷ [])) ++ (withCheck (A1 ∷ ws) ++ writtenFrom after rest))
+gap-and-field c gap ws rest gap-bytes bytes =
+    let whole : List ℕ = gap ++ (0x00 ∷ []) in
+    let start : Check = afterBytes c whole in
+    let field : List ℕ = (A1 ∷ ws) ++ (512 ∷ []) in (
+      afterBytes start (withCheck (A1 ∷ ws)),
+      written-from-of-append c whole (field ++ rest)
+          ∙ ap (λ (us : List ℕ). us ++ writtenFrom (afterBytes c us) (field ++ rest))
+          (written-from-of-no-check c whole (bytes-have-no-check whole gap-bytes))
+          ∙ ap (λ (us : List ℕ). whole ++ us) (written-from-of-append start field rest)
+          ∙ ap (λ (us : List ℕ). whole ++ (us ++ writtenFrom (afterBytes start us) rest))
+          (field-written start ws (unmarked-after-data c gap 0x00 (omega arith)) bytes),
+    )
+
+-- ---- the sector
 
 -- the gap between the fields: 22 of 4E, 12 of 00
 abbrev pub middleGap : List ℕ
 middleGap = replicate 22 0x4e ++ replicate 12 0x00
 
+data-repeated : (n w : ℕ) → isByte w ≡ true → everywhere isByte (replicate n w) ≡ true
+data-repeated = everywhere-of-replicate isByte
+
+00-is-byte : isByte 0x00 ≡ true
+00-is-byte = data-is-byte 0x00 (omega arith)
+
+4E-is-byte : isByte 0x4e ≡ true
+4E-is-byte = data-is-byte 0x4e (omega arith)
+
+middle-gap-bytes : everywhere isByte middleGap ≡ true
+middle-gap-bytes =
+    everywhere-of-append isByte (replicate 22 0x4e) (replicate 12 0x00)
+    ∙ rw (data-repeated 22 0x4e 4E-is-byte, data-repeated 12 0x00 00-is-byte)
+
 module _ (track side sector code : ℕ) (bytes : List ℕ) where
+  -- the fields after their first mark
   abbrev pub idBytes : List ℕ
   idBytes = A1 ∷ A1 ∷ 0xfe ∷ track ∷ side ∷ sector ∷ code ∷ []
 
@@ -78,26 +100,37 @@ module _ (track side sector code : ℕ) (bytes : List ℕ) where
   sector-grouped = refl
 
   module _ (made : Made track side sector code bytes) where
+    after-marks : (kind : ℕ) (ws : List ℕ) → isByte kind ≡ true → everywhere isByte ws ≡ true
+        → everywhere isByte (A1 ∷ A1 ∷ A1 ∷ kind ∷ ws) ≡ true
+    after-marks kind ws byte rest =
+        everywhere-of-passing isByte A1 (A1 ∷ A1 ∷ kind ∷ ws) A1-is-byte
+        ∙ everywhere-of-passing isByte A1 (A1 ∷ kind ∷ ws) A1-is-byte
+        ∙ everywhere-of-passing isByte A1 (kind ∷ ws) A1-is-byte
+        ∙ everywhere-of-passing isByte kind ws byte
+        ∙ rest
+
     pub id-bytes : everywhere isByte (A1 ∷ idBytes) ≡ true
-    unfolding everywhere isByte isMark
-    id-bytes = made .id-bytes
+    id-bytes = after-marks 0xfe _ (data-is-byte 0xfe (omega arith)) (made .id-bytes)
 
     pub data-bytes : everywhere isByte (A1 ∷ dataBytes) ≡ true
-    unfolding everywhere isByte isMark
-    data-bytes = made .data-bytes
+    data-bytes = after-marks 0xfb bytes (data-is-byte 0xfb (omega arith)) (made .data-bytes)
 
     pub sector-written
         : written (sectorItems track side sector code bytes)
         ≡ replicate 12 0x00
         ++ (idField track side sector code bytes
         ++ (middleGap ++ (dataField track side sector code bytes ++ replicate 54 0x4e)))
-    unfolding written idField dataField anywhere isCheck afterBytes afterByte afterData isMark
+    unfolding written idField dataField
     sector-written =
-        let after-id = afterBytes (afterBytes fresh (replicate 12 0x00)) (withCheck (A1 ∷ idBytes)) in
-        let after-data = afterBytes (afterBytes after-id middleGap) (withCheck (A1 ∷ dataBytes)) in
+        let last : List ℕ = replicate 54 0x4e in
+        let (after-id, first) =
+        gap-and-field fresh (replicate 11 0x00) idBytes (middleGap ++ (((A1 ∷ dataBytes) ++ (512 ∷ [])) ++ last))
+        (data-repeated 12 0x00 00-is-byte) id-bytes in
+        let (after-data, second) =
+        gap-and-field after-id (replicate 22 0x4e ++ replicate 11 0x00) dataBytes last middle-gap-bytes data-bytes in
         ap written sector-grouped
-        ∙ gap-and-field fresh (replicate 12 0x00) idBytes _ refl refl (bytes-have-no-check _ id-bytes)
+        ∙ first
         ∙ ap (λ (us : List ℕ). replicate 12 0x00 ++ (withCheck (A1 ∷ idBytes) ++ us))
-        (gap-and-field after-id middleGap dataBytes (replicate 54 0x4e) refl refl (bytes-have-no-check _ data-bytes)
+        (second
         ∙ ap (λ (us : List ℕ). middleGap ++ (withCheck (A1 ∷ dataBytes) ++ us))
-        (written-from-of-no-check after-data (replicate 54 0x4e) refl))
+        (written-from-of-no-check after-data last (bytes-have-no-check last (data-repeated 54 0x4e 4E-is-byte))))

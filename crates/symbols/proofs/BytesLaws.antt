@@ -10,7 +10,7 @@ use lib.ListN.{length, length-append}
 use Rattle.lists.specs.Place.{anywhere, passed}
 use Rattle.items.specs.Item.{isMark, isByte}
 use Rattle.symbols.specs.Bits.{Bit, O, byteBits, markBits, withGaps, writtenBits, allBits, areBytes}
-use Rattle.symbols.specs.Bytes.{itemOf, rowStrays, rowsOf, straysOf}
+use Rattle.symbols.specs.Bytes.{itemOf, rowStrays, rowsOf, straysOf, itemsRead, straysRead}
 use Rattle.symbols.proofs.TestLaws.{both, left-of, neither, right-of}
 use Rattle.symbols.proofs.PlaceLaws.{anywhere-append}
 use Rattle.symbols.proofs.RowLaws.{item-of-written-byte, written-byte-has-no-stray}
@@ -49,6 +49,12 @@ unfolding allBits rowsOf
 rows-of-bytes [] = refl
 rows-of-bytes (w ∷ ws) = rw (append-assoc (writtenBits w), written-row w, rows-of-bytes ws)
 
+-- the rows of bytes alone
+pub rows-of-whole-bytes : (ws : List ℕ) → rowsOf (allBits ws) ≡ map writtenBits ws
+unfolding allBits rowsOf
+rows-of-whole-bytes [] = refl
+rows-of-whole-bytes (w ∷ ws) = rw (written-row w, rows-of-whole-bytes ws)
+
 pub items-of-rows : (ws : List ℕ) → T (areBytes ws) → map itemOf (map writtenBits ws) ≡ ws
 unfolding areBytes
 items-of-rows [] t = refl
@@ -67,6 +73,15 @@ rows-have-no-stray (w ∷ ws) t =
       written-byte-has-no-stray w (left-of (isByte w) (areBytes ws) t),
       rows-have-no-stray ws (right-of (isByte w) (areBytes ws) t),
     )
+
+-- the bits of bytes, after the lead, read as those bytes
+pub items-of-whole-bytes : (ws : List ℕ) → T (areBytes ws) → itemsRead (O ∷ allBits ws) ≡ ws
+unfolding itemsRead
+items-of-whole-bytes ws t = rw (rows-of-whole-bytes ws) (items-of-rows ws t)
+
+pub whole-bytes-have-no-stray : (ws : List ℕ) → T (areBytes ws) → anywhere passed (straysRead (O ∷ allBits ws)) ≡ false
+unfolding straysRead anywhere
+whole-bytes-have-no-stray ws t = rw (rows-of-whole-bytes ws) (rows-have-no-stray ws t)
 
 -- From rows to bytes
 

@@ -15,6 +15,8 @@ pub mod Cases
 pub mod UnitLaws
 -- Reading from the middle, and reading a front
 pub mod MiddleLaws
+-- The cells of the bytes that a track is laid out with
+pub mod FormatLaws
 -- The reading machine, bottom to top: the register, places, the open row, closing it, the invariant, pushing letters,
 -- a cell's letters, one cell more, and what a caller learns
 pub mod RegisterLaws

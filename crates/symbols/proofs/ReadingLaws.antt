@@ -2,11 +2,11 @@
 -- or after a 1 (state I). So the pairs of the letters read, with one closing 0 more, have just the cells that were
 -- read, for every list of cells.
 use mathlib.Core.Path.{_≡_, refl}
-use mathlib.Core.Bool.{true, false}
+use mathlib.Core.Bool.{Bool, true, false}
 use mathlib.Core.List.{List, [], _∷_, _++_, map, append-assoc}
 use Prim.Native.Nat.{ℕ}
 use native.Mathlib.Omega.{arith}
-use Rattle.symbols.specs.Bits.{Bit, O, I, G, lastOf}
+use Rattle.symbols.specs.Bits.{Bit, O, I, G, isOne, lastOf}
 use Rattle.symbols.specs.Cells.{pairSymbols, symbolsFrom, symbolsOf, cellsFrom, cellsOf}
 use Rattle.symbols.specs.Bytes.{isGap}
 use Rattle.symbols.specs.Reading.{units, given, lastAfter, readFrom, readBits}
@@ -68,6 +68,20 @@ mutual
 pub cells-of-read : (cs : List Cell) → cellsOf (symbolsOf (readBits cs ++ (O ∷ []))) ≡ map units cs
 unfolding readBits cellsOf
 cells-of-read cs = cells-read-after-zero cs
+
+-- The first letter that is read
+
+abbrev pub beginsWithOne : List Bit → Bool
+beginsWithOne [] = false
+beginsWithOne (b ∷ bs) = isOne b
+
+-- no cell gives a 1 right after a 0 that is known
+pub no-one-after-zero : (cs : List Cell) → beginsWithOne (readFrom O cs) ≡ false
+unfolding readFrom given
+no-one-after-zero [] = refl
+no-one-after-zero (Short ∷ cs) = refl
+no-one-after-zero (Medium ∷ cs) = refl
+no-one-after-zero (Long ∷ cs) = refl
 
 -- The last letter that was read
 

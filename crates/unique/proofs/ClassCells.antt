@@ -11,40 +11,36 @@ use Rattle.timing.specs.declared.Class.the-variants.{Narrow, Two, Three, Four, 
 use Rattle.symbols.specs.Reading.{units}
 use Rattle.symbols.specs.declared.Cell.{Cell}
 use Rattle.symbols.specs.declared.Cell.the-variants.{Short, Medium, Long}
+use Rattle.intervals.proofs.CellLaws.{ReadAs, as-short, as-medium, as-long, classOfCell}
 use Rattle.lengths.specs.Near.{classOfUnits}
 use Rattle.codec.specs.Reader.{cellsOfClasses}
 
-data Agree : Class → Cell → Type 0 where
-  short : Agree Two Short
-  medium : Agree Three Medium
-  long : Agree Four Long
-
-agree : (c : Class) (x : Cell) → classNumber c ≡ units x → Agree c x
-agree Narrow Short h = absurd (omega arith)
-agree Narrow Medium h = absurd (omega arith)
-agree Narrow Long h = absurd (omega arith)
-agree Two Short h = short
-agree Two Medium h = absurd (omega arith)
-agree Two Long h = absurd (omega arith)
-agree Three Short h = absurd (omega arith)
-agree Three Medium h = medium
-agree Three Long h = absurd (omega arith)
-agree Four Short h = absurd (omega arith)
-agree Four Medium h = absurd (omega arith)
-agree Four Long h = long
-agree Wide Short h = absurd (omega arith)
-agree Wide Medium h = absurd (omega arith)
-agree Wide Long h = absurd (omega arith)
+read-as : (c : Class) (x : Cell) → classNumber c ≡ units x → ReadAs c x
+read-as Narrow Short h = absurd (omega arith)
+read-as Narrow Medium h = absurd (omega arith)
+read-as Narrow Long h = absurd (omega arith)
+read-as Two Short h = as-short
+read-as Two Medium h = absurd (omega arith)
+read-as Two Long h = absurd (omega arith)
+read-as Three Short h = absurd (omega arith)
+read-as Three Medium h = as-medium
+read-as Three Long h = absurd (omega arith)
+read-as Four Short h = absurd (omega arith)
+read-as Four Medium h = absurd (omega arith)
+read-as Four Long h = as-long
+read-as Wide Short h = absurd (omega arith)
+read-as Wide Medium h = absurd (omega arith)
+read-as Wide Long h = absurd (omega arith)
 
 one-more
     : (k : ℕ) (cs : List Class) (xs : List Cell) {c : Class} {x : Cell}
-    → Agree c x
+    → ReadAs c x
     → (edgeRuleFrom (suc k) cs ≡ accepted 0) × (cellsOfClasses cs ≡ xs)
     → (edgeRuleFrom k (c ∷ cs) ≡ accepted 0) × (cellsOfClasses (c ∷ cs) ≡ x ∷ xs)
 unfolding edgeRuleFrom cellsOfClasses
-one-more k cs xs short h = (h .0, ap (λ (ys : List Cell). Short ∷ ys) (h .1))
-one-more k cs xs medium h = (h .0, ap (λ (ys : List Cell). Medium ∷ ys) (h .1))
-one-more k cs xs long h = (h .0, ap (λ (ys : List Cell). Long ∷ ys) (h .1))
+one-more k cs xs as-short h = (h .0, ap (λ (ys : List Cell). Short ∷ ys) (h .1))
+one-more k cs xs as-medium h = (h .0, ap (λ (ys : List Cell). Medium ∷ ys) (h .1))
+one-more k cs xs as-long h = (h .0, ap (λ (ys : List Cell). Long ∷ ys) (h .1))
 
 classes-are-cells-from
     : (k : ℕ) (cs : List Class) (xs : List Cell)
@@ -57,7 +53,7 @@ classes-are-cells-from k (c ∷ cs) [] h = absurd (let z : _≡_ {A = ℕ} 0 1 =
 classes-are-cells-from k (c ∷ cs) (x ∷ xs) h =
     let head : classNumber c ≡ units x = cc in
     let tail : map classNumber cs ≡ map units xs = cc in
-    one-more k cs xs (agree c x head) (classes-are-cells-from (suc k) cs xs tail)
+    one-more k cs xs (read-as c x head) (classes-are-cells-from (suc k) cs xs tail)
 
 -- classes whose numbers are the units of cells are those cells, and none is narrow or wide
 pub classes-are-cells
@@ -89,6 +85,14 @@ number-of-units [] = refl
 number-of-units (Short ∷ xs) = ap (λ (ns : List ℕ). 2 ∷ ns) (number-of-units xs)
 number-of-units (Medium ∷ xs) = ap (λ (ns : List ℕ). 3 ∷ ns) (number-of-units xs)
 number-of-units (Long ∷ xs) = ap (λ (ns : List ℕ). 4 ∷ ns) (number-of-units xs)
+
+-- and is the class that is read as the cell
+pub classes-of-cells : (xs : List Cell) → map classOfUnits (map units xs) ≡ map classOfCell xs
+unfolding classOfUnits
+classes-of-cells [] = refl
+classes-of-cells (Short ∷ xs) = ap (λ (cs : List Class). Two ∷ cs) (classes-of-cells xs)
+classes-of-cells (Medium ∷ xs) = ap (λ (cs : List Class). Three ∷ cs) (classes-of-cells xs)
+classes-of-cells (Long ∷ xs) = ap (λ (cs : List Class). Four ∷ cs) (classes-of-cells xs)
 
 -- and a class is known by its number
 class-of-number : (c : Class) → classOfUnits (classNumber c) ≡ c

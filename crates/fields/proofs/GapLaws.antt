@@ -1,4 +1,4 @@
--- The first lock: a gap without a run of 64 minimum intervals is passed over, and a run that is long enough, with a
+-- The first lock after a gap: a gap without a run of 64 minimum intervals is passed over, and a run that is long enough, with a
 -- mark A1 after it, has its first lock at the mark, since within the run no mark begins.
 use Prim.Native.Nat.{ℕ, zero, suc, _+_, _-_, _<_, _≤_}
 use mathlib.Core.Path.{_≡_, refl, sym, ap, ap₂, _∙_}

@@ -1,0 +1,112 @@
+-- The classes of cells: of a sync, of a mark A1, and of the gap between the fields, in which no run of 64 stands. They
+-- are the cells of those bytes, one class for each. Rests on no axiom.
+use Prim.Native.Nat.{ℕ, _+_}
+use mathlib.Core.Path.{_≡_, refl, sym, ap, _∙_}
+use mathlib.Core.Bool.{true, false}
+use mathlib.Core.List.{List, [], _∷_, _++_, map, map-append}
+use native.Mathlib.Omega.{arith}
+use lib.ListN.{length, drop, replicate, length-append, length-map}
+use lib.Seq.{drop-at}
+use Rattle.timing.specs.Class.{classNumber, classesOf}
+use Rattle.timing.specs.declared.Profile.{Profile}
+use Rattle.timing.specs.declared.Class.{Class}
+use Rattle.timing.specs.declared.Class.the-variants.{Two}
+use Rattle.timing.proofs.ClassLaws.{classes-of-drop}
+use Rattle.symbols.specs.Bits.{Bit, O, I, G, allBits}
+use Rattle.symbols.specs.Cells.{writtenCells}
+use Rattle.symbols.specs.Reading.{units, readFrom, readBits}
+use Rattle.symbols.specs.Bytes.{isGap}
+use Rattle.symbols.specs.declared.Cell.{Cell}
+use Rattle.symbols.proofs.RoundTripLaws.{cells-are-read, read-of-write}
+use Rattle.symbols.proofs.MiddleLaws.{cellsBefore, cells-after-byte}
+use Rattle.symbols.proofs.FormatLaws.{cells-of-zero-bytes, cells-of-mark-A1, gapCells, gapAfter, gap-is-read}
+use Rattle.intervals.proofs.CellLaws.{classOfCell}
+use Rattle.lengths.specs.Near.{classOfUnits}
+use Rattle.fields.proofs.GapLaws.{markA1, passes}
+use Rattle.unique.proofs.ClassCells.{classes-of-cells}
+use Rattle.readback.specs.SectorReads.{placeAfter}
+use Rattle.readback.proofs.WrittenSector.{A1, middleGap}
+
+-- ---- the cells of written bytes, as they are read
+
+pub cells : List ℕ → List Cell
+cells ws = cells-are-read ws .0
+
+cells-units : (ws : List ℕ) → map units (cells ws) ≡ writtenCells ws
+unfolding cells
+cells-units ws = cells-are-read ws .1
+
+pub cells-bits : (ws : List ℕ) → readBits (cells ws) ≡ O ∷ allBits ws ++ (O ∷ [])
+cells-bits ws = read-of-write ws (cells ws) (cells-units ws)
+
+-- and their classes
+abbrev pub classesFor : List ℕ → List Class
+classesFor ws = map classOfUnits (writtenCells ws)
+
+pub cells-classes : (ws : List ℕ) → classesFor ws ≡ map classOfCell (cells ws)
+cells-classes ws = ap (map classOfUnits) (sym (cells-units ws)) ∙ classes-of-cells (cells ws)
+
+-- ---- sync, mark and gap
+
+classes-after : (us ws : List ℕ) → map classOfUnits (us ++ writtenCells ws) ≡ map classOfUnits us ++ classesFor ws
+classes-after us ws = map-append classOfUnits us (writtenCells ws)
+
+pub sync-classes : (ws : List ℕ) → classesFor (replicate 12 0x00 ++ ws) ≡ replicate 96 Two ++ classesFor ws
+unfolding classOfUnits
+sync-classes ws = ap (map classOfUnits) (cells-of-zero-bytes 12 ws) ∙ classes-after (replicate 96 2) ws
+
+pub mark-classes : (ws : List ℕ) → (cs : List Class) × (classesFor (A1 ∷ ws) ≡ markA1 cs)
+unfolding classOfUnits
+mark-classes ws =
+    let (us, mark) = cells-of-mark-A1 ws in
+    (map classOfUnits us, ap (map classOfUnits) mark)
+
+-- the gap between the fields, up to the first minimum interval of the sync
+abbrev pub gapClasses : Bit → List Class
+gapClasses b = map classOfUnits (gapAfter b 21)
+
+pub no-run-in-gap : (b : Bit) → passes 0 (gapClasses b) ≡ true
+unfolding passes classOfUnits gapAfter gapCells
+no-run-in-gap O = refl
+no-run-in-gap I = refl
+no-run-in-gap G = refl
+
+pub gap-classes
+    : (b : Bit) (ws : List ℕ) (xs : List Cell)
+    → isGap b ≡ false
+    → readFrom b xs ≡ allBits (middleGap ++ ws) ++ (O ∷ [])
+    → map classOfCell xs ≡ gapClasses b ++ (replicate 95 Two ++ classesFor ws)
+unfolding classOfUnits
+gap-classes b ws xs no-gap h =
+    sym (classes-of-cells xs)
+    ∙ ap (map classOfUnits)
+    (gap-is-read b 21 (replicate 11 0x00 ++ ws) xs no-gap h
+    ∙ ap (λ (us : List ℕ). gapAfter b 21 ++ (replicate 7 2 ++ us)) (cells-of-zero-bytes 11 ws))
+    ∙ map-append classOfUnits (gapAfter b 21) (replicate 95 2 ++ writtenCells ws)
+    ∙ ap (λ (cs : List Class). gapClasses b ++ cs) (classes-after (replicate 95 2) ws)
+
+-- ---- places
+
+-- the classes from a place on
+pub classes-from
+    : (p : Profile) (ds : List ℕ) (before rest : List Class) (k : ℕ)
+    → classesOf p ds ≡ before ++ rest
+    → length before ≡ k
+    → classesOf p (drop k ds) ≡ rest
+classes-from p ds before rest k h long = classes-of-drop p k ds ∙ ap (drop k) h ∙ drop-at before rest k long
+
+-- the place after a byte 00, by the classes before what follows
+pub place-after-zero
+    : (us ws : List ℕ) (before : List Class)
+    → classesFor (us ++ (0x00 ∷ ws)) ≡ before ++ classesFor ws
+    → placeAfter (us ++ (0x00 ∷ [])) ≡ length before
+unfolding cellsBefore
+place-after-zero us ws before h =
+    let all : List ℕ = writtenCells (us ++ (0x00 ∷ ws)) in
+    let split : length all ≡ placeAfter (us ++ (0x00 ∷ [])) + length (writtenCells ws) =
+    ap length (cells-after-byte us ws 0x00 (omega arith) refl)
+    ∙ length-append (cellsBefore (us ++ (0x00 ∷ []))) (writtenCells ws) in
+    let same : length all ≡ length before + length (classesFor ws) =
+    sym (length-map all classOfUnits) ∙ ap length h ∙ length-append before (classesFor ws) in
+    let follow : length (classesFor ws) ≡ length (writtenCells ws) = length-map (writtenCells ws) classOfUnits in
+    omega arith

@@ -1,0 +1,94 @@
+-- The cells of the bytes that a track is laid out with, 00, 4E and the mark A1, whatever bytes come before and after:
+-- by computing one byte, and by induction on how many there are.
+use Prim.Native.Nat.{ℕ, zero, suc, _*_}
+use mathlib.Core.Path.{_≡_, refl, sym, ap, _∙_}
+use mathlib.Core.Bool.{false, true≢false}
+use mathlib.Core.List.{List, [], _∷_, _++_, map, append-assoc}
+use native.Mathlib.Omega.{arith}
+use lib.ListN.{replicate}
+use Rattle.items.specs.Item.{isMark}
+use Rattle.symbols.specs.Bits.{Bit, O, I, G, byteBits, markBits, withGaps, writtenBits, allBits, bitsOf}
+use Rattle.symbols.specs.Cells.{pairSymbols, symbolsFrom, symbolsOf, cellsFrom, cellsOf, writtenSymbols, writtenCells}
+use Rattle.symbols.specs.Reading.{units, readFrom}
+use Rattle.symbols.specs.Bytes.{isGap}
+use Rattle.symbols.specs.declared.Cell.{Cell}
+use Rattle.symbols.proofs.ReadingLaws.{cells-read-after-one, cells-read-after-zero}
+use Rattle.symbols.proofs.MiddleLaws.{cells-of-zero-byte}
+
+-- a sync of bytes 00
+pub cells-of-zero-bytes : (n : ℕ) (ws : List ℕ)
+    → writtenCells (replicate n 0x00 ++ ws) ≡ replicate (8 * n) 2 ++ writtenCells ws
+cells-of-zero-bytes zero ws = refl
+cells-of-zero-bytes (suc n) ws =
+    let eight : 8 * suc n ≡ suc (suc (suc (suc (suc (suc (suc (suc (8 * n)))))))) = omega arith in
+    rw eight
+    (cells-of-zero-byte (replicate n 0x00 ++ ws)
+    ∙ ap (λ (us : List ℕ). 2 ∷ 2 ∷ 2 ∷ 2 ∷ 2 ∷ 2 ∷ 2 ∷ 2 ∷ us) (cells-of-zero-bytes n ws))
+
+-- a mark A1
+pub cells-of-mark-A1 : (ws : List ℕ)
+    → (us : List ℕ) × (writtenCells (0x1a1 ∷ ws) ≡ 3 ∷ 4 ∷ 3 ∷ 4 ∷ 3 ∷ us)
+unfolding writtenCells writtenSymbols cellsOf cellsFrom symbolsOf symbolsFrom pairSymbols bitsOf allBits writtenBits
+    markBits withGaps byteBits isMark
+cells-of-mark-A1 ws = (cellsFrom 2 (symbolsFrom I (allBits ws ++ (O ∷ O ∷ []))), refl)
+
+-- ---- a gap of bytes 4E
+
+abbrev closed : List ℕ → List Bit
+closed ws = allBits ws ++ (O ∷ O ∷ [])
+
+-- the cells of bytes that follow a 4E: one symbol 0 stands before them
+afterGap : List ℕ → List ℕ
+afterGap ws = cellsFrom 3 (symbolsFrom O (closed ws))
+
+-- the cells of so many bytes 4E that follow a 4E, up to the one that ends in a byte 00 after them
+unfoldable pub gapCells : ℕ → List ℕ
+gapCells zero = 3 ∷ []
+gapCells (suc n) = 3 ∷ 3 ∷ 3 ∷ 3 ∷ 2 ∷ 2 ∷ gapCells n
+
+cells-of-gap : (n : ℕ) (ws : List ℕ)
+    → afterGap (replicate n 0x4e ++ (0x00 ∷ ws)) ≡ gapCells n ++ (replicate 7 2 ++ writtenCells ws)
+unfolding afterGap gapCells allBits writtenBits byteBits isMark symbolsFrom pairSymbols cellsFrom writtenCells
+    writtenSymbols cellsOf symbolsOf bitsOf
+cells-of-gap zero ws = refl
+cells-of-gap (suc n) ws = ap (λ (us : List ℕ). 3 ∷ 3 ∷ 3 ∷ 3 ∷ 2 ∷ 2 ∷ us) (cells-of-gap n ws)
+
+-- the first 4E after a bit that is 0 or 1
+gap-after-zero : (ws : List ℕ) → cellsFrom 2 (symbolsOf (closed (0x4e ∷ ws))) ≡ 3 ∷ 3 ∷ 3 ∷ 2 ∷ 2 ∷ afterGap ws
+unfolding afterGap allBits writtenBits byteBits isMark symbolsOf symbolsFrom pairSymbols cellsFrom
+gap-after-zero ws = refl
+
+gap-after-one : (ws : List ℕ) → cellsFrom 2 (symbolsFrom I (closed (0x4e ∷ ws))) ≡ 4 ∷ 3 ∷ 3 ∷ 2 ∷ 2 ∷ afterGap ws
+unfolding afterGap allBits writtenBits byteBits isMark symbolsFrom pairSymbols cellsFrom
+gap-after-one ws = refl
+
+-- the first cell of a gap, by the bit before it
+abbrev pub firstOfGap : Bit → ℕ
+firstOfGap O = 3
+firstOfGap I = 4
+firstOfGap G = 3
+
+-- the cells of a 4E and so many more after a bit, up to the one that ends in a byte 00 after them
+unfoldable pub gapAfter : Bit → ℕ → List ℕ
+gapAfter b n = firstOfGap b ∷ 3 ∷ 3 ∷ 2 ∷ 2 ∷ gapCells n
+
+-- they are what is read, with the last bit before the gap known
+pub gap-is-read : (b : Bit) (n : ℕ) (ws : List ℕ) (cs : List Cell) → isGap b ≡ false
+    → readFrom b cs ≡ allBits (replicate (suc n) 0x4e ++ (0x00 ∷ ws)) ++ (O ∷ [])
+    → map units cs ≡ gapAfter b n ++ (replicate 7 2 ++ writtenCells ws)
+unfolding gapAfter
+gap-is-read O n ws cs e read =
+    let us : List ℕ = replicate (suc n) 0x4e ++ (0x00 ∷ ws) in
+    sym (cells-read-after-zero cs)
+    ∙ ap (λ (bs : List Bit). cellsFrom 2 (symbolsOf (bs ++ (O ∷ [])))) read
+    ∙ ap (λ (bs : List Bit). cellsFrom 2 (symbolsOf bs)) (append-assoc (allBits us) (O ∷ []) (O ∷ []))
+    ∙ gap-after-zero (replicate n 0x4e ++ (0x00 ∷ ws))
+    ∙ ap (λ (vs : List ℕ). 3 ∷ 3 ∷ 3 ∷ 2 ∷ 2 ∷ vs) (cells-of-gap n ws)
+gap-is-read I n ws cs e read =
+    let us : List ℕ = replicate (suc n) 0x4e ++ (0x00 ∷ ws) in
+    sym (cells-read-after-one cs)
+    ∙ ap (λ (bs : List Bit). cellsFrom 2 (symbolsFrom I (bs ++ (O ∷ [])))) read
+    ∙ ap (λ (bs : List Bit). cellsFrom 2 (symbolsFrom I bs)) (append-assoc (allBits us) (O ∷ []) (O ∷ []))
+    ∙ gap-after-one (replicate n 0x4e ++ (0x00 ∷ ws))
+    ∙ ap (λ (vs : List ℕ). 4 ∷ 3 ∷ 3 ∷ 2 ∷ 2 ∷ vs) (cells-of-gap n ws)
+gap-is-read G n ws cs e read = absurd (true≢false e)
