@@ -60,6 +60,7 @@ fn library() {
     compare.group("fields", 0x52, fields::fields);
     compare.group("every length code", 0x60, sectors::every_code);
     compare.group("sectors there and back", 0x61, sectors::there_and_back);
+    compare.group("sectors within the margin", 0x62, sectors::found_within_margin);
     compare.group("FIFO states", 0x70, fifo::every_state);
     compare.group("FIFO rows", 0x71, fifo::rows);
     compare.group("limits of the writer", 0x80, limits::written);

@@ -21,7 +21,7 @@ pub fn within_margin(compare: &mut Compare, random: &mut Random) {
 }
 
 /// Each interval longer or shorter by at most the library's margin, often by exactly that.
-fn shifted(nine: &Nine, stream: &[u16], random: &mut Random) -> Vec<u16> {
+pub fn shifted(nine: &Nine, stream: &[u16], random: &mut Random) -> Vec<u16> {
     let margin = ism::margin(profile(nine)).expect("a true profile");
     let mut shift = |d: &u16| {
         let by = random.between_with_edges(0, 2 * margin);

@@ -1,8 +1,9 @@
 //! The sector maker, and its sectors through writer and readers.
 
+use super::margins::shifted;
 use super::WORKED;
-use crate::compare::Compare;
-use crate::paper::{make_sector, stream_of};
+use crate::compare::{profile, Compare};
+use crate::paper::{make_sector, stream_of, written_bytes, Nine, CHECK_ORDER};
 use crate::random::Random;
 
 const SIZES: [usize; 4] = [128, 256, 512, 1024];
@@ -36,4 +37,41 @@ pub fn there_and_back(compare: &mut Compare, random: &mut Random) {
         compare.write(&WORKED, &items, stream.len());
         compare.read(&WORKED, &stream, size + 116);
     }
+}
+
+/// Sectors of which the drive has moved every interval by at most the margin: the first lock is the ID's, the next one
+/// after its field is the data's, and both fields read back with their sums.
+pub fn found_within_margin(compare: &mut Compare, random: &mut Random) {
+    for _ in 0..200 {
+        let nine = random.true_profile();
+        let code = random.between(0, 3) as u8;
+        let size = SIZES[usize::from(code)];
+        let noise = random.bytes(size);
+        let data = random.pick(&[noise, vec![0xFF; size], vec![0; size], vec![0x4E; size]]);
+        let id = [random.byte(), random.byte(), random.byte(), code];
+        let items = make_sector(id, &data, size + 114).expect("data as long as its code says");
+        let track = shifted(&nine, &stream_of(&nine, &items), random);
+        let used = reads_next(compare, &nine, &track, 0, &field(0xFE, &id));
+        reads_next(compare, &nine, &track, used, &field(0xFB, &data));
+    }
+}
+
+/// The written bytes of a field: three marks A1, the byte that names it, its bytes and its check bytes.
+fn field(kind: u8, bytes: &[u8]) -> Vec<u16> {
+    let mut items = vec![0x1A1, 0x1A1, 0x1A1, u16::from(kind)];
+    items.extend(bytes.iter().map(|b| u16::from(*b)));
+    items.push(CHECK_ORDER);
+    written_bytes(&items).iter().map(|w| w.item()).collect()
+}
+
+/// The field at the first lock from `start` on is the one given; answers the place after its intervals.
+fn reads_next(compare: &mut Compare, nine: &Nine, track: &[u16], start: usize, field: &[u16]) -> usize {
+    compare.find(nine, track, start as u64);
+    let place = ism::find_lock(profile(nine), track, start as u64).expect("the next field's lock");
+    let bytes = field.len() as u64;
+    compare.field(nine, &track[place..], bytes, field.len());
+    let mut out = vec![0; field.len()];
+    let read = ism::read_field(profile(nine), &track[place..], bytes, &mut out).expect("a whole field");
+    compare.claim("the sector's next field reads back", out == field && read.holds);
+    place + read.used
 }

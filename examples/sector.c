@@ -1,0 +1,62 @@
+/*
+ * A sector there and back: made, written as intervals, each of them moved by up to the drive's margin, found again and
+ * read field by field.
+ *
+ *   rt staticlib ism
+ *   gcc -Iinclude examples/sector.c target/staticlib/libism.a -o target/sector && target/sector
+ */
+#include <stdio.h>
+#include <stdlib.h>
+
+#include "ism.h"
+
+enum { TRACK = 3, SIDE = 0, SECTOR = 7, CODE = 1, SIZE = 256, ITEMS = SIZE + 114, BYTES = SIZE + 116 };
+
+static const ism_profile drive = {58, 29, 8, 10, 12, 36, 73, 106, 139};
+
+static uint8_t data[SIZE];
+static uint16_t items[ITEMS];
+static uint16_t track[8 * BYTES + 2];
+static uint16_t field[SIZE + 6];
+
+/* The answer, or the end of the program with the refusal and its place. */
+static ism_answer accepted(const char *what, ism_answer answer) {
+    if (answer.number != ISM_ACCEPTED) {
+        printf("%s: refused, number %u, place %u\n", what, (unsigned)answer.number, (unsigned)answer.place);
+        exit(1);
+    }
+    return answer;
+}
+
+/* Reads the field at the next lock from `start` on into `field`; answers the place after its intervals. */
+static size_t read_next(const char *what, size_t intervals, size_t start, size_t bytes) {
+    size_t place = accepted(what, ism_find(drive, track, intervals, start)).count;
+    ism_answer read = accepted(what, ism_read_field(drive, track + place, intervals - place, bytes, field, SIZE + 6));
+    printf("%s field at %u: %u bytes, the sum %s\n", what, (unsigned)place, (unsigned)read.count,
+           read.holds ? "holds" : "does not hold");
+    return place + read.used;
+}
+
+int main(void) {
+    for (size_t k = 0; k < SIZE; k++) data[k] = (uint8_t)(37 * k);
+
+    size_t n = accepted("make", ism_make_sector(TRACK, SIDE, SECTOR, CODE, data, SIZE, items, ITEMS)).count;
+    size_t intervals = accepted("write", ism_write(drive, items, n, track, sizeof track / sizeof *track)).count;
+    unsigned margin = (unsigned)accepted("margin", ism_margin(drive)).count;
+    printf("%u items, %u intervals, margin %u\n", (unsigned)n, (unsigned)intervals, margin);
+
+    /* what a worn drive may do */
+    for (size_t k = 0; k < intervals; k++) track[k] = (uint16_t)(track[k] + 7919 * k % (2 * margin + 1) - margin);
+
+    size_t after_id = read_next("ID", intervals, 0, 10);
+    printf("track %u, side %u, sector %u, length code %u\n", field[4], field[5], field[6], field[7]);
+
+    read_next("data", intervals, after_id, SIZE + 6);
+    for (size_t k = 0; k < SIZE; k++)
+        if (field[4 + k] != data[k]) {
+            printf("byte %u differs\n", (unsigned)k);
+            return 1;
+        }
+    printf("the data is as it was\n");
+    return 0;
+}
