@@ -1,5 +1,5 @@
--- The first lock after a gap: a gap without a run of 64 minimum intervals is passed over, and a run that is long enough, with a
--- mark A1 after it, has its first lock at the mark, since within the run no mark begins.
+-- The first lock after a gap: a gap without a run of 64 minimum intervals is passed over, and a run that is long
+-- enough, with a mark A1 after it, has its first lock at the mark, since within the run no mark begins.
 use Prim.Native.Nat.{ℕ, zero, suc, _+_, _-_, _<_, _≤_}
 use mathlib.Core.Path.{_≡_, refl, sym, ap, ap₂, _∙_}
 use mathlib.Core.Bool.{Bool, true, false, cond, _&&_, true≢false}
@@ -75,7 +75,8 @@ module _ (front : List Class) (m : ℕ) (rest : List Class) where
             (λ j h. ap (mayStand j) (in-mark j) ∙ mark-may-stand j rest h);
         before =
             λ j low high.
-            let here : getD all (j + 0) Narrow ≡ Two = ap (λ (i : ℕ). getD all i Narrow) (omega arith) ∙ two-at j (omega arith) high in
+            let here : getD all (j + 0) Narrow ≡ Two =
+            ap (λ (i : ℕ). getD all i Narrow) (omega arith) ∙ two-at j (omega arith) high in
             broken-mark-has-no-lock all j 0 (omega arith) (ap (mayStand 0) here ∙ no-mark-begins-with-two);
       })
 
@@ -93,7 +94,8 @@ both false b h = absurd (true≢false (sym h))
 module _ (tail : List Class) where
   abbrev Passed : List Class → List Class → ℕ → Type 0
   Passed gap front run =
-      lockFrom (front ++ (gap ++ tail)) (length front - run) ≡ lockFrom (front ++ (gap ++ tail)) (length front + length gap)
+      lockFrom (front ++ (gap ++ tail)) (length front - run)
+      ≡ lockFrom (front ++ (gap ++ tail)) (length front + length gap)
 
   one-class-more
       : (two : Bool) (c : Class) (gap front : List Class) (run : ℕ)
@@ -108,12 +110,16 @@ module _ (tail : List Class) where
       let below = ltb-true run 63 short in
       let longer : length (front ++ (c ∷ [])) ≡ length front + 1 = length-append front (c ∷ []) in
       let next = rw (append-snoc front c (gap ++ tail)) at (on (suc run) (omega arith) (omega arith) more) in
-      ap (lockFrom (front ++ (c ∷ gap ++ tail))) (omega arith) ∙ next ∙ ap (lockFrom (front ++ (c ∷ gap ++ tail))) (omega arith)
+      ap (lockFrom (front ++ (c ∷ gap ++ tail))) (omega arith)
+      ∙ next
+      ∙ ap (lockFrom (front ++ (c ∷ gap ++ tail))) (omega arith)
   one-class-more false c gap front run not-two h few e on =
       let longer : length (front ++ (c ∷ [])) ≡ length front + 1 = length-append front (c ∷ []) in
       let next = rw (append-snoc front c (gap ++ tail)) at (on 0 (omega arith) (omega arith) e) in
       broken-run-is-passed (front ++ (c ∷ gap ++ tail)) (length front - run) (length front) (omega arith) (omega arith)
-      (λ two. eqb-false (classNumber c) 2 not-two (ap classNumber (sym (getD-append-seam front c (gap ++ tail) Narrow) ∙ two)))
+      (λ two.
+      eqb-false (classNumber c) 2 not-two
+      (ap classNumber (sym (getD-append-seam front c (gap ++ tail) Narrow) ∙ two)))
       ∙ ap (lockFrom (front ++ (c ∷ gap ++ tail))) (omega arith)
       ∙ next
       ∙ ap (lockFrom (front ++ (c ∷ gap ++ tail))) (omega arith)

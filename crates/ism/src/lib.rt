@@ -1,5 +1,5 @@
-// The C interface, as include/ism.h declares it. Each function hands its arguments to the library and its answer back: nothing is
-// computed here.
+// The C interface, as include/ism.h declares it. Each function hands its arguments to the library and its answer
+// back: nothing is computed here.
 ghost use mathlib.Core.Path.{_≡_};
 ghost use lib.ListN.{length};
 ghost use Rattle.refusal.specs.Answer.{countedAnswer};
@@ -95,7 +95,8 @@ pub extern "C" fn ism_class(p: IsmProfile, interval: u16) -> IsmAnswer
 
 #[no_mangle]
 pub extern "C" fn ism_write(p: IsmProfile, items: &[u16], out: &mut [u16]) -> IsmAnswer
-    ensures { λ r. ⌜ (r ≡ given (writeRule (profileOf p) (now (items .entry)) (length (now (out .entry))))) × (now (out .exit) ≡ writeOutput (profileOf p) (now (items .entry)) (now (out .entry))) ⌝ }
+    ensures answer { λ r. ⌜ r ≡ given (writeRule (profileOf p) (now (items .entry)) (length (now (out .entry)))) ⌝ }
+    ensures output { λ _. ⌜ now (out .exit) ≡ writeOutput (profileOf p) (now (items .entry)) (now (out .entry)) ⌝ }
 {
     let counted = codec::writer::write(profile(p), items, out);
     answer(counted)
@@ -103,7 +104,8 @@ pub extern "C" fn ism_write(p: IsmProfile, items: &[u16], out: &mut [u16]) -> Is
 
 #[no_mangle]
 pub extern "C" fn ism_read(p: IsmProfile, intervals: &[u16], out: &mut [u16]) -> IsmAnswer
-    ensures { λ r. ⌜ (r ≡ given (readRule (profileOf p) (now (intervals .entry)) (length (now (out .entry))))) × (now (out .exit) ≡ readOutput (profileOf p) (now (intervals .entry)) (now (out .entry))) ⌝ }
+    ensures answer { λ r. ⌜ r ≡ given (readRule (profileOf p) (now (intervals .entry)) (length (now (out .entry)))) ⌝ }
+    ensures output { λ _. ⌜ now (out .exit) ≡ readOutput (profileOf p) (now (intervals .entry)) (now (out .entry)) ⌝ }
 {
     let counted = codec::reader::read(profile(p), intervals, out);
     answer(counted)
@@ -144,7 +146,8 @@ pub extern "C" fn ism_read_field(
     bytes: u64,
     out: &mut [u16],
 ) -> IsmAnswer
-    ensures { λ r. ⌜ (r ≡ givenField (fieldReading (profileOf p) (now (intervals .entry)) bytes (length (now (out .entry))))) × (now (out .exit) ≡ fieldOutput (profileOf p) (now (intervals .entry)) bytes (now (out .entry))) ⌝ }
+    ensures answer { λ r. ⌜ r ≡ givenField (fieldReading (profileOf p) (now (intervals .entry)) bytes (length (now (out .entry)))) ⌝ }
+    ensures output { λ _. ⌜ now (out .exit) ≡ fieldOutput (profileOf p) (now (intervals .entry)) bytes (now (out .entry)) ⌝ }
 {
     let read = fields::reader::read_field(profile(p), intervals, bytes as usize, out);
     field_answer(read)
@@ -159,7 +162,8 @@ pub extern "C" fn ism_make_sector(
     bytes: &[u8],
     out: &mut [u16],
 ) -> IsmAnswer
-    ensures { λ r. ⌜ (r ≡ given (sectorRule track side sector code (now (bytes .entry)) (length (now (out .entry))))) × (now (out .exit) ≡ sectorOutput track side sector code (now (bytes .entry)) (now (out .entry))) ⌝ }
+    ensures answer { λ r. ⌜ r ≡ given (sectorRule track side sector code (now (bytes .entry)) (length (now (out .entry)))) ⌝ }
+    ensures output { λ _. ⌜ now (out .exit) ≡ sectorOutput track side sector code (now (bytes .entry)) (now (out .entry)) ⌝ }
 {
     let counted = sectors::make_sector(track, side, sector, code, bytes, out);
     answer(counted)

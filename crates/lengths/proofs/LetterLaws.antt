@@ -60,7 +60,8 @@ module _
     unfolding writtenBits isMark
     written-byte w bs = mark-byte (eqb w (256 + 0xa1)) (eqb w (256 + 0xc2)) w bs refl refl
 
-    pub every-list-has-it : (end : List Bit) → ((t : Bool) → P t end) → (ws : List ℕ) (u : Bool) → P u (allBits ws ++ end)
+    pub every-list-has-it
+        : (end : List Bit) → ((t : Bool) → P t end) → (ws : List ℕ) (u : Bool) → P u (allBits ws ++ end)
     unfolding allBits
     every-list-has-it end p [] u = p u
     every-list-has-it end p (w ∷ ws) u =

@@ -37,5 +37,7 @@ closing-zeros-are-short false zeros o = (omega arith, (omega arith, tt))
 pub written-runs-are-short : (ws : List ℕ) → ShortRuns 0 (writtenSymbols ws)
 unfolding Short writtenSymbols symbolsOf bitsOf
 written-runs-are-short ws =
-    every-list-has-it Short data-bit-keeps-runs-short mark-gap-keeps-runs-short (O ∷ O ∷ []) closing-zeros-are-short ws false 0
+    every-list-has-it Short data-bit-keeps-runs-short mark-gap-keeps-runs-short (O ∷ O ∷ []) closing-zeros-are-short ws
+    false
+    0
     (omega arith)

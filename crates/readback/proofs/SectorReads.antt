@@ -33,7 +33,8 @@ use Rattle.unique.specs.Demand3.{stated}
 use Rattle.unique.proofs.Demand3.{moved-has-classes}
 use Rattle.readback.specs.SectorReads.{withCheck, ReadsField, Made, idField, dataField, idPlace, dataPlace}
 use Rattle.readback.specs.SectorReads.{SectorReads, MadeSectorsReadBack}
-use Rattle.readback.proofs.WrittenSector.{A1, middleGap, idBytes, dataBytes, id-bytes, data-bytes, sector-written}
+use Rattle.readback.proofs.WrittenSector.{A1, middleGap, idBytes, dataBytes, id-bytes, data-bytes}
+use Rattle.readback.proofs.WrittenSector.{sector-written}
 use Rattle.readback.proofs.CellClasses.{cells, cells-bits, classesFor, cells-classes, sync-classes, mark-classes}
 use Rattle.readback.proofs.CellClasses.{gapClasses, no-run-in-gap, gap-classes, classes-from, place-after-zero}
 use Rattle.readback.proofs.CheckedField.{checked-field-is-read}

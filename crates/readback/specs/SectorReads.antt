@@ -30,7 +30,8 @@ placeAfter us = length (cellsOf (symbolsOf (O ∷ allBits us)))
 abbrev pub withCheck : List ℕ → List ℕ
 withCheck ws = ws ++ checkBytes (afterBytes fresh ws)
 
--- the field reader at the front of ds, with n: it gives these items, the register being zero after them, given room for them
+-- the field reader at the front of ds, with n: it gives these items, the register being zero after them, given room
+-- for them
 pub record ReadsField (p : Profile) (ds : List ℕ) (n : ℕ) (items : List ℕ) : Type 0 where
   pub count : length items ≡ n
   pub answer

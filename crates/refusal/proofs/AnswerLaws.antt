@@ -1,4 +1,5 @@
--- Laws of answers in their turn: no refusal has number 0, so a refusal is never passed over, and an acceptance always is. Rests on no axiom.
+-- Laws of answers in their turn: no refusal has number 0, so a refusal is never passed over, and an acceptance always
+-- is. Rests on no axiom.
 use Prim.Native.Nat.{ℕ, suc}
 use mathlib.Core.Path.{_≡_, refl, sym, ap, _∙_}
 use mathlib.Core.Bool.{Bool, true, false, cond}
@@ -8,9 +9,14 @@ use lib.Dec.{eqb}
 use borrow.Author.Tests.{eqb-true, eqb-false, eq-eqb}
 use Rattle.lists.specs.Filled.{filled}
 use Rattle.refusal.specs.Table.{numberOf, placeOf}
-use Rattle.refusal.specs.Answer.{Answer, accepted, refused, refuseIf, firstRefusal, verdictAnswer, countedAnswer, settled}
+use Rattle.refusal.specs.Answer.{Answer, accepted, refused, refuseIf, firstRefusal, verdictAnswer}
+use Rattle.refusal.specs.Answer.{countedAnswer, settled}
 use Rattle.refusal.specs.declared.Refusal.{Refusal}
-use Rattle.refusal.specs.declared.Refusal.the-variants.{ProfileOutOfRange, ProfileInconsistent, NotAnItem, TooLong, IntervalTooShort, IntervalTooLong, NotWholeBytes, MisplacedMark, OutputTooShort, NoLock, EndsEarly, CountOutOfRange, SectorSizeMismatch, MalformedInput}
+use Rattle.refusal.specs.declared.Refusal.the-variants.{ProfileOutOfRange, ProfileInconsistent, NotAnItem}
+use Rattle.refusal.specs.declared.Refusal.the-variants.{TooLong, IntervalTooShort, IntervalTooLong}
+use Rattle.refusal.specs.declared.Refusal.the-variants.{NotWholeBytes, MisplacedMark, OutputTooShort, NoLock}
+use Rattle.refusal.specs.declared.Refusal.the-variants.{EndsEarly, CountOutOfRange, SectorSizeMismatch}
+use Rattle.refusal.specs.declared.Refusal.the-variants.{MalformedInput}
 use Rattle.refusal.specs.declared.Verdict.{Verdict}
 use Rattle.refusal.specs.declared.Verdict.the-variants.{Accepted, Refused}
 use Rattle.refusal.specs.declared.Counted.{Counted}

@@ -1,4 +1,5 @@
--- Document 01, "Turned-away numbers": an answer as the paper gives it, number 0 standing for acceptance, and the order of tests. No lemmas here.
+-- Document 01, "Turned-away numbers": an answer as the paper gives it, number 0 standing for acceptance, and the
+-- order of tests. No lemmas here.
 use Prim.Native.Nat.{ℕ}
 use mathlib.Core.List.{List}
 use mathlib.Core.Bool.{Bool, cond}
@@ -41,6 +42,7 @@ abbrev pub countedAnswer : Counted → Answer
 countedAnswer (Count n) = accepted n
 countedAnswer (NotCounted r) = refused (numberOf r) (placeOf r)
 
--- a lent buffer afterwards: a refusal changes nothing; on acceptance the result fills the front and the remainder keeps its bytes
+-- a lent buffer afterwards: a refusal changes nothing; on acceptance the result fills the front and the remainder
+-- keeps its bytes
 abbrev pub settled : Answer → List ℕ → List ℕ → List ℕ
 settled answer result old = cond (eqb (answer .number) 0) (filled result old) old

@@ -1,7 +1,11 @@
 -- Document 01, "Turned-away numbers": the number and the place of each refusal. No lemmas here.
 use Prim.Native.Nat.{ℕ}
 use Rattle.refusal.specs.declared.Refusal.{Refusal}
-use Rattle.refusal.specs.declared.Refusal.the-variants.{ProfileOutOfRange, ProfileInconsistent, NotAnItem, TooLong, IntervalTooShort, IntervalTooLong, NotWholeBytes, MisplacedMark, OutputTooShort, NoLock, EndsEarly, CountOutOfRange, SectorSizeMismatch, MalformedInput}
+use Rattle.refusal.specs.declared.Refusal.the-variants.{ProfileOutOfRange, ProfileInconsistent, NotAnItem}
+use Rattle.refusal.specs.declared.Refusal.the-variants.{TooLong, IntervalTooShort, IntervalTooLong}
+use Rattle.refusal.specs.declared.Refusal.the-variants.{NotWholeBytes, MisplacedMark, OutputTooShort, NoLock}
+use Rattle.refusal.specs.declared.Refusal.the-variants.{EndsEarly, CountOutOfRange, SectorSizeMismatch}
+use Rattle.refusal.specs.declared.Refusal.the-variants.{MalformedInput}
 
 -- the column "No."
 abbrev pub numberOf : Refusal → ℕ

@@ -8,7 +8,8 @@ use native.Mathlib.Omega.{arith}
 use lib.ListN.{replicate}
 use Rattle.items.specs.Item.{isMark}
 use Rattle.symbols.specs.Bits.{Bit, O, I, G, byteBits, markBits, withGaps, writtenBits, allBits, bitsOf}
-use Rattle.symbols.specs.Cells.{pairSymbols, symbolsFrom, symbolsOf, cellsFrom, cellsOf, writtenSymbols, writtenCells}
+use Rattle.symbols.specs.Cells.{pairSymbols, symbolsFrom, symbolsOf, cellsFrom, cellsOf, writtenSymbols}
+use Rattle.symbols.specs.Cells.{writtenCells}
 use Rattle.symbols.specs.Reading.{units, readFrom}
 use Rattle.symbols.specs.Bytes.{isGap}
 use Rattle.symbols.specs.declared.Cell.{Cell}

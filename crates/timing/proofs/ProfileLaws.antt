@@ -1,5 +1,5 @@
--- What the profile's rule means: where it accepts, every number is in range and every window holds its lengths, since each test of
--- the definition gave the answer that let the next be asked. Rests on no axiom.
+-- What the profile's rule means: where it accepts, every number is in range and every window holds its lengths, since
+-- each test of the definition gave the answer that let the next be asked. Rests on no axiom.
 use Prim.Native.Nat.{ℕ, zero, suc, _+_, _*_, _≤_, _<_}
 use mathlib.Core.Path.{_≡_, refl, ap, sym, _∙_}
 use mathlib.Core.Bool.{Bool, true, false, cond, not, _&&_, _||_, true≢false, false≢true}

@@ -12,7 +12,8 @@ use Rattle.timing.specs.declared.Profile.{Profile}
 abbrev pub outside : ℕ → ℕ → ℕ → Bool
 outside low high x = ltb x low || ltb high x
 
--- T1, T0 (1 to 1,023), Early, Normal, Late (0 to 15), Min, B23, B34, Rpt (1 to 4,095): at each place, whether the number is out of range
+-- T1, T0 (1 to 1,023), Early, Normal, Late (0 to 15), Min, B23, B34, Rpt (1 to 4,095): at each place, whether the
+-- number is out of range
 unfoldable pub unset : Profile → List Bool
 unset p =
     outside 1 1023 (p .t1 .0)
@@ -31,7 +32,8 @@ abbrev pub swing : Profile → ℕ
 swing p = 2 * (p .late .0 - p .early .0)
 
 -- Early ≤ Normal ≤ Late and Min ≤ T1 − D, T1 < B23 ≤ T1 + T0, T1 + T0 + D < B34 ≤ T1 + 2 × T0, T1 + 2 × T0 + D < Rpt.
--- D stands on the left of the third line, since T1 − D can be below zero. Where Late < Early the first two lines already fail.
+-- D stands on the left of the third line, since T1 − D can be below zero. Where Late < Early the first two lines
+-- already fail.
 unfoldable pub isTrue : Profile → Bool
 isTrue p =
     leb (p .early .0) (p .normal .0)
@@ -50,7 +52,8 @@ profileRule p =
     (refuseIf (not (isTrue p)) 2 0
     (accepted 0))
 
--- the nine tests one after the other, as the code makes them: the place found before, else this number's where it is out of range, else 0
+-- the nine tests one after the other, as the code makes them: the place found before, else this number's where it is
+-- out of range, else 0
 unfoldable pub firstOutside : ℕ → ℕ → ℕ → ℕ → ℕ → ℕ
 firstOutside found low high x place = cond (eqb found 0) (cond (outside low high x) place 0) found
 

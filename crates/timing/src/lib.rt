@@ -24,7 +24,8 @@ impl Clocks {
     }
 }
 
-// A drive's timing, in document 01's order. Any 16-bit number can stand in each place; `check` says whether it may be used.
+// A drive's timing, in document 01's order. Any 16-bit number can stand in each place; `check` says whether it may be
+// used.
 pub struct Profile {
     pub t1: HalfClocks,
     pub t0: HalfClocks,

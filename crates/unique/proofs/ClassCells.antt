@@ -1,5 +1,5 @@
--- Classes and cells are the same thing under two names: a class whose number is a cell's units is that cell, and narrow and wide are the
--- units of none. Rests on no axiom.
+-- Classes and cells are the same thing under two names: a class whose number is a cell's units is that cell, and
+-- narrow and wide are the units of none. Rests on no axiom.
 use Prim.Native.Nat.{ℕ, suc}
 use mathlib.Core.Path.{_≡_, refl, sym, ap, ap₂, _∙_}
 use mathlib.Core.List.{List, [], _∷_, map}

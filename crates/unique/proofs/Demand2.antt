@@ -1,5 +1,6 @@
--- Why demand 2 holds: the writer's rule gives the paper's lengths by definition; what the strip reader accepts has exactly the cells of the
--- list that it gives, and the cells of every list within the limit read as that list. Rests on no axiom.
+-- Why demand 2 holds: the writer's rule gives the paper's lengths by definition; what the strip reader accepts has
+-- exactly the cells of the list that it gives, and the cells of every list within the limit read as that list. Rests
+-- on no axiom.
 use Prim.Native.Nat.{ℕ, _+_, _*_, _≤_}
 use mathlib.Core.Path.{_≡_, refl, sym, ap, subst, _∙_}
 use mathlib.Core.List.{List, map}
@@ -40,7 +41,8 @@ unfolding cellsRead itemsOfStream
 read-only-lists p ds output h =
     let passed = passed-of-accepted p ds (length output) h in
     let read = write-of-read (cellsRead p ds) (passed .strip) in
-    let few : length (stripItems (cellsRead p ds)) ≤ 6400 = subst (λ (n : ℕ). n ≤ 6400) (sym (read .count)) (read .few) in (
+    let few : length (stripItems (cellsRead p ds)) ≤ 6400 =
+    subst (λ (n : ℕ). n ≤ 6400) (sym (read .count)) (read .few) in (
       itemsOfStream p ds,
       bytes-are-accepted (stripItems (cellsRead p ds)) (read .bytes) few,
       cells-are-classes (classesOf p ds) (passed .edges) ∙ sym (read .cells),
@@ -81,7 +83,9 @@ every-list-is-read p ds output ws accepts a h enough =
       profile = accepts;
       short = few-intervals p ds ws h (l .few);
       edges = ap (λ a. a .number) edges;
-      strip = ap (λ (ys : List Cell). stripRule ys .number) cells ∙ ap (λ a. a .number) (rule-of-write ws xs (l .bytes) (l .few) same);
+      strip =
+          ap (λ (ys : List Cell). stripRule ys .number) cells
+          ∙ ap (λ a. a .number) (rule-of-write ws xs (l .bytes) (l .few) same);
       enough = subst (λ (us : List ℕ). length us ≤ length output) (sym items) enough;
     } in
     reads-as-its-list p ds output ws passed items

@@ -1,6 +1,6 @@
--- Why demand 3 holds: within the margin every interval keeps the class of its cell, so both streams still read as the lists that were
--- written; one half clock beyond it, an interval of a one-byte list changes its class, and other classes are refused or are another list.
--- Rests on no axiom.
+-- Why demand 3 holds: within the margin every interval keeps the class of its cell, so both streams still read as the
+-- lists that were written; one half clock beyond it, an interval of a one-byte list changes its class, and other
+-- classes are refused or are another list. Rests on no axiom.
 use Prim.Native.Nat.{ℕ, _+_, _≤_, _<_, _^_}
 use mathlib.Core.Path.{_≡_, refl, sym, ap, subst, _∙_}
 use mathlib.Core.Bool.{Bool, true, false}
@@ -31,7 +31,8 @@ use Rattle.lengths.proofs.NearLaws.{near-of-each, near-at, near-itself, near-st
 use Rattle.lengths.proofs.StreamLaws.{length-fits}
 use Rattle.lengths.proofs.PapersMargin.{margin-is-the-papers, one-byte-is-written}
 use Rattle.codec.specs.Reader.{readRule}
-use Rattle.unique.specs.Streams.{AcceptedProfile, AcceptedList, Moved, ReadsAs, OutputEnough, Misread, refused, another}
+use Rattle.unique.specs.Streams.{AcceptedProfile, AcceptedList, Moved, ReadsAs, OutputEnough, Misread, refused}
+use Rattle.unique.specs.Streams.{another}
 use Rattle.unique.specs.Demand2.{CellsAreClasses}
 use Rattle.unique.specs.Demand3.{stated, Counterexample, Unmistaken, Demand3}
 use Rattle.unique.proofs.ListLaws.{listed, one-byte-is-listed}
@@ -154,13 +155,18 @@ module _ (p : Profile) (accepts : AcceptedProfile p) where
 
   largest : (n : ℕ) → stated p < n → Counterexample p n
   largest n above =
-      let x : Broken p n = above-margin-is-broken (kept p accepts) n (subst (λ (m : ℕ). m < n) (stated-is-the-margin p accepts) above) in
+      let beyond : marginOf p < n = subst (λ (m : ℕ). m < n) (stated-is-the-margin p accepts) above in
+      let x : Broken p n = above-margin-is-broken (kept p accepts) n beyond in
       record {
         byte = x .byte;
         accepted = one-byte-is-listed (x .byte) (x .is-byte);
         changed = brokenStream x;
         moved = moved-beyond n x;
-        misread = λ output enough. misread (x .byte) (brokenStream x) output (broken-stream-has-other-classes x) (eqb (readRule p (brokenStream x) (length output) .number) 0) refl;
+        misread =
+            λ output enough.
+            misread (x .byte) (brokenStream x) output (broken-stream-has-other-classes x)
+            (eqb (readRule p (brokenStream x) (length output) .number) 0)
+            refl;
       }
 
 pub demand-3 : Demand3

@@ -1,4 +1,5 @@
--- What an accepted list is: at most 6,400 bytes, each a data or a mark byte, and written as it stands. Rests on no axiom.
+-- What an accepted list is: at most 6,400 bytes, each a data or a mark byte, and written as it stands. Rests on no
+-- axiom.
 use Prim.Native.Nat.{ℕ, suc, _≤_, _<_}
 use mathlib.Core.Path.{_≡_, refl, sym, ap, subst, _∙_}
 use mathlib.Core.Bool.{Bool, true, false, _&&_, _||_, true≢false}

@@ -1,5 +1,5 @@
--- The strip reader's rule taken apart: it accepts where each test in its turn lets the stream pass, and then gives the list that the cells
--- read as. Rests on no axiom.
+-- The strip reader's rule taken apart: it accepts where each test in its turn lets the stream pass, and then gives
+-- the list that the cells read as. Rests on no axiom.
 use Prim.Native.Nat.{ℕ, _≤_}
 use mathlib.Core.Path.{_≡_, refl, sym, ap, _∙_}
 use mathlib.Core.List.{List}
@@ -9,7 +9,8 @@ use lib.Seq.{take-append-seam}
 use borrow.Author.Tests.{ltb-false, le-ltb}
 use Rattle.lists.specs.Filled.{filled}
 use Rattle.refusal.specs.Answer.{accepted}
-use Rattle.refusal.proofs.AnswerLaws.{first-refusal-accepts, first-refusal-passes, refuse-if-accepts, refuse-if-passes, acceptance-fills-the-buffer}
+use Rattle.refusal.proofs.AnswerLaws.{first-refusal-accepts, first-refusal-passes, refuse-if-accepts}
+use Rattle.refusal.proofs.AnswerLaws.{refuse-if-passes, acceptance-fills-the-buffer}
 use Rattle.timing.specs.Profile.{profileRule}
 use Rattle.timing.specs.Class.{classesOf, edgeRule}
 use Rattle.timing.specs.declared.Profile.{Profile}
@@ -67,7 +68,8 @@ reads-as-its-list p ds output ws q e =
       answer = answer ∙ ap (λ (us : List ℕ). accepted (length us)) e;
       front =
           ap (take (length ws))
-          (acceptance-fills-the-buffer (readRule p ds (length output)) (itemsOfStream p ds) output (ap (λ a. a .number) answer)
+          (acceptance-fills-the-buffer (readRule p ds (length output)) (itemsOfStream p ds) output
+          (ap (λ a. a .number) answer)
           ∙ ap (λ (us : List ℕ). filled us output) e)
           ∙ take-append-seam ws _;
     }

@@ -13,7 +13,9 @@ use Rattle.lengths.specs.Margin.{marginOf, marginRule}
 use Rattle.unique.specs.Settled.{SettledCases}
 
 pub settled-cases : SettledCases
-unfolding isMark isCheck itemBytes writtenFrom written byteBits withGaps markBits writtenBits allBits bitsOf pairSymbols symbolsFrom symbolsOf writtenSymbols anywhere lowest unset isTrue profileRule classOf classesOf point symbolAfter cellLength lengthsFrom lengthsOf byteStream streamOf marginOf marginRule
+unfolding isMark isCheck itemBytes writtenFrom written byteBits withGaps markBits writtenBits allBits bitsOf
+    pairSymbols symbolsFrom symbolsOf writtenSymbols anywhere lowest unset isTrue profileRule classOf classesOf point
+    symbolAfter cellLength lengthsFrom lengthsOf byteStream streamOf marginOf marginRule
 settled-cases =
     record {
       no-item = refl;

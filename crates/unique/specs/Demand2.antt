@@ -45,8 +45,8 @@ pub record Demand2 : Type 0 where
       → CellsAreClasses p us ds
       → CellsAreClasses p ws ds
       → us ≡ ws
-  -- a stream of intervals whose classes are the cells of a list within the limit is read as that list; so a stream that is refused, with
-  -- output enough, belongs to no such list
+  -- a stream of intervals whose classes are the cells of a list within the limit is read as that list; so a stream
+  -- that is refused, with output enough, belongs to no such list
   pub every-list-is-read
       : (p : Profile) (ds output ws : List ℕ)
       → AcceptedProfile p

@@ -12,8 +12,8 @@ use Rattle.unique.specs.Streams.{AcceptedProfile, AcceptedList, Moved, R
 abbrev pub stated : Profile → ℕ
 stated p = marginRule p .count
 
--- a one-byte list and a change of its stream where no interval is moved by more than n and the changed stream, given output enough, is
--- refused or read as another list
+-- a one-byte list and a change of its stream where no interval is moved by more than n and the changed stream, given
+-- output enough, is refused or read as another list
 pub record Counterexample (p : Profile) (n : ℕ) : Type 0 where
   pub byte : ℕ
   pub accepted : AcceptedList (byte ∷ [])
@@ -23,8 +23,8 @@ pub record Counterexample (p : Profile) (n : ℕ) : Type 0 where
 
 -- under one accepted profile
 pub record Unmistaken (p : Profile) : Type 0 where
-  -- for every two different lists: whatever the drives do to the intervals of the two streams, each moved by at most the profile's
-  -- margin, the streams are never equal
+  -- for every two different lists: whatever the drives do to the intervals of the two streams, each moved by at most
+  -- the profile's margin, the streams are never equal
   pub never-equal
       : (us ws : List ℕ)
       → AcceptedList us
@@ -35,8 +35,8 @@ pub record Unmistaken (p : Profile) : Type 0 where
       → Moved (stated p) (streamOf p ws) changed-ws
       → changed-us ≡ changed-ws
       → ⊥
-  -- whatever is so done to the stream of any one such list, given output enough (its own length or more) it reads back as exactly the
-  -- list that was written
+  -- whatever is so done to the stream of any one such list, given output enough (its own length or more) it reads
+  -- back as exactly the list that was written
   pub reads-back
       : (ws : List ℕ)
       → AcceptedList ws

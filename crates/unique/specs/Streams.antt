@@ -21,15 +21,16 @@ pub record AcceptedList (ws : List ℕ) : Type 0 where
   pub passes : listRule ws .number ≡ 0
   pub no-check-orders : anywhere isCheck ws ≡ false
 
--- a changed stream has as many intervals in the same order, each still an unsigned 16-bit number, and none is moved by more than m
+-- a changed stream has as many intervals in the same order, each still an unsigned 16-bit number, and none is moved
+-- by more than m
 pub record Moved (m : ℕ) (stream changed : List ℕ) : Type 0 where
   pub as-many : length changed ≡ length stream
   pub sixteen-bits : (k : ℕ) → k < length changed → getD changed k 0 < 2 ^ 16
   pub no-longer : (k : ℕ) → k < length changed → getD changed k 0 ≤ getD stream k 0 + m
   pub no-shorter : (k : ℕ) → k < length changed → getD stream k 0 ≤ getD changed k 0 + m
 
--- it reads back as a list if the strip reader accepts it, the count given is that list's length, and the front of the output holds that
--- list's items in order, each mark as a mark
+-- it reads back as a list if the strip reader accepts it, the count given is that list's length, and the front of the
+-- output holds that list's items in order, each mark as a mark
 pub record ReadsAs (p : Profile) (changed output ws : List ℕ) : Type 0 where
   pub answer : readRule p changed (length output) ≡ accepted (length ws)
   pub front : take (length ws) (readOutput p changed output) ≡ ws

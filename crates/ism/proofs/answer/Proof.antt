@@ -1,4 +1,5 @@
--- Why `ism::answer` hands over number, place and count: a case of the code for each of the definition. Rests on no axiom.
+-- Why `ism::answer` hands over number, place and count: a case of the code for each of the definition. Rests on no
+-- axiom.
 use Prim.Native.Nat.{ℕ}
 use mathlib.Core.Path.{sym, ap, ap₂, _∙_}
 use Rattle.refusal.specs.Answer.{refused, countedAnswer}

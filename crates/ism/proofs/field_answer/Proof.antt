@@ -1,4 +1,5 @@
--- Why `ism::field_answer` hands over what the field reader gave: a case of the code for each of the definition. Rests on no axiom.
+-- Why `ism::field_answer` hands over what the field reader gave: a case of the code for each of the definition. Rests
+-- on no axiom.
 use Prim.Native.Nat.{ℕ}
 use mathlib.Core.Path.{_≡_, refl, sym, ap, ap₂, _∙_}
 use mathlib.Core.Bool.{Bool, true, false}

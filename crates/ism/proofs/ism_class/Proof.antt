@@ -20,7 +20,8 @@ returns : tie.Need-returns
 returns c =
     c .answer .ensures
     ∙ ap given (c .before .class-number .ensures)
-    ∙ ap (λ (q : Profile). given (classRule q (c .before .before .before .args .interval))) (c .before .before .profile .ensures)
+    ∙ ap (λ (q : Profile). given (classRule q (c .before .before .before .args .interval)))
+    (c .before .before .profile .ensures)
 
 pub ism-class-spec : {M : Type 1} → statement M
 ism-class-spec =

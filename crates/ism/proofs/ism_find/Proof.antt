@@ -21,7 +21,9 @@ returns : tie.Need-returns
 returns c =
     let start = c .before .before .before .before .args in
     c .answer .ensures
-    ∙ ap given (c .before .find-lock .ensures ∙ ap (λ (q : Profile). findRule q (now (start .intervals)) (start .start)) (c .before .before .profile .ensures))
+    ∙ ap given
+    (c .before .find-lock .ensures
+    ∙ ap (λ (q : Profile). findRule q (now (start .intervals)) (start .start)) (c .before .before .profile .ensures))
 
 pub ism-find-spec : {M : Type 1} → statement M
 ism-find-spec = tie.close (tie.spec profile-requires find-lock-requires answer-requires returns)

@@ -1,4 +1,5 @@
--- Why `ism::ism_make_sector` answers as the library does: it hands the arguments over and the answer back. Rests on no axiom.
+-- Why `ism::ism_make_sector` answers as the library does: it hands the arguments over and the answer back. Rests on
+-- no axiom.
 use mathlib.Core.Path.{ap, _∙_}
 use Rattle.ism.specs.Answers.{given}
 use borrow.Author.Needs.{needs}
@@ -16,7 +17,8 @@ same-length c = search needs
 
 returns : tie.Need-returns
 returns c =
-    (c .answer .ensures ∙ ap given (c .before .before .before .make-sector .ensures .0), c .before .before .before .make-sector .ensures .1)
+    let made = c .before .before .before .make-sector .ensures in
+    (c .answer .ensures ∙ ap given (made .0), made .1)
 
 pub ism-make-sector-spec : {M : Type 1} → statement M
 ism-make-sector-spec =

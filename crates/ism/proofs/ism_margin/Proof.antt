@@ -1,4 +1,5 @@
--- Why `ism::ism_margin` answers as the library does: it hands the arguments over and the answer back. Rests on no axiom.
+-- Why `ism::ism_margin` answers as the library does: it hands the arguments over and the answer back. Rests on no
+-- axiom.
 use mathlib.Core.Path.{ap, _∙_}
 use Rattle.timing.specs.declared.Profile.{Profile}
 use Rattle.lengths.specs.Margin.{marginRule}

@@ -1,4 +1,5 @@
--- Why `ism::ism_read_field` answers as the library does: it hands the arguments over and the answer back. Rests on no axiom.
+-- Why `ism::ism_read_field` answers as the library does: it hands the arguments over and the answer back. Rests on no
+-- axiom.
 use mathlib.Core.Path.{ap, _∙_}
 use denote.Ref.{now}
 use lib.ListN.{length}
@@ -28,7 +29,9 @@ returns c =
     let same = c .before .before .before .before .before .profile .ensures in (
       c .field-answer .ensures
           ∙ ap givenField
-          (wrote .0 ∙ ap (λ (q : Profile). fieldReading q (now (start .intervals)) (start .bytes) (length (now (start .out)))) same),
+          (wrote .0
+          ∙ ap (λ (q : Profile). fieldReading q (now (start .intervals)) (start .bytes) (length (now (start .out))))
+          same),
       wrote .1 ∙ ap (λ (q : Profile). fieldOutput q (now (start .intervals)) (start .bytes) (now (start .out))) same,
     )
 

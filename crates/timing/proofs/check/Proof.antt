@@ -1,4 +1,5 @@
--- Why `timing::check` answers `profileRule`: the place that was found and the windows' test are the rule's two tests. Rests on no axiom.
+-- Why `timing::check` answers `profileRule`: the place that was found and the windows' test are the rule's two tests.
+-- Rests on no axiom.
 use Prim.Native.Nat.{ℕ}
 use mathlib.Core.Path.{_≡_, _∙_, sym, ap}
 use mathlib.Core.Bool.{Bool, cond}

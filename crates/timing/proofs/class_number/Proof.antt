@@ -1,4 +1,5 @@
--- Why `timing::class_number` answers `classRule`: a refusal of the profile decides, and an acceptance leaves the class. Rests on no axiom.
+-- Why `timing::class_number` answers `classRule`: a refusal of the profile decides, and an acceptance leaves the
+-- class. Rests on no axiom.
 use mathlib.Core.Path.{ap, _∙_}
 use Rattle.refusal.specs.Answer.{accepted}
 use Rattle.refusal.proofs.AnswerLaws.{verdict-refuses, verdict-passes}

@@ -1,8 +1,9 @@
--- Why `timing::classify` answers `classOf`: code and definition make the same tests in the same order, so the branch that was taken
--- is the case that holds. Rests on no axiom.
+-- Why `timing::classify` answers `classOf`: code and definition make the same tests in the same order, so the branch
+-- that was taken is the case that holds. Rests on no axiom.
 use mathlib.Core.Path.{sym}
 use native.Mathlib.Omega.{arith}
-use Rattle.timing.proofs.ClassLaws.{class-below-min-is-narrow, class-below-b23-is-two, class-below-b34-is-three, class-below-rpt-is-four, class-from-rpt-is-wide}
+use Rattle.timing.proofs.ClassLaws.{class-below-min-is-narrow, class-below-b23-is-two}
+use Rattle.timing.proofs.ClassLaws.{class-below-b34-is-three, class-below-rpt-is-four, class-from-rpt-is-wide}
 use Rattle.timing.proofs.classify.Statement.{statement}
 use Rattle.timing.proofs.classify.Tie as tie
 

@@ -1,4 +1,5 @@
--- Why `timing::first_outside` answers `firstOutside`: its two branches are the definition's two choices. Rests on no axiom.
+-- Why `timing::first_outside` answers `firstOutside`: its two branches are the definition's two choices. Rests on no
+-- axiom.
 use borrow.Author.Tests.{eq-eqb, ne-eqb}
 use Rattle.timing.specs.Profile.{firstOutside}
 use Rattle.timing.proofs.first_outside.Statement.{statement}

@@ -1,5 +1,5 @@
--- Why `timing::lowest_unset` answers `lowestUnset`: nine tests one after the other, each of which keeps the place found before it, find
--- the lowest place. Rests on no axiom.
+-- Why `timing::lowest_unset` answers `lowestUnset`: nine tests one after the other, each of which keeps the place
+-- found before it, find the lowest place. Rests on no axiom.
 use borrow.Author.Needs.{needs}
 use Rattle.timing.proofs.ProfileLaws.{nine-tests-find-lowest}
 use Rattle.timing.proofs.lowest_unset.Statement.{statement}
