@@ -10,7 +10,6 @@ pub mod pen;
 
 use refusal::Counted;
 use refusal::Verdict;
-use timing::Clocks;
 use timing::Profile;
 
 fn least(a: u16, b: u16) -> u16
@@ -38,7 +37,7 @@ fn least_room(p: Profile) -> u16
     requires { ⌜ profileRule p .number ≡ 0 ⌝ }
     ensures { λ r. ⌜ r ≡ marginOf p ⌝ }
 {
-    let d = Clocks(room(p.early.0, p.late.0)).in_half_clocks().0;
+    let d = timing::swing(p).0;
     let three = p.t1.0 + p.t0.0;
     let four = p.t1.0 + 2 * p.t0.0;
     let in_two = room_in(p.min.0, room(d, p.t1.0), p.t1.0, p.b23.0);

@@ -67,7 +67,7 @@ fn lowest_unset(p: Profile) -> u32
 }
 
 // The distance between the latest and the earliest point (document 01's D); 0 where they are out of order.
-fn swing(p: Profile) -> HalfClocks
+pub fn swing(p: Profile) -> HalfClocks
     requires { ⌜ InRange p ⌝ }
     ensures { λ r. ⌜ r .0 ≡ Rattle.timing.specs.Profile.swing p ⌝ }
 {

@@ -7,35 +7,32 @@ use Rattle.lengths.specs.Margin.{marginOf}
 use Rattle.lengths.proofs.least_room.Statement.{statement}
 use Rattle.lengths.proofs.least_room.Tie as tie
 
-room-requires : tie.Need-room-requires
-room-requires c κs = search needs
-
-in-half-clocks-requires : tie.Need-in-half-clocks-requires
-in-half-clocks-requires c κs = let k = kept _ (c .before .pre) in omega arith
+swing-requires : tie.Need-swing-requires
+swing-requires c κs = kept _ (c .pre) .ranges
 
 add-three : tie.Need-add-three
-add-three c = let k = kept _ (c .before .before .before .pre) in omega arith
+add-three c = let k = kept _ (c .before .before .pre) in omega arith
 
 mul-four : tie.Need-mul-four
-mul-four c = let k = kept _ (c .before .before .before .before .pre) in omega arith
+mul-four c = let k = kept _ (c .before .before .before .pre) in omega arith
 
 add-four : tie.Need-add-four
-add-four c = let k = kept _ (c .before .before .before .before .before .pre) in omega arith
+add-four c = let k = kept _ (c .before .before .before .before .pre) in omega arith
 
-room-requires-2 : tie.Need-room-requires-2
-room-requires-2 c κs = search needs
+room-requires : tie.Need-room-requires
+room-requires c κs = search needs
 
 room-in-requires : tie.Need-room-in-requires
 room-in-requires c κs = search needs
 
 add-room-in : tie.Need-add-room-in
-add-room-in c = let k = kept _ (c .before .before .before .before .before .before .before .pre) in omega arith
+add-room-in c = let k = kept _ (c .before .before .before .before .before .before .pre) in omega arith
 
 room-in-requires-2 : tie.Need-room-in-requires-2
 room-in-requires-2 c κs = search needs
 
 add-room-in-2 : tie.Need-add-room-in-2
-add-room-in-2 c = let k = kept _ (c .before .before .before .before .before .before .before .before .pre) in omega arith
+add-room-in-2 c = let k = kept _ (c .before .before .before .before .before .before .before .pre) in omega arith
 
 room-in-requires-3 : tie.Need-room-in-requires-3
 room-in-requires-3 c κs = search needs
@@ -58,21 +55,19 @@ returns c =
       in-four .room-in3 .ensures,
       in-four .before .room-in2 .ensures,
       in-two .room-in .ensures,
-      in-two .before .room2 .ensures,
-      swung .in-half-clocks .ensures,
-      swung .before .room .ensures,
+      in-two .before .room .ensures,
+      swung .swing .ensures,
     )
 
 pub least-room-spec : {M : Type 1} → statement M
 least-room-spec =
     tie.close
     (tie.spec
-    room-requires
-    in-half-clocks-requires
+    swing-requires
     add-three
     mul-four
     add-four
-    room-requires-2
+    room-requires
     room-in-requires
     add-room-in
     room-in-requires-2
