@@ -4,16 +4,15 @@
 -- Rests on no axiom.
 use Prim.Native.Nat.{ℕ, _+_, _≤_, _<_}
 use mathlib.Core.Path.{_≡_, refl, sym, ap, _∙_}
-use mathlib.Core.Bool.{false, true≢false}
+use mathlib.Core.Bool.{true, false, true≢false}
 use mathlib.Core.List.{List, [], _∷_, _++_, map, append-assoc}
 use mathlib.Core.Logic.{⊎-elim}
 use native.Mathlib.Nat.{eq-or-lt-of-le}
 use native.Mathlib.Omega.{arith}
 use borrow.Author.Tests.{le-ltb}
-use lib.Dec.{T}
 use lib.ListN.{length, take, drop, length-append}
 use lib.Seq.{append-snoc, take-append-le, take-at, drop-at}
-use Rattle.lists.specs.Place.{anywhere, passed}
+use Rattle.lists.specs.Place.{anywhere, everywhere, passed}
 use Rattle.lists.specs.Filled.{filled}
 use Rattle.refusal.specs.Answer.{Answer, accepted}
 use Rattle.refusal.proofs.AnswerLaws.{first-refusal-passes, refuse-if-passes, acceptance-fills-the-buffer}
@@ -21,7 +20,8 @@ use Rattle.timing.specs.Profile.{outside, profileRule}
 use Rattle.timing.specs.Class.{classesOf}
 use Rattle.timing.specs.declared.Profile.{Profile}
 use Rattle.timing.specs.declared.Class.{Class}
-use Rattle.symbols.specs.Bits.{Bit, O, I, lastOf, allBits, areBytes}
+use Rattle.items.specs.Item.{isByte}
+use Rattle.symbols.specs.Bits.{Bit, O, I, lastOf, allBits}
 use Rattle.symbols.specs.Reading.{readFrom, readBits}
 use Rattle.symbols.specs.Bytes.{itemsRead, straysRead}
 use Rattle.symbols.specs.Strip.{isStray}
@@ -103,7 +103,7 @@ module _ (us vs : List ℕ) (xs : List Cell) (reads : readBits xs ≡ O ∷ allB
 
   -- ---- what the field reader answers
 
-  module _ (bytes : T (areBytes us)) where
+  module _ (bytes : everywhere isByte us ≡ true) where
     items-are : fieldItems classes n ≡ us
     unfolding fieldItems
     items-are = ap itemsRead bits-are ∙ items-of-whole-bytes us bytes

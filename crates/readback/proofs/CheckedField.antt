@@ -5,7 +5,6 @@ use mathlib.Core.Bool.{Bool, true, false, _&&_}
 use mathlib.Core.List.{List, [], _∷_, _++_, map}
 use native.Mathlib.Omega.{arith}
 use borrow.Author.Tests.{le-ltb}
-use lib.Dec.{T}
 use lib.ListN.{length, length-append}
 use Rattle.lists.specs.Place.{everywhere}
 use Rattle.lists.proofs.PlaceLaws.{everywhere-of-append}
@@ -19,7 +18,7 @@ use Rattle.items.specs.declared.Check.{Check}
 use Rattle.items.proofs.ItemLaws.{data-is-byte}
 use Rattle.items.proofs.CheckLaws.{fresh-bound, after-bytes-bound, high-byte-bound, low-byte-bound}
 use Rattle.items.proofs.CheckLaws.{crc-of-check-bytes-is-zero}
-use Rattle.symbols.specs.Bits.{O, allBits, areBytes}
+use Rattle.symbols.specs.Bits.{O, allBits}
 use Rattle.symbols.specs.Reading.{readBits}
 use Rattle.symbols.specs.declared.Cell.{Cell}
 use Rattle.intervals.proofs.CellLaws.{classOfCell}
@@ -27,7 +26,6 @@ use Rattle.fields.specs.Field.{holdsAfter}
 use Rattle.fields.specs.FieldRule.{FieldAnswer}
 use Rattle.fields.proofs.WrittenFieldLaws.{written-field-is-read, written-field-is-stored}
 use Rattle.unique.specs.Streams.{AcceptedProfile}
-use Rattle.unique.proofs.ListLaws.{bytes-everywhere}
 use Rattle.readback.specs.SectorReads.{withCheck, ReadsField}
 
 module _ (ws : List ℕ) where
@@ -37,15 +35,13 @@ module _ (ws : List ℕ) where
   zero-after : afterBytes fresh (withCheck ws) .register ≡ 0
   zero-after = ap (λ (c : Check). c .register) (crc-of-check-bytes-is-zero fresh ws fresh-bound)
 
-  checked-bytes : everywhere isByte ws ≡ true → T (areBytes (withCheck ws))
+  checked-bytes : everywhere isByte ws ≡ true → everywhere isByte (withCheck ws) ≡ true
   unfolding everywhere
   checked-bytes e =
       let bound = after-bytes-bound fresh ws fresh-bound in
       let r : ℕ = afterBytes fresh ws .register in
-      let all : everywhere isByte (withCheck ws) ≡ true =
       everywhere-of-append isByte ws (checkBytes (afterBytes fresh ws))
-      ∙ rw (e, data-is-byte (highByte r) (high-byte-bound r bound), data-is-byte (lowByte r) (low-byte-bound r)) in
-      subst T (sym all ∙ bytes-everywhere (withCheck ws)) tt
+      ∙ rw (e, data-is-byte (highByte r) (high-byte-bound r bound), data-is-byte (lowByte r) (low-byte-bound r))
 
   pub checked-field-is-read
       : (vs : List ℕ) (xs : List Cell) (n : ℕ) (p : Profile) (ds : List ℕ)
@@ -59,7 +55,7 @@ module _ (ws : List ℕ) where
   unfolding holdsAfter
   checked-field-is-read vs xs n p ds bytes count few reads accepts same =
       let us : List ℕ = withCheck ws in
-      let all : T (areBytes us) = checked-bytes bytes in
+      let all : everywhere isByte us ≡ true = checked-bytes bytes in
       let long = checked-length in
       let in-range : outside 1 1030 (length us) ≡ false =
       rw (le-ltb (length us) 1 (omega arith), le-ltb 1030 (length us) (omega arith)) in

@@ -5,13 +5,14 @@ use mathlib.Core.Path.{_≡_, refl, ap, sym, _∙_}
 use mathlib.Core.Bool.{Bool, true, false, cond}
 use mathlib.Core.List.{List, [], _∷_, _++_, map, append-assoc}
 use native.Mathlib.Omega.{arith}
-use lib.Dec.{T}
 use lib.ListN.{length, length-append}
-use Rattle.lists.specs.Place.{anywhere, passed}
+use Rattle.lists.specs.Place.{anywhere, everywhere, passed}
+use Rattle.lists.proofs.PlaceLaws.{everywhere-of-none, everywhere-of-passing}
+use Rattle.lists.proofs.PlaceLaws.{everywhere-passes-at-first, everywhere-in-rest}
 use Rattle.items.specs.Item.{isMark, isByte}
-use Rattle.symbols.specs.Bits.{Bit, O, byteBits, markBits, withGaps, writtenBits, allBits, areBytes}
+use Rattle.symbols.specs.Bits.{Bit, O, byteBits, markBits, withGaps, writtenBits, allBits}
 use Rattle.symbols.specs.Bytes.{itemOf, rowStrays, rowsOf, straysOf, itemsRead, straysRead}
-use Rattle.symbols.proofs.TestLaws.{both, left-of, neither, right-of}
+use Rattle.symbols.proofs.TestLaws.{holds, held, neither}
 use Rattle.symbols.proofs.PlaceLaws.{anywhere-append}
 use Rattle.symbols.proofs.RowLaws.{item-of-written-byte, written-byte-has-no-stray}
 use Rattle.symbols.proofs.RowLaws.{row-is-a-byte, written-of-row}
@@ -55,33 +56,32 @@ unfolding allBits rowsOf
 rows-of-whole-bytes [] = refl
 rows-of-whole-bytes (w ∷ ws) = rw (written-row w, rows-of-whole-bytes ws)
 
-pub items-of-rows : (ws : List ℕ) → T (areBytes ws) → map itemOf (map writtenBits ws) ≡ ws
-unfolding areBytes
-items-of-rows [] t = refl
-items-of-rows (w ∷ ws) t =
+pub items-of-rows : (ws : List ℕ) → everywhere isByte ws ≡ true → map itemOf (map writtenBits ws) ≡ ws
+items-of-rows [] e = refl
+items-of-rows (w ∷ ws) e =
     rw (
-      item-of-written-byte w (left-of (isByte w) (areBytes ws) t),
-      items-of-rows ws (right-of (isByte w) (areBytes ws) t),
+      item-of-written-byte w (holds (isByte w) (everywhere-passes-at-first isByte w ws e)),
+      items-of-rows ws (everywhere-in-rest isByte w ws e),
     )
 
-pub rows-have-no-stray : (ws : List ℕ) → T (areBytes ws) → anywhere passed (straysOf (map writtenBits ws)) ≡ false
-unfolding areBytes straysOf anywhere
-rows-have-no-stray [] t = refl
-rows-have-no-stray (w ∷ ws) t =
+pub rows-have-no-stray : (ws : List ℕ) → everywhere isByte ws ≡ true → anywhere passed (straysOf (map writtenBits ws)) ≡ false
+unfolding straysOf anywhere
+rows-have-no-stray [] e = refl
+rows-have-no-stray (w ∷ ws) e =
     rw (
       anywhere-append passed (rowStrays (writtenBits w)),
-      written-byte-has-no-stray w (left-of (isByte w) (areBytes ws) t),
-      rows-have-no-stray ws (right-of (isByte w) (areBytes ws) t),
+      written-byte-has-no-stray w (holds (isByte w) (everywhere-passes-at-first isByte w ws e)),
+      rows-have-no-stray ws (everywhere-in-rest isByte w ws e),
     )
 
 -- the bits of bytes, after the lead, read as those bytes
-pub items-of-whole-bytes : (ws : List ℕ) → T (areBytes ws) → itemsRead (O ∷ allBits ws) ≡ ws
+pub items-of-whole-bytes : (ws : List ℕ) → everywhere isByte ws ≡ true → itemsRead (O ∷ allBits ws) ≡ ws
 unfolding itemsRead
-items-of-whole-bytes ws t = rw (rows-of-whole-bytes ws) (items-of-rows ws t)
+items-of-whole-bytes ws e = rw (rows-of-whole-bytes ws) (items-of-rows ws e)
 
-pub whole-bytes-have-no-stray : (ws : List ℕ) → T (areBytes ws) → anywhere passed (straysRead (O ∷ allBits ws)) ≡ false
+pub whole-bytes-have-no-stray : (ws : List ℕ) → everywhere isByte ws ≡ true → anywhere passed (straysRead (O ∷ allBits ws)) ≡ false
 unfolding straysRead anywhere
-whole-bytes-have-no-stray ws t = rw (rows-of-whole-bytes ws) (rows-have-no-stray ws t)
+whole-bytes-have-no-stray ws e = rw (rows-of-whole-bytes ws) (rows-have-no-stray ws e)
 
 -- From rows to bytes
 
@@ -89,14 +89,14 @@ whole-bytes-have-no-stray ws t = rw (rows-of-whole-bytes ws) (rows-have-no-stray
 pub record Whole (bs : List Bit) : Type 0 where
   pub last : Bit
   pub letters : bs ≡ allBits (map itemOf (rowsOf bs)) ++ (last ∷ [])
-  pub bytes : T (areBytes (map itemOf (rowsOf bs)))
+  pub bytes : everywhere isByte (map itemOf (rowsOf bs)) ≡ true
 
 -- a row without a gap out of place in front of such letters
 whole-row :
     (a b c d e f g h : Bit) (bs : List Bit) → anywhere passed (rowStrays (a ∷ b ∷ c ∷ d ∷ e ∷ f ∷ g ∷ h ∷ [])) ≡ false
     → Whole bs
     → Whole (a ∷ b ∷ c ∷ d ∷ e ∷ f ∷ g ∷ h ∷ bs)
-unfolding rowsOf allBits areBytes
+unfolding rowsOf allBits
 whole-row a b c d e f g h bs fair w =
     record {
       last = w .last;
@@ -104,14 +104,15 @@ whole-row a b c d e f g h bs fair w =
           rw (written-of-row a b c d e f g h fair)
           (ap (λ (x : List Bit). a ∷ b ∷ c ∷ d ∷ e ∷ f ∷ g ∷ h ∷ x) (w .letters));
       bytes =
-          both (isByte (itemOf (a ∷ b ∷ c ∷ d ∷ e ∷ f ∷ g ∷ h ∷ []))) (areBytes (map itemOf (rowsOf bs)))
-          (row-is-a-byte a b c d e f g h fair) (w .bytes);
+          everywhere-of-passing isByte (itemOf (a ∷ b ∷ c ∷ d ∷ e ∷ f ∷ g ∷ h ∷ [])) (map itemOf (rowsOf bs))
+          (held _ (row-is-a-byte a b c d e f g h fair))
+          ∙ w .bytes;
     }
 
 pub whole : (bs : List Bit) → length bs % 8 ≡ 1 → anywhere passed (straysOf (rowsOf bs)) ≡ false → Whole bs
-unfolding rowsOf straysOf allBits areBytes
+unfolding rowsOf straysOf allBits
 whole [] n fair = absurd (omega arith)
-whole (a ∷ []) n fair = record { last = a; letters = refl; bytes = tt }
+whole (a ∷ []) n fair = record { last = a; letters = refl; bytes = everywhere-of-none isByte }
 whole (a ∷ b ∷ []) n fair = absurd (omega arith)
 whole (a ∷ b ∷ c ∷ []) n fair = absurd (omega arith)
 whole (a ∷ b ∷ c ∷ d ∷ []) n fair = absurd (omega arith)

@@ -9,9 +9,10 @@ use native.Mathlib.Omega.{arith}
 use borrow.Author.Tests.{le-ltb, eq-eqb, eqb-true, ltb-false, not-false}
 use lib.Dec.{T, eqb, ltb}
 use lib.ListN.{length, length-append}
-use Rattle.lists.specs.Place.{anywhere}
+use Rattle.lists.specs.Place.{anywhere, everywhere}
+use Rattle.items.specs.Item.{isByte}
 use Rattle.refusal.specs.Answer.{accepted, refuseIf}
-use Rattle.symbols.specs.Bits.{Bit, O, I, G, isOne, lastOf, allBits, bitsOf, areBytes}
+use Rattle.symbols.specs.Bits.{Bit, O, I, G, isOne, lastOf, allBits, bitsOf}
 use Rattle.symbols.specs.Cells.{writtenSymbols, writtenCells}
 use Rattle.symbols.specs.Reading.{units, given, lastAfter, readFrom, readBits}
 use Rattle.symbols.specs.Bytes.{isGap, itemOf, rowsOf, itemsRead, straysRead}
@@ -60,7 +61,7 @@ pub record ReadBack (ws : List ℕ) (cs : List Cell) : Type 0 where
   pub count : bytesRead (readBits cs) ≡ length ws
   pub items : stripItems cs ≡ ws
 
-pub read-back : (ws : List ℕ) (cs : List Cell) → T (areBytes ws) → map units cs ≡ writtenCells ws → ReadBack ws cs
+pub read-back : (ws : List ℕ) (cs : List Cell) → everywhere isByte ws ≡ true → map units cs ≡ writtenCells ws → ReadBack ws cs
 unfolding isStray stripItems itemsRead straysRead anywhere
 read-back ws cs t h =
     let e = read-of-write ws cs h in
@@ -73,7 +74,7 @@ read-back ws cs t h =
 
 -- a list of at most 6,400 bytes is accepted
 pub rule-of-write :
-    (ws : List ℕ) (cs : List Cell) → T (areBytes ws) → length ws ≤ 6400 → map units cs ≡ writtenCells ws
+    (ws : List ℕ) (cs : List Cell) → everywhere isByte ws ≡ true → length ws ≤ 6400 → map units cs ≡ writtenCells ws
     → stripRule cs ≡ accepted (length ws)
 unfolding stripRule
 rule-of-write ws cs t few h =
@@ -82,7 +83,7 @@ rule-of-write ws cs t few h =
 
 -- two different lists never have the same cells
 pub cells-injective :
-    (ws ws′ : List ℕ) → T (areBytes ws) → T (areBytes ws′) → writtenCells ws ≡ writtenCells ws′ → ws ≡ ws′
+    (ws ws′ : List ℕ) → everywhere isByte ws ≡ true → everywhere isByte ws′ ≡ true → writtenCells ws ≡ writtenCells ws′ → ws ≡ ws′
 cells-injective ws ws′ t t′ h =
     let r = cells-are-read ws in
     sym (read-back ws (r .0) t (r .1) .items) ∙ read-back ws′ (r .0) t′ (r .1 ∙ h) .items
@@ -140,20 +141,20 @@ module _
         in
         zero-of (rows .last) (rw e at (ends .1)) (rw e at no-gap)
 
-    read-letters : (O ∷ bs ≡ O ∷ allBits (itemsRead (O ∷ bs)) ++ (O ∷ [])) × T (areBytes (itemsRead (O ∷ bs)))
+    read-letters : (O ∷ bs ≡ O ∷ allBits (itemsRead (O ∷ bs)) ++ (O ∷ [])) × (everywhere isByte (itemsRead (O ∷ bs)) ≡ true)
     unfolding itemsRead
     read-letters = (ap (λ (x : List Bit). O ∷ x) (rw closing-is-zero at (rows .letters)), rows .bytes)
 
 -- what the cells of an accepted strip are
 pub record Accepted (cs : List Cell) : Type 0 where
   pub cells : writtenCells (stripItems cs) ≡ map units cs
-  pub bytes : T (areBytes (stripItems cs))
+  pub bytes : everywhere isByte (stripItems cs) ≡ true
   pub count : length (stripItems cs) ≡ bytesRead (readBits cs)
   pub few : bytesRead (readBits cs) ≤ 6400
 
 accepted-letters :
     (cs : List Cell) → isRagged (readBits cs) ≡ false → isStray (readBits cs) ≡ false
-    → (readBits cs ≡ O ∷ allBits (stripItems cs) ++ (O ∷ [])) × T (areBytes (stripItems cs))
+    → (readBits cs ≡ O ∷ allBits (stripItems cs) ++ (O ∷ [])) × (everywhere isByte (stripItems cs) ≡ true)
 unfolding stripItems lastOf
 accepted-letters cs whole-bytes in-place =
     let lead = lead-is-zero cs whole-bytes in-place in

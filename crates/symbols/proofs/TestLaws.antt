@@ -30,6 +30,10 @@ pub holds : (a : Bool) → a ≡ true → T a
 holds true h = tt
 holds false h = true≢false (sym h)
 
+pub held : (a : Bool) → T a → a ≡ true
+held true t = refl
+held false t = absurd t
+
 pub fails : (a : Bool) → T (not a) → a ≡ false
 fails true t = absurd t
 fails false t = refl

@@ -5,7 +5,7 @@ use Prim.Native.Nat.{ℕ, _/_, _%_}
 use mathlib.Core.Bool.{Bool, true, false, cond, _&&_, _||_}
 use mathlib.Core.List.{List, [], _∷_, _++_}
 use lib.Dec.{eqb}
-use Rattle.items.specs.Item.{isMark, isByte}
+use Rattle.items.specs.Item.{isMark}
 
 -- a bit: 0, 1, or a 0 that begins a mark's gap
 pub data Bit : Type 0 where
@@ -49,11 +49,6 @@ withGaps b2 b1 (b ∷ next ∷ bs) = gapped b2 b1 b next ∷ withGaps b1 b (next
 
 unfoldable pub markBits : ℕ → List Bit
 markBits b = withGaps O O (byteBits b)
-
--- all are data or mark bytes
-unfoldable pub areBytes : List ℕ → Bool
-areBytes [] = true
-areBytes (w ∷ ws) = isByte w && areBytes ws
 
 -- the letters of a written byte: of a mark byte with its gap
 unfoldable pub writtenBits : ℕ → List Bit
