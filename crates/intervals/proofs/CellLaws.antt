@@ -11,7 +11,8 @@ use Rattle.symbols.specs.Step.{stepped}
 use Rattle.symbols.specs.declared.Cell.{Cell}
 use Rattle.symbols.specs.declared.Cell.the-variants.{Short, Medium, Long}
 use Rattle.symbols.specs.declared.Reading.{Reading}
-use Rattle.intervals.specs.Cells.{byClass, advanced}
+use Rattle.intervals.specs.Cells.{byClass, taken, advanced}
+use Rattle.intervals.specs.declared.Taken.the-variants.{Read, Refused}
 use Rattle.intervals.specs.declared.Scan.the-variants.{Whole, Stopped}
 
 -- a class that is read as a cell
@@ -42,6 +43,22 @@ module _ (m : Reading) (k : ℕ) where
   pub advanced-by-cell : {c : Class} {x : Cell} → ReadAs c x → advanced m c k ≡ Whole (stepped m x k)
   unfolding advanced
   advanced-by-cell r = by-class-read _ _ _ r
+
+  pub advanced-by-taken : (c : Class) (x : Cell) → Read x ≡ taken c k → Whole (stepped m x k) ≡ advanced m c k
+  unfolding advanced taken
+  advanced-by-taken Narrow x e = absurd (let z : _≡_ {A = ℕ} 0 1 = cc in omega arith)
+  advanced-by-taken Two x e = let same : x ≡ Short = cc in rw same
+  advanced-by-taken Three x e = let same : x ≡ Medium = cc in rw same
+  advanced-by-taken Four x e = let same : x ≡ Long = cc in rw same
+  advanced-by-taken Wide x e = absurd (let z : _≡_ {A = ℕ} 0 1 = cc in omega arith)
+
+  pub stopped-by-taken : (c : Class) (r : Refusal) → Refused r ≡ taken c k → Stopped r ≡ advanced m c k
+  unfolding advanced taken
+  stopped-by-taken Narrow r e = let same : r ≡ IntervalTooShort k = cc in rw same
+  stopped-by-taken Two r e = absurd (let z : _≡_ {A = ℕ} 0 1 = cc in omega arith)
+  stopped-by-taken Three r e = absurd (let z : _≡_ {A = ℕ} 0 1 = cc in omega arith)
+  stopped-by-taken Four r e = absurd (let z : _≡_ {A = ℕ} 0 1 = cc in omega arith)
+  stopped-by-taken Wide r e = let same : r ≡ IntervalTooLong k = cc in rw same
 
   -- where the machine goes on, the class was read as a cell
   pub record GoesOn (c : Class) (next : Reading) : Type 0 where

@@ -7,6 +7,8 @@ use Rattle.symbols.specs.Step.{stepped}
 use Rattle.symbols.specs.declared.Cell.{Cell}
 use Rattle.symbols.specs.declared.Cell.the-variants.{Short, Medium, Long}
 use Rattle.symbols.specs.declared.Reading.{Reading}
+use Rattle.intervals.specs.declared.Taken.{Taken}
+use Rattle.intervals.specs.declared.Taken.the-variants.{Read, Refused}
 use Rattle.intervals.specs.declared.Scan.{Scan}
 use Rattle.intervals.specs.declared.Scan.the-variants.{Whole, Stopped}
 
@@ -17,6 +19,10 @@ byClass Two narrow read wide = read Short
 byClass Three narrow read wide = read Medium
 byClass Four narrow read wide = read Long
 byClass Wide narrow read wide = wide
+
+-- an interval as a cell, or the refusal that stops the reading
+unfoldable pub taken : Class → ℕ → Taken
+taken c k = byClass c (Refused (IntervalTooShort k)) Read (Refused (IntervalTooLong k))
 
 -- the reading machine after one interval more, at place k
 unfoldable pub advanced : Reading → Class → ℕ → Scan
