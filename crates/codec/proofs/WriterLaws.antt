@@ -1,14 +1,14 @@
 -- The writer's answers by its tests: where profile and list are accepted, the stream of the written bytes and the room decide.
 -- Rests on no axiom.
-use Prim.Native.Nat.{ℕ, _+_, _≤_, _<_}
+use Prim.Native.Nat.{ℕ, _+_, _*_, _≤_, _<_}
 use mathlib.Core.Path.{_≡_, refl, sym, ap, subst, _∙_}
 use mathlib.Core.Bool.{Bool, true, false, cond, _||_, true≢false}
 use mathlib.Core.List.{List, [], _∷_, _++_}
-use lib.Dec.{ltb}
+use lib.Dec.{ltb, leb}
 use native.Mathlib.Omega.{arith}
-use lib.ListN.{length, take}
+use lib.ListN.{length, length-append, take}
 use lib.Seq.{sets, length-sets, length-take-le}
-use borrow.Author.Tests.{lt-ltb, le-ltb, ltb-false}
+use borrow.Author.Tests.{lt-ltb, le-ltb, ltb-false, leb-true, leb-false}
 use Rattle.lists.specs.Place.{anywhere, lowest}
 use Rattle.lists.specs.Filled.{filled, storedAt}
 use Rattle.lists.proofs.StoreLaws.{stored-after-stored, stored-at-front-fills}
@@ -21,49 +21,82 @@ use Rattle.symbols.specs.Bits.{O, allBits}
 use Rattle.timing.specs.Profile.{profileRule}
 use Rattle.timing.specs.declared.Profile.{Profile}
 use Rattle.lengths.specs.Pen.{inked, penAfter, freshPen}
-use Rattle.lengths.specs.Letters.{cellsAfter}
+use Rattle.lengths.specs.Letters.{bitAt, cellsEnding, cellsAfter}
 use Rattle.lengths.specs.Stream.{byteStream, streamOf, listRule}
 use Rattle.lengths.specs.declared.pen.Pen.{Pen}
 use Rattle.lengths.proofs.PenLaws.{pen-gives-the-stream, inked-append}
+use Rattle.lengths.proofs.CountLaws.{a-byte-ends-few-cells}
 use Rattle.lengths.proofs.CellCountLaws.{stream-length-is-the-sum}
 use Rattle.codec.specs.Writer.{streamRule, writeRule, writeOutput}
 
 -- the bytes' bits and then the closing 0s are the stream
-pub stream-in-two-parts
-    : (p : Profile) (ws old middle : List ℕ) (pen : Pen) (at : ℕ)
-    → pen ≡ penAfter p (freshPen p) (allBits ws)
-    → at ≡ 0 + length (inked p (freshPen p) (allBits ws))
-    → middle ≡ storedAt old 0 (inked p (freshPen p) (allBits ws))
-    → storedAt middle at (inked p pen (O ∷ O ∷ O ∷ [])) ≡ storedAt old 0 (byteStream p ws)
-stream-in-two-parts p ws old middle pen at pens places stores =
-    let front = inked p (freshPen p) (allBits ws) in
-    let closing = inked p (penAfter p (freshPen p) (allBits ws)) (O ∷ O ∷ O ∷ []) in
-    ap (λ (q : Pen). storedAt middle at (inked p q (O ∷ O ∷ O ∷ []))) pens
-    ∙ ap (λ (l : List ℕ). storedAt l at closing) stores
-    ∙ stored-after-stored front closing old 0 at places
-    ∙ ap (storedAt old 0)
-    (sym (inked-append p (freshPen p) (allBits ws) (O ∷ O ∷ O ∷ [])) ∙ pen-gives-the-stream p ws)
+module _ (p : Profile) (ws : List ℕ) (pen : Pen) (at : ℕ) (pens : pen ≡ penAfter p (freshPen p) (allBits ws))
+    (places : at ≡ 0 + length (inked p (freshPen p) (allBits ws))) where
+  both-parts
+      : inked p (freshPen p) (allBits ws) ++ inked p pen (O ∷ O ∷ O ∷ []) ≡ byteStream p ws
+  both-parts =
+      ap (λ (q : Pen). inked p (freshPen p) (allBits ws) ++ inked p q (O ∷ O ∷ O ∷ [])) pens
+      ∙ sym (inked-append p (freshPen p) (allBits ws) (O ∷ O ∷ O ∷ []))
+      ∙ pen-gives-the-stream p ws
 
-module _ (p : Profile) (ws old : List ℕ) (count : ℕ) (counted : count ≡ cellsAfter false ws) where
-  length-is-count : length (byteStream p ws) ≡ count
-  length-is-count = stream-length-is-the-sum p ws ∙ sym counted
+  pub length-in-two-parts : at + length (inked p pen (O ∷ O ∷ O ∷ [])) ≡ length (byteStream p ws)
+  length-in-two-parts =
+      let front = inked p (freshPen p) (allBits ws) in
+      let closing = inked p pen (O ∷ O ∷ O ∷ []) in
+      let sum : at + length closing ≡ length front + length closing = omega arith in
+      sum ∙ sym (length-append front closing) ∙ ap length both-parts
 
+  pub stream-in-two-parts
+      : (old middle : List ℕ)
+      → middle ≡ storedAt old 0 (inked p (freshPen p) (allBits ws))
+      → storedAt middle at (inked p pen (O ∷ O ∷ O ∷ [])) ≡ storedAt old 0 (byteStream p ws)
+  stream-in-two-parts old middle stores =
+      let front = inked p (freshPen p) (allBits ws) in
+      let closing = inked p pen (O ∷ O ∷ O ∷ []) in
+      ap (λ (l : List ℕ). storedAt l at closing) stores
+      ∙ stored-after-stored front closing old 0 at places
+      ∙ ap (storedAt old 0) both-parts
+
+-- a byte ends eight cells at most, and the closing 0s end two
+few-cells-of-a-byte : (last : Bool) (w : ℕ) → cellsEnding last w ≤ 8
+few-cells-of-a-byte true w = a-byte-ends-few-cells 1 w
+few-cells-of-a-byte false w = a-byte-ends-few-cells 0 w
+
+few-closing-cells : (last : Bool) → cond last 1 2 ≤ 2
+few-closing-cells true = omega arith
+few-closing-cells false = omega arith
+
+pub few-cells : (last : Bool) (ws : List ℕ) → cellsAfter last ws ≤ 8 * length ws + 2
+unfolding cellsAfter
+few-cells last [] = let few = few-closing-cells last in omega arith
+few-cells last (w ∷ ws) =
+    let few = few-cells-of-a-byte last w in
+    let rest = few-cells (bitAt w 0) ws in
+    omega arith
+
+-- the room decides
+module _ (p : Profile) (ws old : List ℕ) where
   pub too-short
-      : length old < count
+      : leb (cellsAfter false ws) (length old) ≡ false
       → (refused 9 0 ≡ streamRule p ws (length old)) × (old ≡ settled (streamRule p ws (length old)) (byteStream p ws) old)
   unfolding streamRule
-  too-short h = rw (length-is-count, lt-ltb (length old) count h) (refl, refl)
+  too-short e =
+      let h = leb-false (cellsAfter false ws) (length old) e in
+      rw (stream-length-is-the-sum p ws, lt-ltb (length old) (cellsAfter false ws) h) (refl, refl)
 
   pub long-enough
-      : count ≤ length old
-      → (stored : List ℕ)
+      : leb (cellsAfter false ws) (length old) ≡ true
+      → (count : ℕ) (stored : List ℕ)
+      → count ≡ length (byteStream p ws)
       → stored ≡ storedAt old 0 (byteStream p ws)
       → (accepted count ≡ streamRule p ws (length old))
       × (stored ≡ settled (streamRule p ws (length old)) (byteStream p ws) old)
   unfolding streamRule
-  long-enough h stored e =
-      rw (length-is-count, le-ltb (length old) count h)
-      (refl, e ∙ stored-at-front-fills (byteStream p ws) old (subst (λ (n : ℕ). n ≤ length old) (sym length-is-count) h))
+  long-enough e count stored counted stores =
+      let h : length (byteStream p ws) ≤ length old =
+      rw (stream-length-is-the-sum p ws) (leb-true (cellsAfter false ws) (length old) e) in
+      rw (le-ltb (length old) (length (byteStream p ws)) h)
+      (ap accepted counted, stores ∙ stored-at-front-fills (byteStream p ws) old h)
 
 -- an accepted list writes at most 6,400 bytes
 both-false : (a b : Bool) → (a || b) ≡ false → b ≡ false

@@ -3,6 +3,7 @@ ghost use Prim.Native.Nat.{_+_, _*_, _≤_, _<_};
 ghost use mathlib.Core.Path.{_≡_};
 ghost use mathlib.Core.Bool.{false};
 ghost use mathlib.Core.List.{[], _∷_};
+ghost use lib.Dec.{leb};
 ghost use lib.ListN.{length};
 ghost use Rattle.lists.specs.Filled.{storedAt};
 ghost use Rattle.refusal.specs.Answer.{verdictAnswer, countedAnswer, settled};
@@ -71,15 +72,16 @@ fn write_zero(p: Profile, track: Track, out: &mut [u16]) -> Track
     Track { pen, at }
 }
 
-// The two closing 0s, and a third that only ends the last cell.
-fn write_closing(p: Profile, track: Track, out: &mut [u16])
+// The two closing 0s, and a third that only ends the last cell. Answers the next place.
+fn write_closing(p: Profile, track: Track, out: &mut [u16]) -> usize
     requires { ⌜ Steady p (track .pen) ⌝ }
     requires { ⌜ track .at < 64000 ⌝ }
-    ensures { λ _. ⌜ now (out .exit) ≡ storedAt (now (out .entry)) (track .at) (inked p (track .pen) (O ∷ O ∷ O ∷ [])) ⌝ }
+    ensures { λ r. ⌜ (r ≡ track .at + length (inked p (track .pen) (O ∷ O ∷ O ∷ []))) × (now (out .exit) ≡ storedAt (now (out .entry)) (track .at) (inked p (track .pen) (O ∷ O ∷ O ∷ []))) ⌝ }
 {
     let first = write_zero(p, track, out);
     let second = write_zero(p, first, out);
-    write_zero(p, second, out);
+    let third = write_zero(p, second, out);
+    third.at
 }
 
 // The bits of written bytes, from the front of the output on.
@@ -100,14 +102,14 @@ fn write_bytes(p: Profile, bytes: &[u16], out: &mut [u16]) -> Track
     track
 }
 
-// The stream of written bytes.
-fn write_stream(p: Profile, bytes: &[u16], out: &mut [u16])
+// The stream of written bytes. Answers its length.
+fn write_stream(p: Profile, bytes: &[u16], out: &mut [u16]) -> usize
     requires { ⌜ profileRule p .number ≡ 0 ⌝ }
     requires { ⌜ length (now bytes) ≤ 6400 ⌝ }
-    ensures { λ _. ⌜ now (out .exit) ≡ storedAt (now (out .entry)) 0 (byteStream p (now (bytes .entry))) ⌝ }
+    ensures { λ r. ⌜ (r ≡ length (byteStream p (now (bytes .entry)))) × (now (out .exit) ≡ storedAt (now (out .entry)) 0 (byteStream p (now (bytes .entry)))) ⌝ }
 {
     let track = write_bytes(p, bytes, out);
-    write_closing(p, track, out);
+    write_closing(p, track, out)
 }
 
 // How many intervals written bytes make.
@@ -129,6 +131,18 @@ fn count_cells(bytes: &[u16]) -> usize
     } else {
         count + 2
     }
+}
+
+// Whether the cells of written bytes have room in an output of so many places. A byte ends eight at most and the closing
+// 0s two: where there is room for so many, none is counted.
+fn has_room(bytes: &[u16], room: usize) -> bool
+    requires { ⌜ length (now bytes) ≤ 6400 ⌝ }
+    ensures { λ r. ⌜ r ≡ leb (cellsAfter false (now (bytes .entry))) room ⌝ }
+{
+    if 8 * bytes.len() + 2 <= room {
+        return true;
+    }
+    count_cells(bytes) <= room
 }
 
 // Whether the list may be written: 4, then 3.
@@ -154,12 +168,11 @@ fn write_all(p: Profile, bytes: &[u16], out: &mut [u16]) -> Counted
     requires { ⌜ length (now bytes) ≤ 6400 ⌝ }
     ensures { λ r. ⌜ (countedAnswer r ≡ streamRule p (now (bytes .entry)) (length (now (out .entry)))) × (now (out .exit) ≡ settled (streamRule p (now (bytes .entry)) (length (now (out .entry)))) (byteStream p (now (bytes .entry))) (now (out .entry))) ⌝ }
 {
-    let count = count_cells(bytes);
-    if out.len() < count {
-        return Counted::Refused(Refusal::OutputTooShort);
+    if has_room(bytes, out.len()) {
+        let count = write_stream(p, bytes, out);
+        return Counted::Count(count);
     }
-    write_stream(p, bytes, out);
-    Counted::Count(count)
+    Counted::Refused(Refusal::OutputTooShort)
 }
 
 // An accepted list under an accepted profile. Its bytes are made once, so that the check register runs once.

@@ -7,7 +7,7 @@ use Rattle.symbols.proofs.BytesLaws.{length-of-bits}
 use Rattle.lengths.specs.Pen.{freshPen, Steady}
 use Rattle.lengths.proofs.SteadyLaws.{fresh-pen-is-steady, pen-stays-steady}
 use Rattle.codec.proofs.InkLaws.{inked-at-most}
-use Rattle.codec.proofs.WriterLaws.{stream-in-two-parts}
+use Rattle.codec.proofs.WriterLaws.{length-in-two-parts, stream-in-two-parts}
 use borrow.Author.Needs.{needs}
 use Rattle.codec.proofs.writer.write_stream.Statement.{statement}
 use Rattle.codec.proofs.writer.write_stream.Tie as tie
@@ -32,7 +32,10 @@ same-length c = search needs
 returns : tie.Need-returns
 returns c =
     let wrote = c .before .before .before .before .before .before .write-bytes .ensures in
-    c .before .before .write-closing .ensures ∙ stream-in-two-parts _ _ _ _ _ _ (wrote .0) (wrote .1) (wrote .2)
+    let closed = c .before .before .write-closing .ensures in (
+      closed .0 ∙ length-in-two-parts _ _ _ _ (wrote .0) (wrote .1),
+      closed .1 ∙ stream-in-two-parts _ _ _ _ (wrote .0) (wrote .1) _ _ (wrote .2),
+    )
 
 pub write-stream-spec : {M : Type 1} → statement M
 write-stream-spec =
