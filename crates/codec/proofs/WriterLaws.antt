@@ -15,19 +15,20 @@ use Rattle.lists.proofs.StoreLaws.{stored-after-stored, stored-at-front-fills}
 use Rattle.refusal.specs.Answer.{Answer, accepted, refused, firstRefusal, settled}
 use Rattle.refusal.proofs.AnswerLaws.{first-refusal-passes, refuse-if-accepts}
 use Rattle.items.specs.Item.{isForeign, writtenBytes}
-use Rattle.items.specs.Written.{written}
+use Rattle.items.specs.Written.{writtenFrom, written}
+use Rattle.items.specs.declared.Check.{Check}
+use Rattle.items.proofs.ItemLaws.{written-bytes-bounds}
 use Rattle.items.proofs.WrittenLaws.{front-of-stored-bytes}
 use Rattle.symbols.specs.Bits.{O, allBits}
+use Rattle.symbols.proofs.BytesLaws.{length-of-bits}
 use Rattle.timing.specs.Profile.{profileRule}
 use Rattle.timing.specs.declared.Profile.{Profile}
 use Rattle.lengths.specs.Pen.{inked, penAfter, freshPen}
-use Rattle.lengths.specs.Letters.{bitAt, cellsEnding, cellsAfter}
 use Rattle.lengths.specs.Stream.{byteStream, streamOf, listRule}
 use Rattle.lengths.specs.declared.pen.Pen.{Pen}
 use Rattle.lengths.proofs.PenLaws.{pen-gives-the-stream, inked-append}
-use Rattle.lengths.proofs.CountLaws.{a-byte-ends-few-cells}
-use Rattle.lengths.proofs.CellCountLaws.{stream-length-is-the-sum}
 use Rattle.codec.specs.Writer.{streamRule, writeRule, writeOutput}
+use Rattle.codec.proofs.InkLaws.{fresh-pen-gives-fewer}
 
 -- the bytes' bits and then the closing 0s are the stream
 module _ (p : Profile) (ws : List ℕ) (pen : Pen) (at : ℕ) (pens : pen ≡ penAfter p (freshPen p) (allBits ws))
@@ -57,35 +58,27 @@ module _ (p : Profile) (ws : List ℕ) (pen : Pen) (at : ℕ) (pens : pen ≡ pe
       ∙ stored-after-stored front closing old 0 at places
       ∙ ap (storedAt old 0) both-parts
 
--- a byte ends eight cells at most, and the closing 0s end two
-few-cells-of-a-byte : (last : Bool) (w : ℕ) → cellsEnding last w ≤ 8
-few-cells-of-a-byte true w = a-byte-ends-few-cells 1 w
-few-cells-of-a-byte false w = a-byte-ends-few-cells 0 w
-
-few-closing-cells : (last : Bool) → cond last 1 2 ≤ 2
-few-closing-cells true = omega arith
-few-closing-cells false = omega arith
-
-pub few-cells : (last : Bool) (ws : List ℕ) → cellsAfter last ws ≤ 8 * length ws + 2
-unfolding cellsAfter
-few-cells last [] = let few = few-closing-cells last in omega arith
-few-cells last (w ∷ ws) =
-    let few = few-cells-of-a-byte last w in
-    let rest = few-cells (bitAt w 0) ws in
+-- a byte ends eight cells at most, and the closing 0s end two: of the bits with one 0 more, the first ends none
+pub few-cells : (p : Profile) (ws : List ℕ) → length (byteStream p ws) ≤ 8 * length ws + 2
+few-cells p ws =
+    let bits = allBits ws ++ (O ∷ O ∷ O ∷ []) in
+    let stream : length (inked p (freshPen p) bits) ≡ length (byteStream p ws) = ap length (pen-gives-the-stream p ws) in
+    let many : length bits ≡ 8 * length ws + 3 =
+    length-append (allBits ws) (O ∷ O ∷ O ∷ []) ∙ ap (λ (n : ℕ). n + 3) (length-of-bits ws) in
+    let most = fresh-pen-gives-fewer p bits in
     omega arith
 
 -- the room decides
 module _ (p : Profile) (ws old : List ℕ) where
   pub too-short
-      : leb (cellsAfter false ws) (length old) ≡ false
+      : leb (length (byteStream p ws)) (length old) ≡ false
       → (refused 9 0 ≡ streamRule p ws (length old)) × (old ≡ settled (streamRule p ws (length old)) (byteStream p ws) old)
   unfolding streamRule
   too-short e =
-      let h = leb-false (cellsAfter false ws) (length old) e in
-      rw (stream-length-is-the-sum p ws, lt-ltb (length old) (cellsAfter false ws) h) (refl, refl)
+      rw (lt-ltb (length old) (length (byteStream p ws)) (leb-false (length (byteStream p ws)) (length old) e)) (refl, refl)
 
   pub long-enough
-      : leb (cellsAfter false ws) (length old) ≡ true
+      : leb (length (byteStream p ws)) (length old) ≡ true
       → (count : ℕ) (stored : List ℕ)
       → count ≡ length (byteStream p ws)
       → stored ≡ storedAt old 0 (byteStream p ws)
@@ -93,8 +86,7 @@ module _ (p : Profile) (ws old : List ℕ) where
       × (stored ≡ settled (streamRule p ws (length old)) (byteStream p ws) old)
   unfolding streamRule
   long-enough e count stored counted stores =
-      let h : length (byteStream p ws) ≤ length old =
-      rw (stream-length-is-the-sum p ws) (leb-true (cellsAfter false ws) (length old) e) in
+      let h = leb-true (length (byteStream p ws)) (length old) e in
       rw (le-ltb (length old) (length (byteStream p ws)) h)
       (ap accepted counted, stores ∙ stored-at-front-fills (byteStream p ws) old h)
 
@@ -124,22 +116,22 @@ module _ (p : Profile) (items old : List ℕ) where
   unfolding writeOutput streamOf
   output-of-stream h g = ap (λ (a : Answer). settled a (byteStream p (written items)) old) (rule-of-stream h g)
 
--- the front of a buffer for 6,400 bytes after an accepted list's bytes were stored there
-module _ (items out old : List ℕ) (n : ℕ) (count : n ≡ writtenBytes items) (stored : out ≡ sets old 0 (written items))
-    (room : length old ≡ 6400) (accepts : listRule items .number ≡ 0) where
+-- the front of a buffer for 128 bytes, after the bytes of at most 64 items were stored there
+module _ (check : Check) (items out old : List ℕ) (n : ℕ) (count : n ≡ writtenBytes items)
+    (stored : out ≡ sets old 0 (writtenFrom check items)) (room : length old ≡ 128) (few : length items ≤ 64) where
+  pub part-is-short : n ≤ 128
+  part-is-short = let most = written-bytes-bounds items .1 in omega arith
+
   pub bytes-fit : n ≤ length out
   bytes-fit =
-      let same : length out ≡ length old = ap length stored ∙ length-sets old 0 (written items) in
-      let few = few-bytes items accepts in
+      let same : length out ≡ length old = ap length stored ∙ length-sets old 0 (writtenFrom check items) in
+      let short = part-is-short in
       omega arith
 
   pub front-length : n ≡ length (take n out)
   front-length = sym (length-take-le n out bytes-fit)
 
-  pub front-is-short : length (take n out) ≤ 6400
-  front-is-short = let few = few-bytes items accepts in let same = front-length in omega arith
-
-  pub front-is-written : take n out ≡ written items
+  pub front-is-written : take n out ≡ writtenFrom check items
   front-is-written =
-      front-of-stored-bytes items n out old count stored
-      (subst (λ (m : ℕ). writtenBytes items ≤ m) (sym room) (few-bytes items accepts))
+      let most = written-bytes-bounds items .1 in
+      front-of-stored-bytes check items n out old count stored (omega arith)
