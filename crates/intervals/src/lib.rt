@@ -5,25 +5,20 @@ ghost use mathlib.Core.Path.{_≡_};
 ghost use lib.ListN.{length};
 ghost use Rattle.lists.specs.Filled.{storedAt};
 ghost use Rattle.symbols.specs.Step.{itemsOf};
-ghost use Rattle.intervals.specs.Cells.{taken, advanced};
+ghost use Rattle.intervals.specs.Cells.{taken};
 use refusal::Refusal;
 use symbols::Cell;
 use symbols::Reading;
 use timing::Class;
 
-// How far a pass came: through all its intervals, or to one that is too short or too long.
-pub enum Scan {
-    Whole(Reading),
-    Stopped(Refusal),
-}
-
 // What an interval is to a reader: a cell, or the refusal that stops its pass.
-enum Taken {
+pub enum Taken {
     Read(Cell),
     Refused(Refusal),
 }
 
-fn take(class: Class, at: u32) -> Taken
+// An interval of this class, which stands at this place of the caller's list.
+pub fn take(class: Class, at: u32) -> Taken
     ensures { λ r. ⌜ r ≡ taken class at ⌝ }
 {
     match class {
@@ -32,16 +27,6 @@ fn take(class: Class, at: u32) -> Taken
         Class::Three => Taken::Read(Cell::Medium),
         Class::Four => Taken::Read(Cell::Long),
         Class::Wide => Taken::Refused(Refusal::IntervalTooLong(at)),
-    }
-}
-
-// One interval more, which stands at this place of the caller's list.
-pub fn advance(m: Reading, class: Class, at: u32) -> Scan
-    ensures { λ r. ⌜ r ≡ advanced m class at ⌝ }
-{
-    match take(class, at) {
-        Taken::Read(cell) => Scan::Whole(m.step(cell, at)),
-        Taken::Refused(refusal) => Scan::Stopped(refusal),
     }
 }
 
