@@ -62,7 +62,8 @@ module _ (p : Profile) (ws : List ℕ) (pen : Pen) (at : ℕ) (pens : pen ≡ pe
 pub few-cells : (p : Profile) (ws : List ℕ) → length (byteStream p ws) ≤ 8 * length ws + 2
 few-cells p ws =
     let bits = allBits ws ++ (O ∷ O ∷ O ∷ []) in
-    let stream : length (inked p (freshPen p) bits) ≡ length (byteStream p ws) = ap length (pen-gives-the-stream p ws) in
+    let stream : length (inked p (freshPen p) bits) ≡ length (byteStream p ws) =
+    ap length (pen-gives-the-stream p ws) in
     let many : length bits ≡ 8 * length ws + 3 =
     length-append (allBits ws) (O ∷ O ∷ O ∷ []) ∙ ap (λ (n : ℕ). n + 3) (length-of-bits ws) in
     let most = fresh-pen-gives-fewer p bits in
@@ -75,7 +76,8 @@ module _ (p : Profile) (ws old : List ℕ) where
       → (refused 9 0 ≡ streamRule p ws (length old)) × (old ≡ settled (streamRule p ws (length old)) (byteStream p ws) old)
   unfolding streamRule
   too-short e =
-      rw (lt-ltb (length old) (length (byteStream p ws)) (leb-false (length (byteStream p ws)) (length old) e)) (refl, refl)
+      let h = leb-false (length (byteStream p ws)) (length old) e in
+      rw (lt-ltb (length old) (length (byteStream p ws)) h) (refl, refl)
 
   pub long-enough
       : leb (length (byteStream p ws)) (length old) ≡ true

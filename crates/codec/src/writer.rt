@@ -10,8 +10,9 @@ ghost use Rattle.items.specs.Item.{writtenBytes};
 ghost use Rattle.items.specs.Written.{afterBytes, writtenFrom, written};
 ghost use Rattle.symbols.specs.Bits.{O, writtenBits, allBits};
 ghost use Rattle.timing.specs.Profile.{profileRule};
-ghost use Rattle.lengths.specs.Pen.{inked, penAfter, freshPen, Steady};
+ghost use Rattle.lengths.specs.Pen.{inked, freshPen, Steady};
 ghost use Rattle.lengths.specs.Stream.{listRule, byteStream};
+ghost use Rattle.codec.specs.Output.{freshTrack, Inks};
 ghost use Rattle.codec.specs.Writer.{writeRule, writeOutput};
 use crate::output::put;
 use items::Check;
@@ -46,7 +47,7 @@ fn fresh_pen(p: Profile) -> Pen
 fn write_byte(p: Profile, track: Track, w: u16, out: &mut [u16]) -> Track
     requires { ⌜ Steady p (track .pen) ⌝ }
     requires { ⌜ track .at < 65000 ⌝ }
-    ensures { λ r. ⌜ (r .pen ≡ penAfter p (track .pen) (writtenBits w)) × (r .at ≡ track .at + length (inked p (track .pen) (writtenBits w))) × (now (out .exit) ≡ storedAt (now (out .entry)) (track .at) (inked p (track .pen) (writtenBits w))) ⌝ }
+    ensures { λ r. ⌜ Inks p track (writtenBits w) (now (out .entry)) r (now (out .exit)) ⌝ }
 {
     let gaps = lengths::letters::gaps_of(w);
     let mut pen = track.pen;
@@ -65,7 +66,7 @@ fn write_byte(p: Profile, track: Track, w: u16, out: &mut [u16]) -> Track
 fn write_zero(p: Profile, track: Track, out: &mut [u16]) -> Track
     requires { ⌜ Steady p (track .pen) ⌝ }
     requires { ⌜ track .at < 65000 ⌝ }
-    ensures { λ r. ⌜ (r .pen ≡ penAfter p (track .pen) (O ∷ [])) × (r .at ≡ track .at + length (inked p (track .pen) (O ∷ []))) × (now (out .exit) ≡ storedAt (now (out .entry)) (track .at) (inked p (track .pen) (O ∷ []))) ⌝ }
+    ensures { λ r. ⌜ Inks p track (O ∷ []) (now (out .entry)) r (now (out .exit)) ⌝ }
 {
     let stroke = lengths::pen::draw(p, track.pen, false, false);
     let at = put(out, track.at, stroke.made, stroke.length.0);
@@ -77,7 +78,9 @@ fn write_zero(p: Profile, track: Track, out: &mut [u16]) -> Track
 fn write_closing(p: Profile, track: Track, out: &mut [u16]) -> usize
     requires { ⌜ Steady p (track .pen) ⌝ }
     requires { ⌜ track .at < 64000 ⌝ }
-    ensures { λ r. ⌜ (r ≡ track .at + length (inked p (track .pen) (O ∷ O ∷ O ∷ []))) × (now (out .exit) ≡ storedAt (now (out .entry)) (track .at) (inked p (track .pen) (O ∷ O ∷ O ∷ []))) ⌝ }
+    ensures place { λ r. ⌜ r ≡ track .at + length (inked p (track .pen) (O ∷ O ∷ O ∷ [])) ⌝ }
+    ensures output { λ _. ⌜
+        now (out .exit) ≡ storedAt (now (out .entry)) (track .at) (inked p (track .pen) (O ∷ O ∷ O ∷ [])) ⌝ }
 {
     let first = write_zero(p, track, out);
     let second = write_zero(p, first, out);
@@ -89,7 +92,7 @@ fn write_closing(p: Profile, track: Track, out: &mut [u16]) -> usize
 fn write_bytes(p: Profile, start: Track, bytes: &[u16], out: &mut [u16]) -> Track
     requires { ⌜ Steady p (start .pen) ⌝ }
     requires { ⌜ start .at + 8 * length (now bytes) < 65000 ⌝ }
-    ensures { λ r. ⌜ (r .pen ≡ penAfter p (start .pen) (allBits (now (bytes .entry)))) × (r .at ≡ start .at + length (inked p (start .pen) (allBits (now (bytes .entry))))) × (now (out .exit) ≡ storedAt (now (out .entry)) (start .at) (inked p (start .pen) (allBits (now (bytes .entry))))) ⌝ }
+    ensures { λ r. ⌜ Inks p start (allBits (now (bytes .entry))) (now (out .entry)) r (now (out .exit)) ⌝ }
 {
     let mut track = start;
     let mut k: usize = 0;
@@ -111,7 +114,8 @@ fn write_part(p: Profile, start: Part, items: &[u16], out: &mut [u16]) -> Part
     requires { ⌜ Steady p (start .track .pen) ⌝ }
     requires { ⌜ (start .track .at < 60000) × (length (now items) ≤ 64) ⌝ }
     ensures check { λ r. ⌜ r .check ≡ afterBytes (start .check) (writtenFrom (start .check) (now (items .entry))) ⌝ }
-    ensures track { λ r. ⌜ (r .track .pen ≡ penAfter p (start .track .pen) (allBits (writtenFrom (start .check) (now (items .entry))))) × (r .track .at ≡ start .track .at + length (inked p (start .track .pen) (allBits (writtenFrom (start .check) (now (items .entry)))))) × (now (out .exit) ≡ storedAt (now (out .entry)) (start .track .at) (inked p (start .track .pen) (allBits (writtenFrom (start .check) (now (items .entry)))))) ⌝ }
+    ensures track { λ r. ⌜
+        Inks p (start .track) (allBits (writtenFrom (start .check) (now (items .entry)))) (now (out .entry)) (r .track) (now (out .exit)) ⌝ }
 {
     let mut bytes = [0u16; 128];
     let stored = items::write_bytes(start.check, items, &mut bytes);
@@ -133,7 +137,7 @@ fn part_end(k: usize, length: usize) -> usize
 fn write_items(p: Profile, items: &[u16], out: &mut [u16]) -> Track
     requires { ⌜ profileRule p .number ≡ 0 ⌝ }
     requires { ⌜ writtenBytes (now items) ≤ 6400 ⌝ }
-    ensures { λ r. ⌜ (r .pen ≡ penAfter p (freshPen p) (allBits (written (now (items .entry))))) × (r .at ≡ 0 + length (inked p (freshPen p) (allBits (written (now (items .entry)))))) × (now (out .exit) ≡ storedAt (now (out .entry)) 0 (inked p (freshPen p) (allBits (written (now (items .entry)))))) ⌝ }
+    ensures { λ r. ⌜ Inks p (freshTrack p) (allBits (written (now (items .entry)))) (now (out .entry)) r (now (out .exit)) ⌝ }
 {
     let mut part = Part {
         track: Track {
@@ -155,7 +159,9 @@ fn write_items(p: Profile, items: &[u16], out: &mut [u16]) -> Track
 fn write_stream(p: Profile, items: &[u16], out: &mut [u16]) -> usize
     requires { ⌜ profileRule p .number ≡ 0 ⌝ }
     requires { ⌜ writtenBytes (now items) ≤ 6400 ⌝ }
-    ensures { λ r. ⌜ (r ≡ length (byteStream p (written (now (items .entry))))) × (now (out .exit) ≡ storedAt (now (out .entry)) 0 (byteStream p (written (now (items .entry))))) ⌝ }
+    ensures length { λ r. ⌜ r ≡ length (byteStream p (written (now (items .entry)))) ⌝ }
+    ensures output { λ _. ⌜
+        now (out .exit) ≡ storedAt (now (out .entry)) 0 (byteStream p (written (now (items .entry)))) ⌝ }
 {
     let track = write_items(p, items, out);
     write_closing(p, track, out)

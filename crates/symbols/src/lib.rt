@@ -60,8 +60,8 @@ impl Reading {
         self.ready_for(cell, at).push(word)
     }
 
-    // The register with a cell's bits. One of 2 units gives the last bit again, one of 3 gives 01 after 0 and 0 after 1,
-    // one of 4 gives 0 and the last bit again.
+    // The register with a cell's bits. One of 2 units gives the last bit again, one of 3 gives 01 after 0 and 0 after
+    // 1, one of 4 gives 0 and the last bit again.
     fn word_after(self, cell: Cell) -> u64
         ensures { λ r. ⌜ r ≡ wordAfter self cell ⌝ }
     {

@@ -30,13 +30,16 @@ a-byte-more
 unfolding allBits
 a-byte-more p bytes pen₀ old at₀ k {out} {pen} {at} h inking out′ pen′ at′ pens places stores =
     rw add-one
-    (inking-goes-on p (allBits bytes) pen₀ old at₀ (writtenBits (getD bytes k 0)) (allBits (drop (suc k) bytes)) out′ pen′ at′
-    (subst (λ (ws : List ℕ). Inking p (allBits bytes) pen₀ old at₀ (allBits ws) out pen at) (drop-cons bytes k 0 h) inking)
+    (inking-goes-on p (allBits bytes) pen₀ old at₀ (writtenBits (getD bytes k 0)) (allBits (drop (suc k) bytes)) out′
+    pen′ at′
+    (subst (λ (ws : List ℕ). Inking p (allBits bytes) pen₀ old at₀ (allBits ws) out pen at) (drop-cons bytes k 0 h)
+    inking)
     pens places stores)
 
 abbrev Inv-loop : tie.InvT-loop
 Inv-loop p bytes out₀ track₀ k₀ out track k =
-    (k ≤ length bytes) × Inking p (allBits bytes) (track₀ .pen) out₀ (track₀ .at) (allBits (drop k bytes)) out (track .pen) (track .at)
+    (k ≤ length bytes)
+    × Inking p (allBits bytes) (track₀ .pen) out₀ (track₀ .at) (allBits (drop k bytes)) out (track .pen) (track .at)
 
 abbrev μ-loop : tie.MeasureT-loop
 μ-loop p bytes out₀ track₀ k₀ out track k = length bytes - k
@@ -79,8 +82,9 @@ same-length c = c .before .loop .inv .1 .same-length
 returns : tie.Need-returns Inv-loop μ-loop
 unfolding allBits
 returns c =
+    let bytes = now (c .before .before .before .before .args .bytes) in
     inking-ends _ _ _ _ _ _
-    (ap allBits (drop-of-length-le (now (c .before .before .before .before .args .bytes)) {i = c .before .loop .k} (c .loop-test .left)))
+    (ap allBits (drop-of-length-le bytes {i = c .before .loop .k} (c .loop-test .left)))
     (c .before .loop .inv .1)
 
 pub write-bytes-spec : {M : Type 1} → statement M

@@ -1,5 +1,5 @@
--- Why `codec::writer::write_list` answers `writeRule`: profile and list are accepted, and the stream is stored where it has
--- room. Rests on no axiom.
+-- Why `codec::writer::write_list` answers `writeRule`: profile and list are accepted, and the stream is stored where it
+-- has room. Rests on no axiom.
 use mathlib.Core.Path.{sym, _∙_}
 use denote.Ref.{now}
 use Rattle.items.specs.Written.{written}

@@ -1,4 +1,5 @@
--- Why `codec::writer::write_part` inks the bits of some items: their bytes are the front of the buffer. Rests on no axiom.
+-- Why `codec::writer::write_part` inks the bits of some items: their bytes are the front of the buffer. Rests on no
+-- axiom.
 use Prim.Native.Nat.{ℕ, _+_}
 use mathlib.Core.Path.{_≡_, ap, _∙_}
 use mathlib.Core.List.{List}
@@ -48,14 +49,16 @@ returns c =
     let entry = c .before .before .before .before .before .before .before .before .before .before .before in
     let start = entry .args .start .track in
     let p = entry .args .p in
-    let front = front-is-written _ _ _ _ _ (bytes .1 .0) (bytes .1 .1) (length-replicate {A = ℕ} 128 0) (entry .pre .1 .1) in
+    let old = now (entry .args .out) in
+    let clear = length-replicate {A = ℕ} 128 0 in
+    let front = front-is-written _ _ _ _ _ (bytes .1 .0) (bytes .1 .1) clear (entry .pre .1 .1) in
     let wrote = c .before .before .write-bytes2 .ensures in (
       bytes .0,
       (
         wrote .0 ∙ ap (λ (ws : List ℕ). penAfter p (start .pen) (allBits ws)) front,
         wrote .1 ∙ ap (λ (ws : List ℕ). start .at + length (inked p (start .pen) (allBits ws))) front,
         wrote .2
-            ∙ ap (λ (ws : List ℕ). storedAt (now (entry .args .out)) (start .at) (inked p (start .pen) (allBits ws))) front,
+            ∙ ap (λ (ws : List ℕ). storedAt old (start .at) (inked p (start .pen) (allBits ws))) front,
       ),
     )
 

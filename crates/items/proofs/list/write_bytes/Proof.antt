@@ -134,7 +134,8 @@ returns c =
     let items : List ℕ = now (entry-of (c .before) .args .items) in
     let end : length items ≤ head .k = c .loop-test .left in
     let whole : head .at + writtenBytes (drop (head .k) items) ≡ writtenBytes items = head .inv .1 in
-    let none : writtenFrom (head .check) (drop (head .k) items) ≡ [] = written-from-end (head .check) items (head .k) end in (
+    let none : writtenFrom (head .check) (drop (head .k) items) ≡ [] =
+    written-from-end (head .check) items (head .k) end in (
       sym (ap (afterBytes (head .check)) none ∙ after-no-bytes (head .check)) ∙ head .inv .3,
       (
         omega (arith, written-bytes-from-end items (head .k) end),

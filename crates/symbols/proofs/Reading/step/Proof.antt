@@ -30,8 +30,11 @@ push-requires c κs = search needs
 returns : tie.Need-returns
 returns c =
     let args = c .before .before .before .args in
-    rw (← step-pushes (args .self) (args .cell) (args .at), ← c .before .ready-for .ensures, ← c .before .before .word-after .ensures)
-    (c .push .ensures)
+    rw (
+      ← step-pushes (args .self) (args .cell) (args .at),
+      ← c .before .ready-for .ensures,
+      ← c .before .before .word-after .ensures,
+    ) (c .push .ensures)
 
 pub step-spec : {M : Type 1} → statement M
 step-spec = tie.close (tie.spec word-after-requires ready-for-requires push-requires returns)

@@ -1,5 +1,4 @@
 -- Why `Reading::word_after` gives `wordAfter`: both go by the cell.
-use mathlib.Core.Path.{refl}
 use borrow.Author.Needs.{needs}
 use Rattle.symbols.proofs.Reading.word_after.Statement.{statement}
 use Rattle.symbols.proofs.Reading.word_after.Tie as tie

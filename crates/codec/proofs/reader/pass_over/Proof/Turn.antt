@@ -31,7 +31,10 @@ use Rattle.codec.specs.declared.reader.Scan.the-variants.{Whole, Stopped
 -- ---- one class more
 
 module _ (k : ℕ) (m : Reading) (cs : List Class) where
-  stops : (c : Class) (r : Refusal) → Refused r ≡ taken c k → (Stopped r ≡ scanned k m (c ∷ cs)) × (gathered k m (c ∷ cs) ≡ [])
+  stops
+      : (c : Class) (r : Refusal)
+      → Refused r ≡ taken c k
+      → (Stopped r ≡ scanned k m (c ∷ cs)) × (gathered k m (c ∷ cs) ≡ [])
   unfolding scanned gathered
   stops =
       taken-is-refused k

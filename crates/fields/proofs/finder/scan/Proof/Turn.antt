@@ -22,7 +22,8 @@ Twos cs low high = (j : ℕ) → low ≤ j → j < high → getD cs j Narrow ≡
 pub no-twos : (cs : List Class) (k : ℕ) → Twos cs k k
 no-twos cs k j low high = absurd (omega arith)
 
-pub twos-then-twos : (cs : List Class) (low between high : ℕ) → Twos cs low between → Twos cs between high → Twos cs low high
+pub twos-then-twos
+    : (cs : List Class) (low between high : ℕ) → Twos cs low between → Twos cs between high → Twos cs low high
 twos-then-twos cs low between high before after j from to =
     ⊎-elim
     (λ past. after j (omega arith) to)
