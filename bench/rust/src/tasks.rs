@@ -46,7 +46,12 @@ pub fn all() -> Vec<Task> {
     let mut tasks: Vec<Task> = Vec::new();
     tasks.extend([512, 6_400].map(write_task));
     tasks.extend([512, 6_400].map(read_task));
-    tasks.push(find_task());
+    tasks.push(find_task("find", "of data", stream(&items(ism::MAX_BYTES))));
+    tasks.push(find_task(
+        "find_in_runs",
+        "in runs of 64 of class 2",
+        [vec![PROFILE.t1; 64], vec![PROFILE.b23]].concat(),
+    ));
     tasks.extend([512, 1_030].map(field_task));
     tasks.extend([512, 1_024].map(sector_task));
     tasks
@@ -88,18 +93,14 @@ fn read_task(size: usize) -> Task {
     Task::new("read", size, format!("{size} bytes"), units, "interval", size, run)
 }
 
-/// A track of data with the only lock at its very end.
-fn find_task() -> Task {
+/// A track that repeats some intervals, with the only lock at its very end.
+fn find_task(name: &str, of: &str, repeated: Vec<u16>) -> Task {
     let lock = stream(&[vec![0; 12], vec![MARK_A1; 3]].concat());
-    let mut track = Vec::new();
-    while track.len() + lock.len() < TRACK_INTERVALS {
-        track.extend(stream(&items(ism::MAX_BYTES)));
-    }
-    track.truncate(TRACK_INTERVALS - lock.len());
+    let mut track: Vec<u16> = repeated.into_iter().cycle().take(TRACK_INTERVALS - lock.len()).collect();
     track.extend(lock);
     let run: Run = Box::new(move |who, _| (who.find)(PROFILE, &track, 0));
-    let input = format!("{TRACK_INTERVALS} intervals");
-    Task::new("find", TRACK_INTERVALS, input, TRACK_INTERVALS, "interval", 0, run)
+    let input = format!("{TRACK_INTERVALS} intervals {of}");
+    Task::new(name, TRACK_INTERVALS, input, TRACK_INTERVALS, "interval", 0, run)
 }
 
 /// Three marks, data and check bytes; the register is zero behind them.

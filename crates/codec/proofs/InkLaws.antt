@@ -1,6 +1,6 @@
 -- The pen over an output: what is left to ink, stored behind what is stored, is the whole, and it stays so when some bits more are inked.
 -- Rests on no axiom.
-use Prim.Native.Nat.{ℕ, suc, _+_, _≤_, _<_}
+use Prim.Native.Nat.{ℕ, suc, _+_, _-_, _≤_, _<_}
 use mathlib.Core.Path.{_≡_, refl, sym, ap, subst, _∙_}
 use mathlib.Core.Bool.{Bool, true, false, cond}
 use mathlib.Core.List.{List, [], _∷_, _++_, append-nil}
@@ -13,7 +13,7 @@ use Rattle.lists.specs.Filled.{storedAt}
 use Rattle.lists.proofs.StoreLaws.{stored-none, stored-after-stored, stored-length}
 use Rattle.symbols.specs.Bits.{Bit, O}
 use Rattle.timing.specs.declared.Profile.{Profile}
-use Rattle.lengths.specs.Pen.{strokeOf, givenBy, inked, penAfter, Steady}
+use Rattle.lengths.specs.Pen.{stroke, strokeOf, givenBy, inked, penAfter, freshPen, Steady}
 use Rattle.lengths.specs.declared.pen.Pen.{Pen}
 use Rattle.lengths.specs.declared.pen.Stroke.{Stroke}
 use Rattle.lengths.proofs.PenLaws.{pen-after-append, inked-append}
@@ -32,6 +32,14 @@ inked-at-most p pen (b ∷ bs) =
     let one : length (givenBy s) ≤ 1 = one-or-none (s .made) (s .length .0) in
     let rest = inked-at-most p (s .pen) bs in
     let both = length-append (givenBy s) (inked p (s .pen) bs) in
+    omega arith
+
+-- the first bit of a list ends no cell
+pub fresh-pen-gives-fewer : (p : Profile) (bs : List Bit) → length (inked p (freshPen p) bs) ≤ length bs - 1
+unfolding inked stroke
+fresh-pen-gives-fewer p [] = omega arith
+fresh-pen-gives-fewer p (b ∷ bs) =
+    let rest = inked-at-most p (strokeOf p (freshPen p) b .pen) bs in
     omega arith
 
 -- one bit by itself

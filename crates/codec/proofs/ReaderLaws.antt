@@ -29,7 +29,7 @@ use Rattle.symbols.proofs.RoundTripLaws.{write-of-read}
 use Rattle.symbols.proofs.RunLaws.{strip-by-ran}
 use Rattle.codec.specs.Reader.{cellsOfClasses, cellsRead, itemsOfStream, readRule, readOutput}
 use Rattle.codec.specs.Scan.{scanned, gathered}
-use Rattle.intervals.specs.declared.Scan.the-variants.{Whole, Stopped}
+use Rattle.codec.specs.declared.reader.Scan.the-variants.{Whole, Stopped}
 use Rattle.codec.proofs.ScanLaws.{stopped-is-refused, whole-is-accepted, whole-is-run, whole-gathers}
 
 cells-at-most-classes : (cs : List Class) → length (cellsOfClasses cs) ≤ length cs

@@ -18,8 +18,8 @@ use Rattle.symbols.specs.declared.Cell.the-variants.{Short, Medium, Long}
 use Rattle.symbols.specs.declared.Reading.{Reading}
 use Rattle.codec.specs.Scan.{scanned, gathered}
 use Rattle.codec.specs.Reader.{cellsOfClasses}
-use Rattle.intervals.specs.declared.Scan.{Scan}
-use Rattle.intervals.specs.declared.Scan.the-variants.{Whole, Stopped}
+use Rattle.codec.specs.declared.reader.Scan.{Scan}
+use Rattle.codec.specs.declared.reader.Scan.the-variants.{Whole, Stopped}
 
 -- what a pass answers, as the paper's rule for 5 and 6
 abbrev answerOf : Scan → Answer

@@ -1,69 +1,96 @@
 -- The writer's answers by its tests: where profile and list are accepted, the stream of the written bytes and the room decide.
 -- Rests on no axiom.
-use Prim.Native.Nat.{ℕ, _+_, _≤_, _<_}
+use Prim.Native.Nat.{ℕ, _+_, _*_, _≤_, _<_}
 use mathlib.Core.Path.{_≡_, refl, sym, ap, subst, _∙_}
 use mathlib.Core.Bool.{Bool, true, false, cond, _||_, true≢false}
 use mathlib.Core.List.{List, [], _∷_, _++_}
-use lib.Dec.{ltb}
+use lib.Dec.{ltb, leb}
 use native.Mathlib.Omega.{arith}
-use lib.ListN.{length, take}
+use lib.ListN.{length, length-append, take}
 use lib.Seq.{sets, length-sets, length-take-le}
-use borrow.Author.Tests.{lt-ltb, le-ltb, ltb-false}
+use borrow.Author.Tests.{lt-ltb, le-ltb, ltb-false, leb-true, leb-false}
 use Rattle.lists.specs.Place.{anywhere, lowest}
 use Rattle.lists.specs.Filled.{filled, storedAt}
 use Rattle.lists.proofs.StoreLaws.{stored-after-stored, stored-at-front-fills}
 use Rattle.refusal.specs.Answer.{Answer, accepted, refused, firstRefusal, settled}
 use Rattle.refusal.proofs.AnswerLaws.{first-refusal-passes, refuse-if-accepts}
 use Rattle.items.specs.Item.{isForeign, writtenBytes}
-use Rattle.items.specs.Written.{written}
+use Rattle.items.specs.Written.{writtenFrom, written}
+use Rattle.items.specs.declared.Check.{Check}
+use Rattle.items.proofs.ItemLaws.{written-bytes-bounds}
 use Rattle.items.proofs.WrittenLaws.{front-of-stored-bytes}
 use Rattle.symbols.specs.Bits.{O, allBits}
+use Rattle.symbols.proofs.BytesLaws.{length-of-bits}
 use Rattle.timing.specs.Profile.{profileRule}
 use Rattle.timing.specs.declared.Profile.{Profile}
 use Rattle.lengths.specs.Pen.{inked, penAfter, freshPen}
-use Rattle.lengths.specs.Letters.{cellsAfter}
 use Rattle.lengths.specs.Stream.{byteStream, streamOf, listRule}
 use Rattle.lengths.specs.declared.pen.Pen.{Pen}
 use Rattle.lengths.proofs.PenLaws.{pen-gives-the-stream, inked-append}
-use Rattle.lengths.proofs.CellCountLaws.{stream-length-is-the-sum}
 use Rattle.codec.specs.Writer.{streamRule, writeRule, writeOutput}
+use Rattle.codec.proofs.InkLaws.{fresh-pen-gives-fewer}
 
 -- the bytes' bits and then the closing 0s are the stream
-pub stream-in-two-parts
-    : (p : Profile) (ws old middle : List ℕ) (pen : Pen) (at : ℕ)
-    → pen ≡ penAfter p (freshPen p) (allBits ws)
-    → at ≡ 0 + length (inked p (freshPen p) (allBits ws))
-    → middle ≡ storedAt old 0 (inked p (freshPen p) (allBits ws))
-    → storedAt middle at (inked p pen (O ∷ O ∷ O ∷ [])) ≡ storedAt old 0 (byteStream p ws)
-stream-in-two-parts p ws old middle pen at pens places stores =
-    let front = inked p (freshPen p) (allBits ws) in
-    let closing = inked p (penAfter p (freshPen p) (allBits ws)) (O ∷ O ∷ O ∷ []) in
-    ap (λ (q : Pen). storedAt middle at (inked p q (O ∷ O ∷ O ∷ []))) pens
-    ∙ ap (λ (l : List ℕ). storedAt l at closing) stores
-    ∙ stored-after-stored front closing old 0 at places
-    ∙ ap (storedAt old 0)
-    (sym (inked-append p (freshPen p) (allBits ws) (O ∷ O ∷ O ∷ [])) ∙ pen-gives-the-stream p ws)
+module _ (p : Profile) (ws : List ℕ) (pen : Pen) (at : ℕ) (pens : pen ≡ penAfter p (freshPen p) (allBits ws))
+    (places : at ≡ 0 + length (inked p (freshPen p) (allBits ws))) where
+  both-parts
+      : inked p (freshPen p) (allBits ws) ++ inked p pen (O ∷ O ∷ O ∷ []) ≡ byteStream p ws
+  both-parts =
+      ap (λ (q : Pen). inked p (freshPen p) (allBits ws) ++ inked p q (O ∷ O ∷ O ∷ [])) pens
+      ∙ sym (inked-append p (freshPen p) (allBits ws) (O ∷ O ∷ O ∷ []))
+      ∙ pen-gives-the-stream p ws
 
-module _ (p : Profile) (ws old : List ℕ) (count : ℕ) (counted : count ≡ cellsAfter false ws) where
-  length-is-count : length (byteStream p ws) ≡ count
-  length-is-count = stream-length-is-the-sum p ws ∙ sym counted
+  pub length-in-two-parts : at + length (inked p pen (O ∷ O ∷ O ∷ [])) ≡ length (byteStream p ws)
+  length-in-two-parts =
+      let front = inked p (freshPen p) (allBits ws) in
+      let closing = inked p pen (O ∷ O ∷ O ∷ []) in
+      let sum : at + length closing ≡ length front + length closing = omega arith in
+      sum ∙ sym (length-append front closing) ∙ ap length both-parts
 
+  pub stream-in-two-parts
+      : (old middle : List ℕ)
+      → middle ≡ storedAt old 0 (inked p (freshPen p) (allBits ws))
+      → storedAt middle at (inked p pen (O ∷ O ∷ O ∷ [])) ≡ storedAt old 0 (byteStream p ws)
+  stream-in-two-parts old middle stores =
+      let front = inked p (freshPen p) (allBits ws) in
+      let closing = inked p pen (O ∷ O ∷ O ∷ []) in
+      ap (λ (l : List ℕ). storedAt l at closing) stores
+      ∙ stored-after-stored front closing old 0 at places
+      ∙ ap (storedAt old 0) both-parts
+
+-- a byte ends eight cells at most, and the closing 0s end two: of the bits with one 0 more, the first ends none
+pub few-cells : (p : Profile) (ws : List ℕ) → length (byteStream p ws) ≤ 8 * length ws + 2
+few-cells p ws =
+    let bits = allBits ws ++ (O ∷ O ∷ O ∷ []) in
+    let stream : length (inked p (freshPen p) bits) ≡ length (byteStream p ws) =
+    ap length (pen-gives-the-stream p ws) in
+    let many : length bits ≡ 8 * length ws + 3 =
+    length-append (allBits ws) (O ∷ O ∷ O ∷ []) ∙ ap (λ (n : ℕ). n + 3) (length-of-bits ws) in
+    let most = fresh-pen-gives-fewer p bits in
+    omega arith
+
+-- the room decides
+module _ (p : Profile) (ws old : List ℕ) where
   pub too-short
-      : length old < count
+      : leb (length (byteStream p ws)) (length old) ≡ false
       → (refused 9 0 ≡ streamRule p ws (length old)) × (old ≡ settled (streamRule p ws (length old)) (byteStream p ws) old)
   unfolding streamRule
-  too-short h = rw (length-is-count, lt-ltb (length old) count h) (refl, refl)
+  too-short e =
+      let h = leb-false (length (byteStream p ws)) (length old) e in
+      rw (lt-ltb (length old) (length (byteStream p ws)) h) (refl, refl)
 
   pub long-enough
-      : count ≤ length old
-      → (stored : List ℕ)
+      : leb (length (byteStream p ws)) (length old) ≡ true
+      → (count : ℕ) (stored : List ℕ)
+      → count ≡ length (byteStream p ws)
       → stored ≡ storedAt old 0 (byteStream p ws)
       → (accepted count ≡ streamRule p ws (length old))
       × (stored ≡ settled (streamRule p ws (length old)) (byteStream p ws) old)
   unfolding streamRule
-  long-enough h stored e =
-      rw (length-is-count, le-ltb (length old) count h)
-      (refl, e ∙ stored-at-front-fills (byteStream p ws) old (subst (λ (n : ℕ). n ≤ length old) (sym length-is-count) h))
+  long-enough e count stored counted stores =
+      let h = leb-true (length (byteStream p ws)) (length old) e in
+      rw (le-ltb (length old) (length (byteStream p ws)) h)
+      (ap accepted counted, stores ∙ stored-at-front-fills (byteStream p ws) old h)
 
 -- an accepted list writes at most 6,400 bytes
 both-false : (a b : Bool) → (a || b) ≡ false → b ≡ false
@@ -91,22 +118,22 @@ module _ (p : Profile) (items old : List ℕ) where
   unfolding writeOutput streamOf
   output-of-stream h g = ap (λ (a : Answer). settled a (byteStream p (written items)) old) (rule-of-stream h g)
 
--- the front of a buffer for 6,400 bytes after an accepted list's bytes were stored there
-module _ (items out old : List ℕ) (n : ℕ) (count : n ≡ writtenBytes items) (stored : out ≡ sets old 0 (written items))
-    (room : length old ≡ 6400) (accepts : listRule items .number ≡ 0) where
+-- the front of a buffer for 128 bytes, after the bytes of at most 64 items were stored there
+module _ (check : Check) (items out old : List ℕ) (n : ℕ) (count : n ≡ writtenBytes items)
+    (stored : out ≡ sets old 0 (writtenFrom check items)) (room : length old ≡ 128) (few : length items ≤ 64) where
+  pub part-is-short : n ≤ 128
+  part-is-short = let most = written-bytes-bounds items .1 in omega arith
+
   pub bytes-fit : n ≤ length out
   bytes-fit =
-      let same : length out ≡ length old = ap length stored ∙ length-sets old 0 (written items) in
-      let few = few-bytes items accepts in
+      let same : length out ≡ length old = ap length stored ∙ length-sets old 0 (writtenFrom check items) in
+      let short = part-is-short in
       omega arith
 
   pub front-length : n ≡ length (take n out)
   front-length = sym (length-take-le n out bytes-fit)
 
-  pub front-is-short : length (take n out) ≤ 6400
-  front-is-short = let few = few-bytes items accepts in let same = front-length in omega arith
-
-  pub front-is-written : take n out ≡ written items
+  pub front-is-written : take n out ≡ writtenFrom check items
   front-is-written =
-      front-of-stored-bytes items n out old count stored
-      (subst (λ (m : ℕ). writtenBytes items ≤ m) (sym room) (few-bytes items accepts))
+      let most = written-bytes-bounds items .1 in
+      front-of-stored-bytes check items n out old count stored (omega arith)

@@ -7,8 +7,8 @@ use Rattle.timing.specs.declared.Class.the-variants.{Narrow, Two, Three, Four, 
 use Rattle.symbols.specs.Step.{stepped, itemsOf}
 use Rattle.symbols.specs.declared.Cell.the-variants.{Short, Medium, Long}
 use Rattle.symbols.specs.declared.Reading.{Reading}
-use Rattle.intervals.specs.declared.Scan.{Scan}
-use Rattle.intervals.specs.declared.Scan.the-variants.{Whole, Stopped}
+use Rattle.codec.specs.declared.reader.Scan.{Scan}
+use Rattle.codec.specs.declared.reader.Scan.the-variants.{Whole, Stopped}
 
 -- a strip's classes, the first at place k
 unfoldable pub scanned : ℕ → Reading → List Class → Scan

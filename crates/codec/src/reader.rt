@@ -11,13 +11,18 @@ ghost use Rattle.symbols.specs.Step.{stripAnswer};
 ghost use Rattle.codec.specs.Scan.{scanned, gathered};
 ghost use Rattle.codec.specs.Reader.{readRule, readOutput};
 use crate::output::put;
-use intervals::Scan;
-use intervals::advance;
+use intervals::Taken;
 use refusal::Counted;
 use refusal::Refusal;
 use refusal::Verdict;
 use symbols::Reading;
 use timing::Profile;
+
+// How far a pass came: through all its intervals, or to one that is too short or too long.
+pub enum Scan {
+    Whole(Reading),
+    Stopped(Refusal),
+}
 
 // One pass over a strip of at most 51,202 intervals: the items that have room are stored from the front on.
 fn pass_over(p: Profile, intervals: &[u16], out: &mut [u16]) -> Scan
@@ -28,9 +33,10 @@ fn pass_over(p: Profile, intervals: &[u16], out: &mut [u16]) -> Scan
     let mut count: usize = 0;
     let mut k: usize = 0;
     while k < intervals.len() {
-        match advance(m, timing::classify(p, intervals[k]), k as u32) {
-            Scan::Stopped(refusal) => return Scan::Stopped(refusal),
-            Scan::Whole(next) => {
+        match intervals::take(timing::classify(p, intervals[k]), k as u32) {
+            Taken::Refused(refusal) => return Scan::Stopped(refusal),
+            Taken::Read(cell) => {
+                let next = m.step(cell, k as u32);
                 count = put(out, count, next.done, next.item);
                 m = next;
                 k += 1;

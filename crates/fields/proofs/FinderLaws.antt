@@ -15,6 +15,7 @@ use Rattle.timing.specs.declared.Class.{Class}
 use Rattle.timing.specs.declared.Class.the-variants.{Narrow, Two}
 use Rattle.fields.specs.Lock.{lockAt, firstLock, lockFrom, mayStand}
 use Rattle.fields.proofs.LockLaws.{run-ahead, run-broken, mark-ahead, mark-broken, narrow-in-no-mark}
+use Rattle.fields.proofs.LockLaws.{two-begins-no-mark}
 
 module _ (cs : List Class) where
   -- ---- where a lock stands
@@ -96,3 +97,16 @@ module _ (cs : List Class) where
   pub broken-run-is-passed
       : (b j : ℕ) → b ≤ j → j < b + 64 → (getD cs j Narrow ≡ Two → ⊥) → lockFrom cs b ≡ lockFrom cs (j + 1)
   broken-run-is-passed b j low high broken = passes-over (j - b) b j (omega arith) (omega arith) broken
+
+  -- a place of class 2 has no lock, since no mark begins with it
+  pub longer-run-is-passed
+      : (d b : ℕ)
+      → ((j : ℕ) → b + 64 ≤ j → j < b + 64 + d → getD cs j Narrow ≡ Two)
+      → lockFrom cs b ≡ lockFrom cs (b + d)
+  longer-run-is-passed zero b twos = ap (λ (i : ℕ). lockFrom cs i) (omega arith)
+  longer-run-is-passed (suc d) b twos =
+      let here : getD cs (b + 64 + 0) Narrow ≡ Two = twos (b + 64 + 0) (omega arith) (omega arith) in
+      no-lock-goes-on b
+      (broken-mark-has-no-lock (b + 64) 0 (omega arith) (ap (mayStand 0) here ∙ two-begins-no-mark))
+      ∙ longer-run-is-passed d (b + 1) (λ j low high. twos j (omega arith) (omega arith))
+      ∙ ap (λ (i : ℕ). lockFrom cs i) (omega arith)

@@ -1,4 +1,5 @@
 pub mod LockLaws
+pub mod RunLaws
 pub mod FinderLaws
 pub mod TakenLaws
 pub mod EnoughLaws

@@ -89,6 +89,10 @@ pub narrow-in-no-mark : mayStand 0 Narrow ≡ false
 unfolding mayStand lockPatterns anywhere
 narrow-in-no-mark = refl
 
+pub two-begins-no-mark : mayStand 0 Two ≡ false
+unfolding mayStand lockPatterns anywhere
+two-begins-no-mark = refl
+
 pub mark-broken
     : (cs : List Class) (j : ℕ) → j < 5 → mayStand j (getD cs j Narrow) ≡ false → markAhead cs ≡ false
 unfolding markAhead mayStand lockPatterns anywhere

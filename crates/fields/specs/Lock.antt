@@ -1,10 +1,10 @@
 -- Document 01, "Finding and reading a field": where a lock stands, and what the finder answers. No lemmas here.
 use Prim.Native.Nat.{ℕ, zero, suc, _+_, _-_}
-use mathlib.Core.Bool.{Bool, true, false, cond, _&&_}
+use mathlib.Core.Bool.{Bool, true, false, cond, not, _&&_}
 use mathlib.Core.List.{List, [], _∷_}
 use lib.Dec.{eqb, leb}
 use lib.ListN.{length, getD, drop, replicate}
-use Rattle.lists.specs.Place.{anywhere}
+use Rattle.lists.specs.Place.{anywhere, lowest}
 use Rattle.refusal.specs.Answer.{Answer, accepted, refused, firstRefusal}
 use Rattle.timing.specs.Profile.{profileRule}
 use Rattle.timing.specs.Class.{classesOf, classNumber}
@@ -49,3 +49,10 @@ findRule p ds start = firstRefusal (profileRule p) (lockFrom (classesOf p ds) st
 -- whether a class may stand at a place of a mark
 unfoldable pub mayStand : ℕ → Class → Bool
 mayStand place c = anywhere (λ (q : List Class). sameClass c (getD q place Narrow)) lockPatterns
+
+-- the first place from k on that is not of class 2
+abbrev pub breaksRun : Class → Bool
+breaksRun c = not (sameClass c Two)
+
+unfoldable pub runEnd : List Class → ℕ → ℕ
+runEnd cs k = k + lowest breaksRun (drop k cs)

@@ -1,11 +1,11 @@
 // Document 01, "Finding and reading a field": the lock finder.
-ghost use Prim.Native.Nat.{_<_};
+ghost use Prim.Native.Nat.{_≤_, _<_};
 ghost use mathlib.Core.Path.{_≡_};
-ghost use lib.ListN.{getD};
+ghost use lib.ListN.{length, getD};
 ghost use Rattle.refusal.specs.Answer.{countedAnswer};
 ghost use Rattle.timing.specs.Class.{classesOf};
 ghost use Rattle.timing.specs.declared.Class.the-variants.{Narrow};
-ghost use Rattle.fields.specs.Lock.{mayStand, lockFrom, findRule};
+ghost use Rattle.fields.specs.Lock.{mayStand, runEnd, lockFrom, findRule};
 use refusal::Counted;
 use refusal::Refusal;
 use refusal::Verdict;
@@ -36,31 +36,55 @@ fn may_stand(place: usize, class: Class) -> bool
     }
 }
 
-// The intervals from `first` up to `k` are of class 2. One that is not moves `first` past it, so none is looked at
-// again but where 64 stand before `k` and no mark follows.
+// The first place from a given one on where a run of class 2 has ended.
+fn run_end(p: Profile, intervals: &[u16], from: usize) -> usize
+    requires { ⌜ from ≤ length (now intervals) ⌝ }
+    ensures { λ r. ⌜ r ≡ runEnd (classesOf p (now (intervals .entry))) from ⌝ }
+{
+    let mut k = from;
+    while k < intervals.len() {
+        if timing::classify(p, intervals[k]).number() == 2 {
+            k += 1;
+        } else {
+            return k;
+        }
+    }
+    k
+}
+
+// The 64 intervals from `first` on are looked at from the last one back, down to those that are known to be of class 2:
+// one that is not rules out every place that has it among its 64, so that of data most is passed over unread. No
+// interval is looked at again but where 64 stand and no mark follows.
 fn scan(p: Profile, intervals: &[u16], start: usize) -> Counted
     ensures { λ r. ⌜ countedAnswer r ≡ lockFrom (classesOf p (now (intervals .entry))) start ⌝ }
 {
+    if intervals.len() <= start {
+        return Counted::Refused(Refusal::NoLock);
+    }
     let mut first = start;
-    let mut k = start;
+    let mut known = start;
     let place = 'scan: loop {
-        while k - first < 64 {
-            if intervals.len() <= k {
-                break 'scan Counted::Refused(Refusal::NoLock);
-            }
-            let class = class_at(p, intervals, k);
-            k += 1;
-            if class.number() != 2 {
-                first = k;
+        let end = first + 64;
+        if intervals.len() <= end {
+            break 'scan Counted::Refused(Refusal::NoLock);
+        }
+        let mut j = end;
+        while known < j {
+            j -= 1;
+            if class_at(p, intervals, j).number() != 2 {
+                first = j + 1;
+                known = end;
                 continue 'scan;
             }
         }
+        let k = run_end(p, intervals, end);
         let mut i: usize = 0;
         while i < 5 {
             if may_stand(i, class_at(p, intervals, k + i)) {
                 i += 1;
             } else {
-                first += 1;
+                first = k - 63;
+                known = k;
                 continue 'scan;
             }
         }

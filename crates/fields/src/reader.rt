@@ -8,7 +8,7 @@ ghost use Rattle.timing.specs.Class.{classesOf};
 ghost use Rattle.fields.specs.Field.{holdsAfter};
 ghost use Rattle.fields.specs.FieldRule.{gatherRule, GathersItems, deliverReading, deliverOutput, fieldAnswer};
 ghost use Rattle.fields.specs.FieldRule.{checkedReading, checkedOutput, fieldReading, fieldOutput, fieldRest};
-use intervals::Scan;
+use intervals::Taken;
 use items::Check;
 use refusal::Counted;
 use refusal::Refusal;
@@ -51,9 +51,10 @@ fn gather(p: Profile, intervals: &[u16], n: u32, out: &mut [u16]) -> Counted
         if intervals.len() <= k {
             return Counted::Refused(Refusal::EndsEarly);
         }
-        match intervals::advance(m, timing::classify(p, intervals[k]), k as u32) {
-            Scan::Stopped(refusal) => return Counted::Refused(refusal),
-            Scan::Whole(next) => {
+        match intervals::take(timing::classify(p, intervals[k]), k as u32) {
+            Taken::Refused(refusal) => return Counted::Refused(refusal),
+            Taken::Read(cell) => {
+                let next = m.step(cell, k as u32);
                 count = intervals::store(next, out, count);
                 m = next;
                 k += 1;

@@ -7,12 +7,10 @@ use Rattle.refusal.specs.declared.Refusal.{Refusal}
 use Rattle.refusal.specs.declared.Refusal.the-variants.{IntervalTooShort, IntervalTooLong}
 use Rattle.timing.specs.declared.Class.{Class}
 use Rattle.timing.specs.declared.Class.the-variants.{Narrow, Two, Three, Four, Wide}
-use Rattle.symbols.specs.Step.{stepped}
 use Rattle.symbols.specs.declared.Cell.{Cell}
 use Rattle.symbols.specs.declared.Cell.the-variants.{Short, Medium, Long}
-use Rattle.symbols.specs.declared.Reading.{Reading}
-use Rattle.intervals.specs.Cells.{byClass, advanced}
-use Rattle.intervals.specs.declared.Scan.the-variants.{Whole, Stopped}
+use Rattle.intervals.specs.Cells.{byClass, taken}
+use Rattle.intervals.specs.declared.Taken.the-variants.{Read, Refused}
 
 -- a class that is read as a cell
 pub data ReadAs : Class → Cell → Type 0 where
@@ -47,38 +45,28 @@ by-class-read narrow read wide as-short = refl
 by-class-read narrow read wide as-medium = refl
 by-class-read narrow read wide as-long = refl
 
--- ---- one interval more
+-- ---- one interval, at place k
 
-module _ (m : Reading) (k : ℕ) where
-  pub advanced-by-cell : {c : Class} {x : Cell} → ReadAs c x → advanced m c k ≡ Whole (stepped m x k)
-  unfolding advanced
-  advanced-by-cell r = by-class-read _ _ _ r
+module _ (k : ℕ) where
+  pub taken-is-read : (c : Class) (x : Cell) → Read x ≡ taken c k → ReadAs c x
+  unfolding taken
+  taken-is-read Narrow x e = absurd (let z : _≡_ {A = ℕ} 0 1 = cc in omega arith)
+  taken-is-read Two x e = let same : Short ≡ x = cc in rw same at as-short
+  taken-is-read Three x e = let same : Medium ≡ x = cc in rw same at as-medium
+  taken-is-read Four x e = let same : Long ≡ x = cc in rw same at as-long
+  taken-is-read Wide x e = absurd (let z : _≡_ {A = ℕ} 0 1 = cc in omega arith)
 
-  -- where the machine goes on, the class was read as a cell
-  pub record GoesOn (c : Class) (next : Reading) : Type 0 where
-    pub cell : Cell
-    pub read : ReadAs c cell
-    pub machine : next ≡ stepped m cell k
-
-  pub goes-on : (c : Class) (next : Reading) → Whole next ≡ advanced m c k → GoesOn c next
-  unfolding advanced
-  goes-on Narrow next e = absurd (let z : _≡_ {A = ℕ} 0 1 = cc in omega arith)
-  goes-on Two next e = record { cell = Short; read = as-short; machine = cc }
-  goes-on Three next e = record { cell = Medium; read = as-medium; machine = cc }
-  goes-on Four next e = record { cell = Long; read = as-long; machine = cc }
-  goes-on Wide next e = absurd (let z : _≡_ {A = ℕ} 0 1 = cc in omega arith)
-
-  -- where it stops, the class was narrow or wide
-  pub stops
+  -- where it is refused, its class is narrow or wide
+  pub taken-is-refused
       : (P : Class → Refusal → Type 0)
       → P Narrow (IntervalTooShort k)
       → P Wide (IntervalTooLong k)
       → (c : Class) (r : Refusal)
-      → Stopped r ≡ advanced m c k
+      → Refused r ≡ taken c k
       → P c r
-  unfolding advanced
-  stops P narrow wide Narrow r e = let same : IntervalTooShort k ≡ r = cc in rw same at narrow
-  stops P narrow wide Two r e = absurd (let z : _≡_ {A = ℕ} 0 1 = cc in omega arith)
-  stops P narrow wide Three r e = absurd (let z : _≡_ {A = ℕ} 0 1 = cc in omega arith)
-  stops P narrow wide Four r e = absurd (let z : _≡_ {A = ℕ} 0 1 = cc in omega arith)
-  stops P narrow wide Wide r e = let same : IntervalTooLong k ≡ r = cc in rw same at wide
+  unfolding taken
+  taken-is-refused P narrow wide Narrow r e = let same : IntervalTooShort k ≡ r = cc in rw same at narrow
+  taken-is-refused P narrow wide Two r e = absurd (let z : _≡_ {A = ℕ} 0 1 = cc in omega arith)
+  taken-is-refused P narrow wide Three r e = absurd (let z : _≡_ {A = ℕ} 0 1 = cc in omega arith)
+  taken-is-refused P narrow wide Four r e = absurd (let z : _≡_ {A = ℕ} 0 1 = cc in omega arith)
+  taken-is-refused P narrow wide Wide r e = let same : IntervalTooLong k ≡ r = cc in rw same at wide

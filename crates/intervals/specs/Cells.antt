@@ -3,12 +3,10 @@ use Prim.Native.Nat.{ℕ}
 use Rattle.refusal.specs.declared.Refusal.the-variants.{IntervalTooShort, IntervalTooLong}
 use Rattle.timing.specs.declared.Class.{Class}
 use Rattle.timing.specs.declared.Class.the-variants.{Narrow, Two, Three, Four, Wide}
-use Rattle.symbols.specs.Step.{stepped}
 use Rattle.symbols.specs.declared.Cell.{Cell}
 use Rattle.symbols.specs.declared.Cell.the-variants.{Short, Medium, Long}
-use Rattle.symbols.specs.declared.Reading.{Reading}
-use Rattle.intervals.specs.declared.Scan.{Scan}
-use Rattle.intervals.specs.declared.Scan.the-variants.{Whole, Stopped}
+use Rattle.intervals.specs.declared.Taken.{Taken}
+use Rattle.intervals.specs.declared.Taken.the-variants.{Read, Refused}
 
 -- what follows for a narrow interval, for one that is a cell, and for a wide one
 abbrev pub byClass : {A : Type 0} → Class → A → (Cell → A) → A → A
@@ -18,7 +16,6 @@ byClass Three narrow read wide = read Medium
 byClass Four narrow read wide = read Long
 byClass Wide narrow read wide = wide
 
--- the reading machine after one interval more, at place k
-unfoldable pub advanced : Reading → Class → ℕ → Scan
-advanced m c k =
-    byClass c (Stopped (IntervalTooShort k)) (λ (x : Cell). Whole (stepped m x k)) (Stopped (IntervalTooLong k))
+-- an interval as a cell, or the refusal that stops the reading
+unfoldable pub taken : Class → ℕ → Taken
+taken c k = byClass c (Refused (IntervalTooShort k)) Read (Refused (IntervalTooLong k))

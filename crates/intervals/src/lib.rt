@@ -5,27 +5,28 @@ ghost use mathlib.Core.Path.{_≡_};
 ghost use lib.ListN.{length};
 ghost use Rattle.lists.specs.Filled.{storedAt};
 ghost use Rattle.symbols.specs.Step.{itemsOf};
-ghost use Rattle.intervals.specs.Cells.{advanced};
+ghost use Rattle.intervals.specs.Cells.{taken};
 use refusal::Refusal;
+use symbols::Cell;
 use symbols::Reading;
 use timing::Class;
 
-// How far a pass came: through all its intervals, or to one that is too short or too long.
-pub enum Scan {
-    Whole(Reading),
-    Stopped(Refusal),
+// What an interval is to a reader: a cell, or the refusal that stops its pass.
+pub enum Taken {
+    Read(Cell),
+    Refused(Refusal),
 }
 
-// One interval more, which stands at this place of the caller's list.
-pub fn advance(m: Reading, class: Class, at: u32) -> Scan
-    ensures { λ r. ⌜ r ≡ advanced m class at ⌝ }
+// An interval of this class, which stands at this place of the caller's list.
+pub fn take(class: Class, at: u32) -> Taken
+    ensures { λ r. ⌜ r ≡ taken class at ⌝ }
 {
     match class {
-        Class::Narrow => Scan::Stopped(Refusal::IntervalTooShort(at)),
-        Class::Two => Scan::Whole(m.short()),
-        Class::Three => Scan::Whole(m.medium()),
-        Class::Four => Scan::Whole(m.long(at)),
-        Class::Wide => Scan::Stopped(Refusal::IntervalTooLong(at)),
+        Class::Narrow => Taken::Refused(Refusal::IntervalTooShort(at)),
+        Class::Two => Taken::Read(Cell::Short),
+        Class::Three => Taken::Read(Cell::Medium),
+        Class::Four => Taken::Read(Cell::Long),
+        Class::Wide => Taken::Refused(Refusal::IntervalTooLong(at)),
     }
 }
 

@@ -137,12 +137,12 @@ written-of-bytes ns e = written-of-no-check ns (bytes-have-no-check ns e)
 
 -- ---- in a buffer that they fit, they fill the front
 
-pub stored-bytes-fill-front : (ns old : List ℕ) → writtenBytes ns ≤ length old
-    → sets old 0 (written ns) ≡ filled (written ns) old
-stored-bytes-fill-front ns old h = sets-from-front-is-filled (written ns) old (rw (length-of-written ns) h)
-
 -- as a caller of `write_bytes` has it: the answer, the buffer after the call and before it
-pub front-of-stored-bytes : (ns : List ℕ) (n : ℕ) (out old : List ℕ)
-    → n ≡ writtenBytes ns → out ≡ sets old 0 (written ns) → writtenBytes ns ≤ length old → take n out ≡ written ns
-front-of-stored-bytes ns n out old p q h =
-    ap₂ take (p ∙ sym (length-of-written ns)) (q ∙ stored-bytes-fill-front ns old h) ∙ front-of-filled (written ns) old
+pub front-of-stored-bytes : (c : Check) (ns : List ℕ) (n : ℕ) (out old : List ℕ)
+    → n ≡ writtenBytes ns
+    → out ≡ sets old 0 (writtenFrom c ns)
+    → writtenBytes ns ≤ length old
+    → take n out ≡ writtenFrom c ns
+front-of-stored-bytes c ns n out old p q h =
+    let fills = sets-from-front-is-filled (writtenFrom c ns) old (rw (length-of-written-from c ns) h) in
+    ap₂ take (p ∙ sym (length-of-written-from c ns)) (q ∙ fills) ∙ front-of-filled (writtenFrom c ns) old

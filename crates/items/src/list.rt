@@ -5,7 +5,7 @@ ghost use lib.ListN.{set};
 ghost use lib.Seq.{sets};
 ghost use Rattle.lists.specs.Place.{lowest};
 ghost use Rattle.items.specs.Item.{isForeign, writtenBytes};
-ghost use Rattle.items.specs.Written.{itemBytes, written};
+ghost use Rattle.items.specs.Written.{afterBytes, itemBytes, writtenFrom};
 
 // How many bytes a list writes.
 pub fn written_bytes(items: &[u16]) -> usize
@@ -60,13 +60,20 @@ fn put_item(out: &mut [u16], at: usize, check: Check, n: u16)
     }
 }
 
-// Stores a list's bytes from the front of `out` on, as far as it reaches, and answers how many the list has.
-pub fn write_bytes(items: &[u16], out: &mut [u16]) -> usize
-    ensures count { λ r. ⌜ r ≡ writtenBytes (now (items .entry)) ⌝ }
-    ensures output { λ _. ⌜ now (out .exit) ≡ sets (now (out .entry)) 0 (written (now (items .entry))) ⌝ }
+// The register after a list's bytes, and how many there are.
+pub struct Stored {
+    pub check: Check,
+    pub count: usize,
+}
+
+// Stores a list's bytes, from a state of the register on, from the front of `out` on, as far as it reaches.
+pub fn write_bytes(start: Check, items: &[u16], out: &mut [u16]) -> Stored
+    ensures check { λ r. ⌜ r .check ≡ afterBytes start (writtenFrom start (now (items .entry))) ⌝ }
+    ensures count { λ r. ⌜ r .count ≡ writtenBytes (now (items .entry)) ⌝ }
+    ensures output { λ _. ⌜ now (out .exit) ≡ sets (now (out .entry)) 0 (writtenFrom start (now (items .entry))) ⌝ }
 {
     let table = crate::table::register_table();
-    let mut check = Check::fresh();
+    let mut check = start;
     let mut at: usize = 0;
     let mut k: usize = 0;
     while k < items.len() {
@@ -76,5 +83,5 @@ pub fn write_bytes(items: &[u16], out: &mut [u16]) -> usize
         at += crate::bytes_of(n);
         k += 1;
     }
-    at
+    Stored { check, count: at }
 }

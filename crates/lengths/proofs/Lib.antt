@@ -9,7 +9,5 @@ pub mod ShiftLaws
 pub mod PenLaws
 pub mod SteadyLaws
 pub mod PlaceLaws
-pub mod CountLaws
-pub mod CellCountLaws
 pub mod BrokenLaws
 pub mod PapersMargin

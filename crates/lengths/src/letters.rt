@@ -1,9 +1,9 @@
-// A written byte's bits for the pen, and the cells that it ends, so that a writer can count before it writes.
+// A written byte's bits for the pen.
 ghost use mathlib.Core.Path.{_≡_};
 ghost use Prim.Native.Nat.{_<_};
 ghost use lib.ListN.{getD};
 ghost use Rattle.symbols.specs.Bits.{O, writtenBits};
-ghost use Rattle.lengths.specs.Letters.{bitAt, gapsOf, cellsEnding};
+ghost use Rattle.lengths.specs.Letters.{gapsOf};
 ghost use Rattle.lengths.specs.Pen.{strokeOf, Steady};
 use crate::pen::Pen;
 use crate::pen::Stroke;
@@ -30,16 +30,4 @@ pub fn draw_letter(p: Profile, pen: Pen, w: u16, gaps: u16, k: u32) -> Stroke
 {
     let place = 7 - k;
     crate::pen::draw(p, pen, (w >> place) % 2 == 1, (gaps >> place) % 2 == 1)
-}
-
-// The cells that a written byte ends after the byte before it (0 at the start): one for each pair but 1 0 and a gap.
-pub fn cells_of(before: u16, w: u16) -> u32
-    ensures { λ r. ⌜ r ≡ cellsEnding (bitAt before 0) w ⌝ }
-{
-    let nine = before % 2 * 256 + w % 256;
-    let pairs = 8 - u16::count_ones((nine >> 1) & (511 - nine));
-    if gaps_of(w) == 0 {
-        return pairs;
-    }
-    pairs - 1
 }

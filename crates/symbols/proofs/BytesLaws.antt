@@ -45,6 +45,13 @@ length-of-bits (w ∷ ws) =
     omega (arith, length-append (writtenBits w) (allBits ws), written-row-is-eight w, length-of-bits ws)
 
 -- the rows of bytes, with the closing 0 left over
+pub bits-of-append : (vs ws : List ℕ) → allBits (vs ++ ws) ≡ allBits vs ++ allBits ws
+unfolding allBits
+bits-of-append [] ws = refl
+bits-of-append (v ∷ vs) ws =
+    ap (λ (bs : List Bit). writtenBits v ++ bs) (bits-of-append vs ws)
+    ∙ sym (append-assoc (writtenBits v) (allBits vs) (allBits ws))
+
 pub rows-of-bytes : (ws : List ℕ) → rowsOf (allBits ws ++ (O ∷ [])) ≡ map writtenBits ws
 unfolding allBits rowsOf
 rows-of-bytes [] = refl

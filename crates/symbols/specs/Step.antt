@@ -61,6 +61,17 @@ stepped m Short at = afterShort m
 stepped m Medium at = afterMedium m
 stepped m Long at = afterLong m at
 
+-- the register that a cell pushes, and the state in which it is pushed
+abbrev pub wordAfter : Reading → Cell → ℕ
+wordAfter m Short = m .register * 2 + m .last
+wordAfter m Medium = turned (m .register) (m .last)
+wordAfter m Long = m .register * 4 + m .last
+
+abbrev pub readyFor : Reading → Cell → ℕ → Reading
+readyFor m Short at = m
+readyFor m Medium at = withLast m (turned (m .register) (m .last) % 2)
+readyFor m Long at = noted m at
+
 -- the item that the last cell gave, if it closed a byte
 unfoldable pub itemsOf : Reading → List ℕ
 itemsOf m = cond (m .done) (m .item ∷ []) []

@@ -1,7 +1,7 @@
 // Document 01, "From bits to cells": bits, symbols and cells of written bytes, and the reading of cells.
 ghost use mathlib.Core.Path.{_≡_};
 ghost use Rattle.symbols.specs.Machine.{fresh, closed, pushed};
-ghost use Rattle.symbols.specs.Step.{afterShort, afterMedium, noted, afterLong, stepped};
+ghost use Rattle.symbols.specs.Step.{noted, wordAfter, readyFor, stepped};
 
 mod register;
 
@@ -51,40 +51,40 @@ impl Reading {
         }
     }
 
-    // One cell more, which stands at this place of the caller's list. A caller that matches on the cell's class calls
-    // the three below.
+    // One cell more, which stands at this place of the caller's list. Its bits are pushed at one place of the code, so
+    // that a reader's loop can take the whole step in.
     pub fn step(self, cell: Cell, at: u32) -> Reading
         ensures { λ r. ⌜ r ≡ stepped self cell at ⌝ }
     {
+        let word = self.word_after(cell);
+        self.ready_for(cell, at).push(word)
+    }
+
+    // The register with a cell's bits. One of 2 units gives the last bit again, one of 3 gives 01 after 0 and 0 after
+    // 1, one of 4 gives 0 and the last bit again.
+    fn word_after(self, cell: Cell) -> u64
+        ensures { λ r. ⌜ r ≡ wordAfter self cell ⌝ }
+    {
         match cell {
-            Cell::Short => self.short(),
-            Cell::Medium => self.medium(),
-            Cell::Long => self.long(at),
+            Cell::Short => self.register as u64 * 2 + self.last as u64,
+            Cell::Medium => register::turned(self.register, self.last),
+            Cell::Long => self.register as u64 * 4 + self.last as u64,
         }
     }
 
-    // A cell of 2 units gives the last bit again.
-    pub fn short(self) -> Reading
-        ensures { λ r. ⌜ r ≡ afterShort self ⌝ }
+    // The state in which that register is pushed: with its last bit, and a gap noted.
+    fn ready_for(mut self, cell: Cell, at: u32) -> Reading
+        ensures { λ r. ⌜ r ≡ readyFor self cell at ⌝ }
     {
-        self.push(self.register as u64 * 2 + self.last as u64)
-    }
-
-    // One of 3 gives 01 after 0, and 0 after 1.
-    pub fn medium(mut self) -> Reading
-        ensures { λ r. ⌜ r ≡ afterMedium self ⌝ }
-    {
-        let word = register::turned(self.register, self.last);
-        self.last = (word % 2) as u32;
-        self.push(word)
-    }
-
-    // One of 4 gives 0 and the last bit again; after 0 that is a gap.
-    pub fn long(self, at: u32) -> Reading
-        ensures { λ r. ⌜ r ≡ afterLong self at ⌝ }
-    {
-        self.note(at)
-            .push(self.register as u64 * 4 + self.last as u64)
+        match cell {
+            Cell::Short => self,
+            Cell::Medium => {
+                let word = register::turned(self.register, self.last);
+                self.last = (word % 2) as u32;
+                self
+            }
+            Cell::Long => self.note(at),
+        }
     }
 
     // After 0 a gap begins. The first one of a byte counts: where the byte is A1 or C2 there is no second.

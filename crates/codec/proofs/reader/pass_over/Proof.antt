@@ -8,7 +8,7 @@ use borrow.Author.Needs.{needs}
 use lib.ListN.{length}
 use Rattle.timing.specs.declared.Class.{Class}
 use Rattle.symbols.specs.Step.{itemsOf}
-use Rattle.intervals.specs.Cells.{advanced}
+use Rattle.intervals.specs.Cells.{taken}
 use Turn.{Passing, begins, turn-stops, turn-goes-on, pass-ends}
 use Rattle.codec.proofs.reader.pass_over.Statement.{statement}
 use Rattle.codec.proofs.reader.pass_over.Tie as tie
@@ -34,11 +34,11 @@ shared-slice-read-classify c = search needs
 classify-requires : tie.Need-classify-requires Inv-loop μ-loop
 classify-requires c κs = search needs
 
-cast-advance : tie.Need-cast-advance Inv-loop μ-loop
-cast-advance c = search needs
+cast-take : tie.Need-cast-take Inv-loop μ-loop
+cast-take c = search needs
 
-advance-requires : tie.Need-advance-requires Inv-loop μ-loop
-advance-requires c κs = search needs
+take-requires : tie.Need-take-requires Inv-loop μ-loop
+take-requires c κs = search needs
 
 enum-known-refusal : tie.Need-enum-known-refusal Inv-loop μ-loop
 enum-known-refusal c = search needs
@@ -48,16 +48,27 @@ same-length c = c .before .before .before .before .before .before .before .loop 
 
 returns : tie.Need-returns Inv-loop μ-loop
 returns c =
-    turn-stops _ _ _ (c .before .before .before .before .before .before .before .loop .inv) _ (c .before .before .before .before .before .before .loop-test .taken)
+    let at-take = c .before .before .before in
+    let turn = at-take .before .before .before in
+    let k = turn .before .loop .k in
+    turn-stops _ _ _ (turn .before .loop .inv) _ (turn .loop-test .taken)
     (sym (c .before .refusal .given .1)
-    ∙ c .before .before .before .advance .ensures
-    ∙ ap (λ (class : Class). advanced (c .before .before .before .before .before .before .before .loop .m) class (c .before .before .before .before .before .before .before .loop .k)) (c .before .before .before .before .classify .ensures))
+    ∙ at-take .take .ensures
+    ∙ ap (λ (class : Class). taken class k) (at-take .before .classify .ensures))
 
-enum-known-next : tie.Need-enum-known-next Inv-loop μ-loop
-enum-known-next c = search needs
+enum-known-cell : tie.Need-enum-known-cell Inv-loop μ-loop
+enum-known-cell c = search needs
+
+cast-step : tie.Need-cast-step Inv-loop μ-loop
+cast-step c = search needs
+
+step-requires : tie.Need-step-requires Inv-loop μ-loop
+step-requires c κs = search needs
 
 put-requires : tie.Need-put-requires Inv-loop μ-loop
-put-requires c κs = omega (arith, c .before .before .before .before .before .before .before .before .loop .inv, c .before .before .before .before .before .before .before .loop-test .taken, c .before .before .before .before .before .before .before .before .before .before .before .before .pre)
+put-requires c κs =
+    let turn = c .before .before .before .before .before .before .before .before in
+    omega (arith, turn .before .loop .inv, turn .loop-test .taken, turn .before .before .before .before .before .pre)
 
 add-k : tie.Need-add-k Inv-loop μ-loop
 add-k c = search needs
@@ -68,11 +79,17 @@ loop-less c = search needs
 loop-again : tie.Need-loop-again Inv-loop μ-loop
 unfolding itemsOf
 loop-again c =
-    turn-goes-on _ _ _ (c .before .before .before .before .before .before .before .before .before .before .before .loop .inv) _ _ _ (c .before .before .before .before .before .before .before .before .before .before .loop-test .taken)
-    (sym (c .before .before .before .before .before .next .given .1)
-    ∙ c .before .before .before .before .before .before .before .advance .ensures
-    ∙ ap (λ (class : Class). advanced (c .before .before .before .before .before .before .before .before .before .before .before .loop .m) class (c .before .before .before .before .before .before .before .before .before .before .before .loop .k)) (c .before .before .before .before .before .before .before .before .classify .ensures))
-    (c .before .before .put .ensures .0) (c .before .before .put .ensures .1)
+    let stepped = c .before .before .before .before in
+    let at-take = stepped .before .before .before .before in
+    let turn = at-take .before .before .before in
+    let k = turn .before .loop .k in
+    turn-goes-on _ _ _ (turn .before .loop .inv) _ _ _ _ (turn .loop-test .taken)
+    (sym (stepped .before .before .cell .given .1)
+    ∙ at-take .take .ensures
+    ∙ ap (λ (class : Class). taken class k) (at-take .before .classify .ensures))
+    (stepped .step .ensures)
+    (c .before .before .put .ensures .0)
+    (c .before .before .put .ensures .1)
 
 same-length-2 : tie.Need-same-length-2 Inv-loop μ-loop
 same-length-2 c = c .before .loop .inv .same-length
@@ -91,12 +108,14 @@ pass-over-spec =
     mul-classify
     shared-slice-read-classify
     classify-requires
-    cast-advance
-    advance-requires
+    cast-take
+    take-requires
     enum-known-refusal
     same-length
     returns
-    enum-known-next
+    enum-known-cell
+    cast-step
+    step-requires
     put-requires
     add-k
     loop-less

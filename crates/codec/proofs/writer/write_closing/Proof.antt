@@ -65,7 +65,8 @@ returns c =
     let one = a-zero-more (start .p) (start .track .pen) (now (start .out)) (start .track .at) (O ∷ O ∷ []) none (c .before .before .before .before .before .before .before .before .before .before .write-zero .ensures) in
     let two = a-zero-more (start .p) (start .track .pen) (now (start .out)) (start .track .at) (O ∷ []) one (c .before .before .before .before .before .before .write-zero2 .ensures) in
     let three = a-zero-more (start .p) (start .track .pen) (now (start .out)) (start .track .at) [] two (c .before .before .write-zero3 .ensures) in
-    inking-ends _ _ _ _ _ [] refl three .2
+    let ended = inking-ends _ _ _ _ _ [] refl three in
+    (ended .1, ended .2)
 
 pub write-closing-spec : {M : Type 1} → statement M
 write-closing-spec =

@@ -1,87 +1,139 @@
 -- Why `fields::finder::scan` answers `lockFrom`: each turn keeps the run and passes over no lock, and the ways out are
 -- a lock and the end of the list. Rests on no axiom.
 mod Turn
-use Prim.Native.Nat.{ℕ, _+_, _-_, _<_, _≤_, max}
+use Prim.Native.Nat.{ℕ, _+_, _-_, _<_, _≤_}
 use mathlib.Core.Path.{_≡_, refl, sym, ap, _∙_}
 use mathlib.Core.Bool.{true}
+use mathlib.Core.List.{List}
 use native.Mathlib.Omega.{arith}
+use denote.Ref.{now}
 use borrow.Author.Count.{below-more}
 use borrow.Author.Needs.{needs}
 use lib.ListN.{length, getD}
 use Rattle.timing.specs.Class.{classesOf, classNumber}
 use Rattle.timing.proofs.ClassLaws.{classes-length}
+use Rattle.timing.specs.declared.Class.{Class}
 use Rattle.timing.specs.declared.Class.the-variants.{Narrow, Two}
-use Rattle.fields.specs.Lock.{mayStand}
+use Rattle.fields.specs.Lock.{runEnd, mayStand}
 use Rattle.fields.proofs.LockLaws.{number-2-is-two}
-use Turn.{Run, run-starts, run-grows, run-breaks, run-moves-on, run-ends-adrift, run-ends-in-lock}
+use Rattle.fields.proofs.RunLaws.{run-end-from, run-end-within, twos-up-to-run-end}
+use Turn.{Twos, no-twos, one-more-two}
+use Turn.{Run, run-starts, run-breaks, run-is-whole, run-moves-on, run-ends-adrift, run-ends-in-lock}
 use Rattle.fields.proofs.finder.scan.Statement.{statement}
 use Rattle.fields.proofs.finder.scan.Tie as tie
 
 abbrev Inv-loop : tie.InvT-loop
-Inv-loop p intervals start first₀ k₀ first k =
-    Run (classesOf p intervals) start first k × (first ≡ first₀) × (k₀ ≤ k) × (k ≤ max start (length intervals))
+Inv-loop p intervals start first₀ known₀ end j₀ first known j =
+    (known ≡ known₀) × (known ≤ j) × (j ≤ end) × Twos (classesOf p intervals) j end
 
 abbrev μ-loop : tie.MeasureT-loop
-μ-loop p intervals start first₀ k₀ first k = length intervals - k
+μ-loop p intervals start first₀ known₀ end j₀ first known j = j
 
 abbrev Inv-loop2 : tie.InvT-loop2
-Inv-loop2 p intervals start first₀ k i₀ first i =
-    (first ≡ first₀) × (i ≤ 5) × ((j : ℕ) → j < i → mayStand j (getD (classesOf p intervals) (k + j) Narrow) ≡ true)
+Inv-loop2 p intervals start first₀ known₀ end j k i₀ first known i =
+    (end ≤ k)
+    × (k ≤ length intervals)
+    × Run (classesOf p intervals) start (k - 64) k
+    × (i ≤ 5)
+    × ((n : ℕ) → n < i → mayStand n (getD (classesOf p intervals) (k + n) Narrow) ≡ true)
 
 abbrev μ-loop2 : tie.MeasureT-loop2
-μ-loop2 p intervals start first₀ k i₀ first i = 5 - i
+μ-loop2 p intervals start first₀ known₀ end j k i₀ first known i = 5 - i
 
 abbrev Inv-scan : tie.InvT-scan
-Inv-scan p intervals start first₀ k₀ first k =
-    Run (classesOf p intervals) start first k × (k < first + 64) × (start ≤ first) × (k ≤ max start (length intervals))
+Inv-scan p intervals start first₀ known₀ first known =
+    Run (classesOf p intervals) start first known × (first < length intervals)
 
 abbrev μ-scan : tie.MeasureT-scan
-μ-scan p intervals start first₀ k₀ first k = length intervals - k
+μ-scan p intervals start first₀ known₀ first known = length intervals - first
+
+returns : tie.Need-returns Inv-loop μ-loop Inv-loop2 μ-loop2 Inv-scan μ-scan
+returns c = run-ends-adrift (run-starts _ _) (rw classes-length (omega arith))
+
+-- the classes of the list that is searched
+abbrev classes-at : tie.At-scan Inv-loop μ-loop Inv-loop2 μ-loop2 Inv-scan μ-scan → List Class
+classes-at c =
+    let args = c .before .before .before .args in
+    classesOf (args .p) (now (args .intervals))
 
 scan-holds : tie.Need-scan-holds Inv-loop μ-loop Inv-loop2 μ-loop2 Inv-scan μ-scan
-scan-holds c = (run-starts _ _, omega arith, omega arith, omega arith)
+scan-holds c = (run-starts _ _, omega arith)
+
+add-end : tie.Need-add-end Inv-loop μ-loop Inv-loop2 μ-loop2 Inv-scan μ-scan
+add-end c = omega arith
 
 loop-holds : tie.Need-loop-holds Inv-loop μ-loop Inv-loop2 μ-loop2 Inv-scan μ-scan
-loop-holds c = (c .scan .inv .0, refl, omega arith, omega arith)
+loop-holds c = (refl, omega arith, omega arith, no-twos (classes-at (c .before)) _)
 
-sub-loop : tie.Need-sub-loop Inv-loop μ-loop Inv-loop2 μ-loop2 Inv-scan μ-scan
-sub-loop c = omega arith
+sub-j : tie.Need-sub-j Inv-loop μ-loop Inv-loop2 μ-loop2 Inv-scan μ-scan
+sub-j c = omega arith
 
 class-at-requires : tie.Need-class-at-requires Inv-loop μ-loop Inv-loop2 μ-loop2 Inv-scan μ-scan
 class-at-requires c κs = search needs
 
-add-k : tie.Need-add-k Inv-loop μ-loop Inv-loop2 μ-loop2 Inv-scan μ-scan
-add-k c = omega arith
-
 number-requires : tie.Need-number-requires Inv-loop μ-loop Inv-loop2 μ-loop2 Inv-scan μ-scan
 number-requires c κs = search needs
+
+add-first : tie.Need-add-first Inv-loop μ-loop Inv-loop2 μ-loop2 Inv-scan μ-scan
+add-first c = omega arith
 
 scan-less : tie.Need-scan-less Inv-loop μ-loop Inv-loop2 μ-loop2 Inv-scan μ-scan
 scan-less c = omega arith
 
 scan-again : tie.Need-scan-again Inv-loop μ-loop Inv-loop2 μ-loop2 Inv-scan μ-scan
 scan-again c =
-    let looked = c .before .before .before .before .before in
+    let looked = c .before .before .before .before in
     let class-at = c .before .before .class-at in
-    let other : class-at .result ≡ Two → ⊥ = λ e. c .if2 .taken (c .before .number .ensures ∙ ap classNumber e) in
-    let broken = run-breaks (looked .loop .inv .0) (omega arith) (λ e. other (class-at .ensures ∙ e)) in
-    (broken, omega arith, omega arith, omega arith)
+    let other : class-at .result ≡ Two → ⊥ = λ e. c .if3 .taken (c .before .number .ensures ∙ ap classNumber e) in
+    let back : looked .loop .j - 1 + 1 ≡ looked .loop .j = omega arith in (
+      run-breaks
+          (looked .before .before .scan .inv .0)
+          _
+          (omega arith)
+          (omega arith)
+          (λ e. other (class-at .ensures ∙ e))
+          (rw back (looked .loop .inv .3)),
+      omega arith,
+    )
 
 loop-less : tie.Need-loop-less Inv-loop μ-loop Inv-loop2 μ-loop2 Inv-scan μ-scan
 loop-less c = omega arith
 
 loop-again : tie.Need-loop-again Inv-loop μ-loop Inv-loop2 μ-loop2 Inv-scan μ-scan
 loop-again c =
-    let looked = c .before .before .before .before .before in
-    let two = number-2-is-two _ (sym (c .before .number .ensures) ∙ c .if2 .left) in (
-      run-grows (looked .loop .inv .0) (omega arith) (sym (c .before .before .class-at .ensures) ∙ two),
-      looked .loop .inv .1,
+    let looked = c .before .before .before .before in
+    let cs = classes-at (looked .before .before) in
+    let j = looked .loop .j in
+    let two = number-2-is-two _ (sym (c .before .number .ensures) ∙ c .if3 .left) in
+    let after : Twos cs (j - 1 + 1) (looked .before .before .scan .first + 64) =
+    let back : j - 1 + 1 ≡ j = omega arith in rw back (looked .loop .inv .3) in (
+      looked .loop .inv .0,
       omega arith,
       omega arith,
+      one-more-two cs _ _ (sym (c .before .before .class-at .ensures) ∙ two) after,
     )
 
+run-end-requires : tie.Need-run-end-requires Inv-loop μ-loop Inv-loop2 μ-loop2 Inv-scan μ-scan
+run-end-requires c κs = search needs
+
 loop2-holds : tie.Need-loop2-holds Inv-loop μ-loop Inv-loop2 μ-loop2 Inv-scan μ-scan
-loop2-holds c = (refl, omega arith, λ j h. absurd (omega arith))
+loop2-holds c =
+    let turn = c .before .before .before .before in
+    let cs = classes-at turn in
+    let end = turn .scan .first + 64 in
+    let k = c .run-end .result in
+    let k-is : k ≡ runEnd cs end = c .run-end .ensures in
+    let inside : end ≤ length cs = rw classes-length (omega arith) in
+    let from : end ≤ k = rw k-is (run-end-from cs end) in
+    let within : k ≤ length cs = rw k-is (run-end-within cs end inside) in
+    let twos : Twos cs end k = rw k-is (twos-up-to-run-end cs end) in
+    let window = c .before .before .loop .inv .3 in (
+      from,
+      (rw classes-length at within),
+      run-is-whole (turn .scan .inv .0) k (λ j low high. window j (omega arith) high) from twos,
+      omega arith,
+      λ j h. absurd (omega arith),
+    )
 
 add-class-at : tie.Need-add-class-at Inv-loop μ-loop Inv-loop2 μ-loop2 Inv-scan μ-scan
 add-class-at c = omega arith
@@ -102,14 +154,15 @@ loop2-less c = omega arith
 loop2-again : tie.Need-loop2-again Inv-loop μ-loop Inv-loop2 μ-loop2 Inv-scan μ-scan
 loop2-again c =
     let looked = c .before .before .before .before in
+    let inv = looked .loop2 .inv in
     let stands =
     ap (mayStand _) (sym (c .before .before .class-at2 .ensures))
     ∙ sym (c .before .may-stand .ensures)
-    ∙ c .if3 .taken in
-    (looked .loop2 .inv .0, omega arith, below-more _ _ (looked .loop2 .inv .2) stands)
+    ∙ c .if4 .taken in
+    (inv .0, inv .1, inv .2, omega arith, below-more _ _ (inv .4) stands)
 
-add-first : tie.Need-add-first Inv-loop μ-loop Inv-loop2 μ-loop2 Inv-scan μ-scan
-add-first c = omega arith
+sub-first : tie.Need-sub-first Inv-loop μ-loop Inv-loop2 μ-loop2 Inv-scan μ-scan
+sub-first c = omega arith
 
 scan-less-2 : tie.Need-scan-less-2 Inv-loop μ-loop Inv-loop2 μ-loop2 Inv-scan μ-scan
 scan-less-2 c = omega arith
@@ -117,24 +170,20 @@ scan-less-2 c = omega arith
 scan-again-2 : tie.Need-scan-again-2 Inv-loop μ-loop Inv-loop2 μ-loop2 Inv-scan μ-scan
 scan-again-2 c =
     let looked = c .before .before .before .before in
-    let run = looked .before .before .loop .inv .0 in
     let failed =
     ap (mayStand _) (sym (c .before .before .class-at2 .ensures))
     ∙ sym (c .before .may-stand .ensures)
-    ∙ c .if3 .left in
-    (run-moves-on run _ _ (omega arith) (omega arith) failed (omega arith), omega arith, omega arith, omega arith)
-
-returns : tie.Need-returns Inv-loop μ-loop Inv-loop2 μ-loop2 Inv-scan μ-scan
-returns c =
-    run-ends-adrift (c .before .before .loop .inv .0) (omega arith) (rw classes-length (omega arith))
+    ∙ c .if4 .left in
+    (run-moves-on (looked .loop2 .inv .2) _ _ (omega arith) (omega arith) failed (omega arith), omega arith)
 
 returns-2 : tie.Need-returns-2 Inv-loop μ-loop Inv-loop2 μ-loop2 Inv-scan μ-scan
-returns-2 c =
+returns-2 c = run-ends-adrift (c .before .scan .inv .0) (rw classes-length (omega arith))
+
+returns-3 : tie.Need-returns-3 Inv-loop μ-loop Inv-loop2 μ-loop2 Inv-scan μ-scan
+returns-3 c =
+    let inv = c .before .loop2 .inv in
     let all : c .before .loop2 .i ≡ 5 = omega arith in
-    run-ends-in-lock
-    (c .before .before .before .loop .inv .0)
-    (omega arith)
-    (λ j h. c .before .loop2 .inv .2 j (omega arith))
+    run-ends-in-lock (inv .2) (omega arith) (λ j h. inv .4 j (omega arith))
 
 pub scan-spec : {M : Type 1} → statement M
 scan-spec =
@@ -146,16 +195,19 @@ scan-spec =
     μ-loop2
     Inv-scan
     μ-scan
+    returns
     scan-holds
+    add-end
     loop-holds
-    sub-loop
+    sub-j
     class-at-requires
-    add-k
     number-requires
+    add-first
     scan-less
     scan-again
     loop-less
     loop-again
+    run-end-requires
     loop2-holds
     add-class-at
     class-at-requires-2
@@ -163,8 +215,8 @@ scan-spec =
     add-i
     loop2-less
     loop2-again
-    add-first
+    sub-first
     scan-less-2
     scan-again-2
-    returns
-    returns-2)
+    returns-2
+    returns-3)

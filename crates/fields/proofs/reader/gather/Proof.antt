@@ -7,7 +7,7 @@ use mathlib.Core.Path.{_≡_, sym, ap, _∙_}
 use lib.ListN.{length, getD}
 use Rattle.timing.specs.Class.{classOf}
 use Rattle.timing.specs.declared.Class.{Class}
-use Rattle.intervals.specs.Cells.{advanced}
+use Rattle.intervals.specs.Cells.{taken}
 use Rattle.refusal.specs.declared.Refusal.the-variants.{EndsEarly, MisplacedMark}
 use Turn.{Gathering, begins, no-items, count-is-small, turn-ends, turn-stops, turn-goes-on}
 use End.{pass-is-stray, pass-is-whole, pass-stored}
@@ -21,17 +21,15 @@ Inv-loop p intervals n out₀ m₀ count₀ k₀ out m count k = Gathering p int
 abbrev μ-loop : tie.MeasureT-loop
 μ-loop p intervals n out₀ m₀ count₀ k₀ out m count k = length intervals - k
 
--- the machine after the interval's own class
-advanced-here
-    : (c : tie.After-advance Inv-loop μ-loop)
+-- what the interval's own class was taken as
+taken-here
+    : (c : tie.After-take Inv-loop μ-loop)
     → let turn = c .before .before .before .before .before .before in
     let args = turn .before .before .before .before .args in
-    c .advance .result
-    ≡ advanced (turn .loop .m) (classOf (args .p) (getD (args .intervals .now) (turn .loop .k) 0)) (turn .loop .k)
-advanced-here c =
+    c .take .result ≡ taken (classOf (args .p) (getD (args .intervals .now) (turn .loop .k) 0)) (turn .loop .k)
+taken-here c =
     let turn = c .before .before .before .before .before .before in
-    c .advance .ensures
-    ∙ ap (λ (class : Class). advanced (turn .loop .m) class (turn .loop .k)) (c .before .classify .ensures)
+    c .take .ensures ∙ ap (λ (class : Class). taken class (turn .loop .k)) (c .before .classify .ensures)
 
 new-requires : tie.Need-new-requires Inv-loop μ-loop
 new-requires c κs = search needs
@@ -56,11 +54,11 @@ shared-slice-read-classify c = search needs
 classify-requires : tie.Need-classify-requires Inv-loop μ-loop
 classify-requires c κs = search needs
 
-cast-advance : tie.Need-cast-advance Inv-loop μ-loop
-cast-advance c = search needs
+cast-take : tie.Need-cast-take Inv-loop μ-loop
+cast-take c = search needs
 
-advance-requires : tie.Need-advance-requires Inv-loop μ-loop
-advance-requires c κs = search needs
+take-requires : tie.Need-take-requires Inv-loop μ-loop
+take-requires c κs = search needs
 
 enum-known-refusal : tie.Need-enum-known-refusal Inv-loop μ-loop
 enum-known-refusal c = search needs
@@ -70,9 +68,9 @@ same-length-2 c = c .before .before .before .before .before .before .before .bef
 
 returns-2 : tie.Need-returns-2 Inv-loop μ-loop
 returns-2 c =
-    let at-advance = c .before .before .before in
-    let tested = at-advance .before .before .before in
-    let stopped = sym (c .before .refusal .given .1) ∙ advanced-here at-advance in
+    let at-take = c .before .before .before in
+    let tested = at-take .before .before .before in
+    let stopped = sym (c .before .refusal .given .1) ∙ taken-here at-take in
     let refusal =
     turn-stops
     _
@@ -86,12 +84,18 @@ returns-2 c =
     stopped in
     (refusal, no-items _ _ _ _ (c .before .refusal .given .0 .0) _ refusal)
 
-enum-known-next : tie.Need-enum-known-next Inv-loop μ-loop
-enum-known-next c = search needs
+enum-known-cell : tie.Need-enum-known-cell Inv-loop μ-loop
+enum-known-cell c = search needs
+
+cast-step : tie.Need-cast-step Inv-loop μ-loop
+cast-step c = search needs
+
+step-requires : tie.Need-step-requires Inv-loop μ-loop
+step-requires c κs = search needs
 
 store-requires : tie.Need-store-requires Inv-loop μ-loop
 store-requires c κs =
-    let tested = c .before .before .before .before .before .before .before .before in
+    let tested = c .before .before .before .before .before .before .before .before .before in
     let turn = tested .before .before in
     count-is-small _ _ _ _ (turn .loop .inv) (tested .if1 .taken) (turn .before .before .before .before .pre .1)
 
@@ -104,8 +108,9 @@ loop-less c = search needs
 loop-again : tie.Need-loop-again Inv-loop μ-loop
 loop-again c =
     let stored = c .before .before .store in
-    let at-advance = c .before .before .before .before .before .before .before in
-    let tested = at-advance .before .before .before in
+    let stepped = c .before .before .before .before in
+    let at-take = stepped .before .before .before .before in
+    let tested = at-take .before .before .before in
     let turn = tested .before .before .before in
     turn-goes-on
     _
@@ -116,10 +121,12 @@ loop-again c =
     _
     _
     _
+    _
     (tested .before .if1 .taken)
     (tested .if2 .left)
     (turn .before .before .before .before .pre .0)
-    (sym (c .before .before .before .before .before .next .given .1) ∙ advanced-here at-advance)
+    (sym (stepped .before .before .cell .given .1) ∙ taken-here at-take)
+    (stepped .step .ensures)
     (stored .ensures .0)
     (stored .ensures .1)
 
@@ -155,12 +162,14 @@ gather-spec =
     mul-classify
     shared-slice-read-classify
     classify-requires
-    cast-advance
-    advance-requires
+    cast-take
+    take-requires
     enum-known-refusal
     same-length-2
     returns-2
-    enum-known-next
+    enum-known-cell
+    cast-step
+    step-requires
     store-requires
     add-k
     loop-less

@@ -1,7 +1,7 @@
 -- `list::write_bytes` is a fold over the items: what the items from k on have still to store makes the whole.
 use Prim.Native.Nat.{ℕ, _+_, _-_, _*_, _^_, _≤_, _<_, zero-le}
-use mathlib.Core.Path.{_≡_, sym, ap, _∙_}
-use mathlib.Core.List.{List}
+use mathlib.Core.Path.{_≡_, refl, sym, ap, _∙_}
+use mathlib.Core.List.{List, []}
 use native.Mathlib.Nat.{zero-add}
 use native.Mathlib.Omega.{arith}
 use borrow.Author.Count.{falls}
@@ -11,9 +11,10 @@ use lib.ListN.{length, getD, drop}
 use lib.Seq.{sets, length-sets}
 use Rattle.lists.proofs.FilledLaws.{sets-of-append}
 use Rattle.items.specs.Item.{bytesOf, writtenBytes}
-use Rattle.items.specs.Written.{itemBytes, afterItem, writtenFrom, written}
+use Rattle.items.specs.Written.{itemBytes, afterBytes, afterItem, writtenFrom}
 use Rattle.items.specs.declared.Check.{Check}
 use Rattle.items.proofs.ItemLaws.{written-bytes-bounds, written-bytes-from, written-bytes-from-end}
+use Rattle.items.proofs.CheckLaws.{after-bytes-of-append}
 use Rattle.items.proofs.WrittenLaws.{length-of-item-bytes, written-from-place, written-from-end}
 use Rattle.items.proofs.list.write_bytes.Statement.{statement}
 use Rattle.items.proofs.list.write_bytes.Tie as tie
@@ -30,10 +31,25 @@ stored-then-rest out next at size items k check after h p q r =
     let length-is-size : length bytes ≡ size = length-of-item-bytes check (getD items k 0) ∙ sym p in
     rw (q, r, ← length-is-size, written-from-place check items k h) (sym (sets-of-append out at bytes _))
 
+-- the register after an item's bytes, and then after those of the rest
+passed-then-rest :
+    (items : List ℕ) (k : ℕ) (check after : Check) → k < length items
+    → after ≡ afterItem check (getD items k 0)
+    → afterBytes after (writtenFrom after (drop (k + 1) items)) ≡ afterBytes check (writtenFrom check (drop k items))
+unfolding afterItem
+passed-then-rest items k check after h r =
+    rw (r, written-from-place check items k h)
+    (sym (after-bytes-of-append check (itemBytes check (getD items k 0)) _))
+
+after-no-bytes : (check : Check) → afterBytes check [] ≡ check
+unfolding afterBytes
+after-no-bytes check = refl
+
 abbrev Inv-loop : tie.InvT-loop
 Inv-loop items out₀ table check₀ at₀ k₀ out check at k =
     (k ≤ length items) × (at + writtenBytes (drop k items) ≡ writtenBytes items)
-    × (sets out at (writtenFrom check (drop k items)) ≡ sets out₀ 0 (written items))
+    × (sets out at (writtenFrom check (drop k items)) ≡ sets out₀ 0 (writtenFrom check₀ items))
+    × (afterBytes check (writtenFrom check (drop k items)) ≡ afterBytes check₀ (writtenFrom check₀ items))
 
 abbrev μ-loop : tie.MeasureT-loop
 μ-loop items out₀ table check₀ at₀ k₀ out check at k = length items - k
@@ -43,21 +59,13 @@ abbrev turn-of : tie.After-bytes-of Inv-loop μ-loop → tie.In-loop Inv-loop μ
 turn-of c = c .before .before .before .before .before .before .before .before
 
 abbrev entry-of : tie.At-loop Inv-loop μ-loop → tie.Start Inv-loop μ-loop
-entry-of c = c .before .before .before .before .before
+entry-of c = c .before .before .before .before
 
 register-table-requires : tie.Need-register-table-requires Inv-loop μ-loop
 register-table-requires c κs = search needs
 
-fresh-requires : tie.Need-fresh-requires Inv-loop μ-loop
-fresh-requires c κs = search needs
-
 loop-holds : tie.Need-loop-holds Inv-loop μ-loop
-unfolding written
-loop-holds c =
-    let given = c .before .before .before .before .args in
-    let items : List ℕ = now (given .items) in
-    let begun = ap (λ (s : Check). sets (now (given .out)) 0 (writtenFrom s items)) (c .fresh .ensures) in
-    (zero-le, zero-add (writtenBytes items), begun)
+loop-holds c = (zero-le, zero-add (writtenBytes (now (c .before .before .before .args .items))), refl, refl)
 
 mul-n : tie.Need-mul-n Inv-loop μ-loop
 mul-n c = omega arith
@@ -71,7 +79,7 @@ put-item-requires c κs = search needs
 after-item-requires : tie.Need-after-item-requires Inv-loop μ-loop
 after-item-requires c κs =
     let turn : tie.In-loop Inv-loop μ-loop = c .before .before .before .before .before .before in
-    turn .before .before .before .register-table .ensures
+    turn .before .before .register-table .ensures
 
 bytes-of-requires : tie.Need-bytes-of-requires Inv-loop μ-loop
 bytes-of-requires c κs = search needs
@@ -84,7 +92,7 @@ add-at c =
     let inside : head .k < length items = turn .loop-test .taken in
     let counted : c .bytes-of .result ≡ bytesOf (getD items (head .k) 0) = c .bytes-of .ensures in
     let whole : head .at + writtenBytes (drop (head .k) items) ≡ writtenBytes items = head .inv .1 in
-    let size : length items * 2 < 2 ^ 63 = entry-of (turn .before) .good .0 .1 in
+    let size : length items * 2 < 2 ^ 63 = entry-of (turn .before) .good .1 .0 .1 in
     let room : head .at + c .bytes-of .result < 2 ^ 64 =
     omega (arith, written-bytes-from items (head .k) inside, written-bytes-bounds items) in
     record { fits = room }
@@ -109,6 +117,7 @@ loop-again c =
       stored-then-rest (head .out) _ (head .at) (c .bytes-of .result) items (head .k) (head .check) _
           inside counted put (c .before .after-item .ensures)
           ∙ head .inv .2,
+      passed-then-rest items (head .k) (head .check) _ inside (c .before .after-item .ensures) ∙ head .inv .3,
     )
 
 same-length : tie.Need-same-length Inv-loop μ-loop
@@ -117,16 +126,21 @@ same-length c =
     let given = entry-of (c .before) .args in
     sym (length-sets (head .out) (head .at) (writtenFrom (head .check) (drop (head .k) (now (given .items)))))
     ∙ ap length (head .inv .2)
-    ∙ length-sets (now (given .out)) 0 (written (now (given .items)))
+    ∙ length-sets (now (given .out)) 0 (writtenFrom (given .start) (now (given .items)))
 
 returns : tie.Need-returns Inv-loop μ-loop
 returns c =
     let head = c .before .loop in
     let items : List ℕ = now (entry-of (c .before) .args .items) in
     let end : length items ≤ head .k = c .loop-test .left in
-    let whole : head .at + writtenBytes (drop (head .k) items) ≡ writtenBytes items = head .inv .1 in (
-      omega (arith, written-bytes-from-end items (head .k) end),
-      ap (sets (head .out) (head .at)) (sym (written-from-end (head .check) items (head .k) end)) ∙ head .inv .2,
+    let whole : head .at + writtenBytes (drop (head .k) items) ≡ writtenBytes items = head .inv .1 in
+    let none : writtenFrom (head .check) (drop (head .k) items) ≡ [] =
+    written-from-end (head .check) items (head .k) end in (
+      sym (ap (afterBytes (head .check)) none ∙ after-no-bytes (head .check)) ∙ head .inv .3,
+      (
+        omega (arith, written-bytes-from-end items (head .k) end),
+        ap (sets (head .out) (head .at)) (sym none) ∙ head .inv .2,
+      ),
     )
 
 pub write-bytes-spec : {M : Type 1} → statement M
@@ -136,7 +150,6 @@ write-bytes-spec =
     Inv-loop
     μ-loop
     register-table-requires
-    fresh-requires
     loop-holds
     mul-n
     shared-slice-read-n

@@ -1,45 +1,40 @@
--- Why `Reading::step` gives `stepped`: both go by the cell.
+-- Why `Reading::step` gives `stepped`: for each cell that is `pushed`, from the state and with the register that the
+-- cell gives.
+use Prim.Native.Nat.{ℕ}
+use mathlib.Core.Path.{_≡_, refl, _∙_}
+use Rattle.symbols.specs.Machine.{pushed}
+use Rattle.symbols.specs.Step.{afterMedium, afterLong, wordAfter, readyFor, stepped}
+use Rattle.symbols.specs.declared.Cell.{Cell}
+use Rattle.symbols.specs.declared.Cell.the-variants.{Short, Medium, Long}
+use Rattle.symbols.specs.declared.Reading.{Reading}
 use borrow.Author.Needs.{needs}
 use Rattle.symbols.proofs.Reading.step.Statement.{statement}
 use Rattle.symbols.proofs.Reading.step.Tie as tie
 
-enum-told : tie.Need-enum-told
-enum-told c = search needs
+step-pushes
+    : (m : Reading) (cell : Cell) (at : ℕ) → pushed (readyFor m cell at) (wordAfter m cell) ≡ stepped m cell at
+unfolding afterMedium afterLong
+step-pushes m Short at = refl
+step-pushes m Medium at = refl
+step-pushes m Long at = refl
 
-short-requires : tie.Need-short-requires
-short-requires c κs = search needs
+word-after-requires : tie.Need-word-after-requires
+word-after-requires c κs = search needs
 
-enum-told-2 : tie.Need-enum-told-2
-enum-told-2 c = search needs
+ready-for-requires : tie.Need-ready-for-requires
+ready-for-requires c κs = search needs
 
-medium-requires : tie.Need-medium-requires
-medium-requires c κs = search needs
-
-enum-told-3 : tie.Need-enum-told-3
-enum-told-3 c = search needs
-
-long-requires : tie.Need-long-requires
-long-requires c κs = search needs
+push-requires : tie.Need-push-requires
+push-requires c κs = search needs
 
 returns : tie.Need-returns
-returns c = rw (c .before .enum-told .given .1) (c .short .ensures)
-
-returns-2 : tie.Need-returns-2
-returns-2 c = rw (c .before .enum-told2 .given .1) (c .medium .ensures)
-
-returns-3 : tie.Need-returns-3
-returns-3 c = rw (c .before .enum-told3 .given .1) (c .long .ensures)
+returns c =
+    let args = c .before .before .before .args in
+    rw (
+      ← step-pushes (args .self) (args .cell) (args .at),
+      ← c .before .ready-for .ensures,
+      ← c .before .before .word-after .ensures,
+    ) (c .push .ensures)
 
 pub step-spec : {M : Type 1} → statement M
-step-spec =
-    tie.close
-    (tie.spec
-    enum-told
-    short-requires
-    enum-told-2
-    medium-requires
-    enum-told-3
-    long-requires
-    returns
-    returns-2
-    returns-3)
+step-spec = tie.close (tie.spec word-after-requires ready-for-requires push-requires returns)

@@ -19,35 +19,38 @@ use Rattle.timing.specs.declared.Class.the-variants.{Narrow, Two, Three, Four, 
 use Rattle.timing.proofs.ClassLaws.{classes-of-cons, classes-of-drop, classes-length}
 use Rattle.symbols.specs.Machine.{fresh}
 use Rattle.symbols.specs.Step.{stepped, itemsOf}
-use Rattle.symbols.specs.declared.Cell.the-variants.{Short, Medium, Long}
+use Rattle.symbols.specs.declared.Cell.{Cell}
 use Rattle.symbols.specs.declared.Reading.{Reading}
-use Rattle.intervals.specs.Cells.{advanced}
+use Rattle.intervals.specs.Cells.{taken}
+use Rattle.intervals.specs.declared.Taken.the-variants.{Read, Refused}
+use Rattle.intervals.proofs.CellLaws.{ReadAs, as-short, as-medium, as-long, taken-is-read, taken-is-refused}
 use Rattle.codec.specs.Scan.{scanned, gathered}
-use Rattle.intervals.specs.declared.Scan.{Scan}
-use Rattle.intervals.specs.declared.Scan.the-variants.{Whole, Stopped}
+use Rattle.codec.specs.declared.reader.Scan.{Scan}
+use Rattle.codec.specs.declared.reader.Scan.the-variants.{Whole, Stopped}
 
 -- ---- one class more
 
 module _ (k : ℕ) (m : Reading) (cs : List Class) where
-  stops : (c : Class) (r : Refusal) → Stopped r ≡ advanced m c k → (Stopped r ≡ scanned k m (c ∷ cs)) × (gathered k m (c ∷ cs) ≡ [])
-  unfolding advanced scanned gathered
-  stops Narrow r e = (e, refl)
-  stops Two r e = absurd (let z : _≡_ {A = ℕ} 0 1 = cc in omega arith)
-  stops Three r e = absurd (let z : _≡_ {A = ℕ} 0 1 = cc in omega arith)
-  stops Four r e = absurd (let z : _≡_ {A = ℕ} 0 1 = cc in omega arith)
-  stops Wide r e = (e, refl)
+  stops
+      : (c : Class) (r : Refusal)
+      → Refused r ≡ taken c k
+      → (Stopped r ≡ scanned k m (c ∷ cs)) × (gathered k m (c ∷ cs) ≡ [])
+  unfolding scanned gathered
+  stops =
+      taken-is-refused k
+      (λ (c : Class) (r : Refusal). (Stopped r ≡ scanned k m (c ∷ cs)) × (gathered k m (c ∷ cs) ≡ []))
+      (refl, refl)
+      (refl, refl)
 
   goes-on
-      : (c : Class) (next : Reading)
-      → Whole next ≡ advanced m c k
-      → (scanned k m (c ∷ cs) ≡ scanned (suc k) next cs)
-      × (gathered k m (c ∷ cs) ≡ itemsOf next ++ gathered (suc k) next cs)
-  unfolding advanced scanned gathered
-  goes-on Narrow next e = absurd (let z : _≡_ {A = ℕ} 0 1 = cc in omega arith)
-  goes-on Two next e = let same : next ≡ stepped m Short k = cc in rw same (refl, refl)
-  goes-on Three next e = let same : next ≡ stepped m Medium k = cc in rw same (refl, refl)
-  goes-on Four next e = let same : next ≡ stepped m Long k = cc in rw same (refl, refl)
-  goes-on Wide next e = absurd (let z : _≡_ {A = ℕ} 0 1 = cc in omega arith)
+      : {c : Class} {x : Cell}
+      → ReadAs c x
+      → (scanned k m (c ∷ cs) ≡ scanned (suc k) (stepped m x k) cs)
+      × (gathered k m (c ∷ cs) ≡ itemsOf (stepped m x k) ++ gathered (suc k) (stepped m x k) cs)
+  unfolding scanned gathered
+  goes-on as-short = (refl, refl)
+  goes-on as-medium = (refl, refl)
+  goes-on as-long = (refl, refl)
 
 -- a cell closes one byte at most
 one-or-none : (done : Bool) (item : ℕ) → length (cond done (item ∷ []) []) ≤ 1
@@ -82,7 +85,7 @@ module _ (p : Profile) (ds old : List ℕ) where
     pub turn-stops
         : (r : Refusal)
         → k < length ds
-        → Stopped r ≡ advanced m (classOf p (getD ds k 0)) k
+        → Refused r ≡ taken (classOf p (getD ds k 0)) k
         → (Stopped r ≡ scanned 0 fresh (classesOf p ds)) × (out ≡ storedAt old 0 (gathered 0 fresh (classesOf p ds)))
     turn-stops r h e =
         let ends = stops k m (drop (suc k) (classesOf p ds)) (classOf p (getD ds k 0)) r e in (
@@ -93,15 +96,16 @@ module _ (p : Profile) (ds old : List ℕ) where
         )
 
     pub turn-goes-on
-        : (next : Reading) (stored : List ℕ) (count′ : ℕ)
+        : (x : Cell) (next : Reading) (stored : List ℕ) (count′ : ℕ)
         → k < length ds
-        → Whole next ≡ advanced m (classOf p (getD ds k 0)) k
+        → Read x ≡ taken (classOf p (getD ds k 0)) k
+        → next ≡ stepped m x k
         → count′ ≡ count + length (itemsOf next)
         → stored ≡ storedAt out count (itemsOf next)
         → Passing stored next count′ (k + 1)
-    turn-goes-on next stored count′ h e places store =
+    turn-goes-on x next stored count′ h e machine places store =
         let rest = drop (suc k) (classesOf p ds) in
-        let on = goes-on k m rest (classOf p (getD ds k 0)) next e in
+        let on = rw (← machine) at (goes-on k m rest (taken-is-read k (classOf p (getD ds k 0)) x e)) in
         rw add-one
         (record {
           within = h;

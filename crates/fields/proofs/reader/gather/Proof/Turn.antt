@@ -28,9 +28,9 @@ use Rattle.symbols.specs.declared.Reading.{Reading}
 use Rattle.symbols.proofs.ReadsLaws.{Reads, reads-fresh}
 use Rattle.symbols.proofs.StepLaws.{reads-step, items-step}
 use Rattle.symbols.proofs.AnswerLaws.{reads-too-few, reads-items-count}
-use Rattle.intervals.specs.Cells.{advanced}
-use Rattle.intervals.specs.declared.Scan.the-variants.{Whole, Stopped}
-use Rattle.intervals.proofs.CellLaws.{GoesOn, goes-on, stops}
+use Rattle.intervals.specs.Cells.{taken}
+use Rattle.intervals.specs.declared.Taken.the-variants.{Read, Refused}
+use Rattle.intervals.proofs.CellLaws.{taken-is-read, taken-is-refused}
 use Rattle.fields.specs.Field.{fieldStop, fieldItems}
 use Rattle.fields.specs.FieldRule.{gatherRule}
 use Rattle.fields.proofs.FrontLaws.{wantedOf, Front, front-starts, front-goes-on, front-ends, front-meets-narrow}
@@ -108,7 +108,7 @@ module _ (p : Profile) (ds old : List ℕ) (n : ℕ) where
         : (r : Refusal)
         → m .rows ≤ n
         → k < length ds
-        → Stopped r ≡ advanced m (classOf p (getD ds k 0)) k
+        → Refused r ≡ taken (classOf p (getD ds k 0)) k
         → refused (numberOf r) (placeOf r) ≡ gatherRule cs n
     unfolding gatherRule
     turn-stops r h inside e =
@@ -116,8 +116,7 @@ module _ (p : Profile) (ds old : List ℕ) (n : ℕ) where
         r
         (fieldStop cs n)
         _
-        (stops
-        m
+        (taken-is-refused
         k
         (λ (c : Class) (s : Refusal).
         Front cs n (so-far .done) (c ∷ drop (suc k) cs) → refused (numberOf s) (placeOf s) ≡ fieldStop cs n)
@@ -129,21 +128,20 @@ module _ (p : Profile) (ds old : List ℕ) (n : ℕ) where
         (front-here inside))
 
     pub turn-goes-on
-        : (next : Reading) (new : List ℕ) (count′ : ℕ)
+        : (x : Cell) (next : Reading) (new : List ℕ) (count′ : ℕ)
         → m .rows ≤ n
         → k < length ds
         → length ds ≤ 8241
-        → Whole next ≡ advanced m (classOf p (getD ds k 0)) k
+        → Read x ≡ taken (classOf p (getD ds k 0)) k
+        → next ≡ stepped m x k
         → count′ ≡ count + length (itemsOf next)
         → new ≡ storedAt out count (itemsOf next)
         → Gathering new next count′ (k + 1)
-    turn-goes-on next new count′ h inside most e places store =
-        let on : GoesOn m k (classOf p (getD ds k 0)) next = goes-on m k (classOf p (getD ds k 0)) next e in
-        let x : Cell = on .cell in
+    turn-goes-on x next new count′ h inside most e steps places store =
         let more : List Cell = so-far .done ++ (x ∷ []) in
         let room : length (so-far .done) < 2 ^ 32 = let at = so-far .placed in omega arith in
         let machine : next ≡ stepped m x (length (so-far .done)) =
-        on .machine ∙ ap (stepped m x) (sym (so-far .placed)) in
+        steps ∙ ap (stepped m x) (sym (so-far .placed)) in
         let items : itemsRead (readBits more) ≡ itemsRead (readBits (so-far .done)) ++ itemsOf next =
         items-step m (so-far .done) (so-far .reads) room x
         ∙ ap (λ (r : Reading). itemsRead (readBits (so-far .done)) ++ itemsOf r) (sym machine) in
@@ -154,7 +152,8 @@ module _ (p : Profile) (ds old : List ℕ) (n : ℕ) where
               subst (λ (r : Reading). Reads r more) (sym machine) (reads-step m (so-far .done) (so-far .reads) room x);
           placed = length-append (so-far .done) (x ∷ []) ∙ (let at = so-far .placed in omega arith);
           within = inside;
-          front = front-goes-on cs n (so-far .done) (wanted h) (on .read) (drop (suc k) cs) (front-here inside);
+          front =
+              front-goes-on cs n (so-far .done) (wanted h) (taken-is-read k _ x e) (drop (suc k) cs) (front-here inside);
           same-length = ap length store ∙ stored-length out count (itemsOf next) ∙ so-far .same-length;
           counted =
               places
