@@ -8,7 +8,7 @@ use Rattle.lists.specs.Filled.{storedAt}
 use Rattle.symbols.specs.Bits.{Bit}
 use Rattle.timing.specs.declared.Profile.{Profile}
 use Rattle.lengths.specs.Pen.{inked, penAfter, freshPen}
-use Rattle.codec.specs.declared.writer.Track.{Track}
+use Rattle.codec.specs.declared.track.Track.{Track}
 
 -- the number, where one was given
 abbrev pub ifGiven : Bool → ℕ → List ℕ

@@ -27,7 +27,9 @@ pub enum Scan {
 // One pass over a strip of at most 51,202 intervals: the items that have room are stored from the front on.
 fn pass_over(p: Profile, intervals: &[u16], out: &mut [u16]) -> Scan
     requires { ⌜ length (now intervals) ≤ 51202 ⌝ }
-    ensures { λ r. ⌜ (r ≡ scanned 0 fresh (classesOf p (now (intervals .entry)))) × (now (out .exit) ≡ storedAt (now (out .entry)) 0 (gathered 0 fresh (classesOf p (now (intervals .entry))))) ⌝ }
+    ensures scan { λ r. ⌜ r ≡ scanned 0 fresh (classesOf p (now (intervals .entry))) ⌝ }
+    ensures output { λ _. ⌜
+        now (out .exit) ≡ storedAt (now (out .entry)) 0 (gathered 0 fresh (classesOf p (now (intervals .entry)))) ⌝ }
 {
     let mut m = Reading::new();
     let mut count: usize = 0;
@@ -46,7 +48,8 @@ fn pass_over(p: Profile, intervals: &[u16], out: &mut [u16]) -> Scan
     Scan::Whole(m)
 }
 
-// What the whole strip reads as: 7, 4, 8, or the number of items. A strip of 8n + 2 bits ends one bit into a byte, and that bit is 0.
+// What the whole strip reads as: 7, 4, 8, or the number of items. A strip of 8n + 2 bits ends one bit into a byte, and
+// that bit is 0.
 fn conclude(m: Reading) -> Counted
     ensures { λ r. ⌜ countedAnswer r ≡ stripAnswer m ⌝ }
 {
@@ -69,7 +72,8 @@ fn conclude(m: Reading) -> Counted
 fn read_strip(p: Profile, intervals: &[u16], out: &mut [u16]) -> Counted
     requires { ⌜ profileRule p .number ≡ 0 ⌝ }
     requires { ⌜ length (now intervals) ≤ 51202 ⌝ }
-    ensures { λ r. ⌜ (countedAnswer r ≡ readRule p (now (intervals .entry)) (length (now (out .entry)))) × (now (out .exit) ≡ readOutput p (now (intervals .entry)) (now (out .entry))) ⌝ }
+    ensures answer { λ r. ⌜ countedAnswer r ≡ readRule p (now (intervals .entry)) (length (now (out .entry))) ⌝ }
+    ensures output { λ _. ⌜ now (out .exit) ≡ readOutput p (now (intervals .entry)) (now (out .entry)) ⌝ }
 {
     let mut none = [0u16; 0];
     match pass_over(p, intervals, &mut none) {
@@ -89,7 +93,8 @@ fn read_strip(p: Profile, intervals: &[u16], out: &mut [u16]) -> Counted
 
 // A strip of intervals as items: 1, 2, 4, the first of 5 or 6, 7, 4, 8, 9, or the number of items stored.
 pub fn read(p: Profile, intervals: &[u16], out: &mut [u16]) -> Counted
-    ensures { λ r. ⌜ (countedAnswer r ≡ readRule p (now (intervals .entry)) (length (now (out .entry)))) × (now (out .exit) ≡ readOutput p (now (intervals .entry)) (now (out .entry))) ⌝ }
+    ensures answer { λ r. ⌜ countedAnswer r ≡ readRule p (now (intervals .entry)) (length (now (out .entry))) ⌝ }
+    ensures output { λ _. ⌜ now (out .exit) ≡ readOutput p (now (intervals .entry)) (now (out .entry)) ⌝ }
 {
     match timing::check(p) {
         Verdict::Refused(refusal) => Counted::Refused(refusal),

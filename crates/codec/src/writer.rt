@@ -1,107 +1,27 @@
 // The writer: the list is checked whole before the first interval is stored.
-ghost use Prim.Native.Nat.{_+_, _*_, _≤_, _<_, min};
+ghost use Prim.Native.Nat.{_+_, _≤_, _<_, min};
 ghost use mathlib.Core.Path.{_≡_};
-ghost use mathlib.Core.List.{[], _∷_};
 ghost use lib.Dec.{leb};
 ghost use lib.ListN.{length};
 ghost use Rattle.lists.specs.Filled.{storedAt};
-ghost use Rattle.refusal.specs.Answer.{verdictAnswer, countedAnswer, settled};
+ghost use Rattle.refusal.specs.Answer.{verdictAnswer, countedAnswer};
 ghost use Rattle.items.specs.Item.{writtenBytes};
 ghost use Rattle.items.specs.Written.{afterBytes, writtenFrom, written};
-ghost use Rattle.symbols.specs.Bits.{O, writtenBits, allBits};
+ghost use Rattle.symbols.specs.Bits.{allBits};
 ghost use Rattle.timing.specs.Profile.{profileRule};
-ghost use Rattle.lengths.specs.Pen.{inked, freshPen, Steady};
+ghost use Rattle.lengths.specs.Pen.{Steady};
 ghost use Rattle.lengths.specs.Stream.{listRule, byteStream};
 ghost use Rattle.codec.specs.Output.{freshTrack, Inks};
 ghost use Rattle.codec.specs.Writer.{writeRule, writeOutput};
-use crate::output::put;
+use crate::track::Track;
+use crate::track::fresh_track;
+use crate::track::write_bytes;
+use crate::track::write_closing;
 use items::Check;
-use lengths::pen::Pen;
 use refusal::Counted;
 use refusal::Refusal;
 use refusal::Verdict;
-use timing::Clocks;
 use timing::Profile;
-
-// A pen over the caller's output, and the place of the next interval.
-pub struct Track {
-    pub pen: Pen,
-    pub at: usize,
-}
-
-// Before the first bit, after the lead 0: the first transition waits for its compare point.
-fn fresh_pen(p: Profile) -> Pen
-    ensures { λ r. ⌜ r ≡ freshPen p ⌝ }
-{
-    Pen {
-        last: false,
-        gap: false,
-        within: false,
-        begun: false,
-        zeros: 0,
-        start: Clocks(p.normal.0),
-    }
-}
-
-// The eight bits of a written byte, most significant first.
-fn write_byte(p: Profile, track: Track, w: u16, out: &mut [u16]) -> Track
-    requires { ⌜ Steady p (track .pen) ⌝ }
-    requires { ⌜ track .at < 65000 ⌝ }
-    ensures { λ r. ⌜ Inks p track (writtenBits w) (now (out .entry)) r (now (out .exit)) ⌝ }
-{
-    let gaps = lengths::letters::gaps_of(w);
-    let mut pen = track.pen;
-    let mut at = track.at;
-    let mut k: u32 = 0;
-    while k < 8 {
-        let stroke = lengths::letters::draw_letter(p, pen, w, gaps, k);
-        at = put(out, at, stroke.made, stroke.length.0);
-        pen = stroke.pen;
-        k += 1;
-    }
-    Track { pen, at }
-}
-
-// One 0 after the last byte.
-fn write_zero(p: Profile, track: Track, out: &mut [u16]) -> Track
-    requires { ⌜ Steady p (track .pen) ⌝ }
-    requires { ⌜ track .at < 65000 ⌝ }
-    ensures { λ r. ⌜ Inks p track (O ∷ []) (now (out .entry)) r (now (out .exit)) ⌝ }
-{
-    let stroke = lengths::pen::draw(p, track.pen, false, false);
-    let at = put(out, track.at, stroke.made, stroke.length.0);
-    let pen = stroke.pen;
-    Track { pen, at }
-}
-
-// The two closing 0s, and a third that only ends the last cell. Answers the next place.
-fn write_closing(p: Profile, track: Track, out: &mut [u16]) -> usize
-    requires { ⌜ Steady p (track .pen) ⌝ }
-    requires { ⌜ track .at < 64000 ⌝ }
-    ensures place { λ r. ⌜ r ≡ track .at + length (inked p (track .pen) (O ∷ O ∷ O ∷ [])) ⌝ }
-    ensures output { λ _. ⌜
-        now (out .exit) ≡ storedAt (now (out .entry)) (track .at) (inked p (track .pen) (O ∷ O ∷ O ∷ [])) ⌝ }
-{
-    let first = write_zero(p, track, out);
-    let second = write_zero(p, first, out);
-    let third = write_zero(p, second, out);
-    third.at
-}
-
-// The bits of written bytes.
-fn write_bytes(p: Profile, start: Track, bytes: &[u16], out: &mut [u16]) -> Track
-    requires { ⌜ Steady p (start .pen) ⌝ }
-    requires { ⌜ start .at + 8 * length (now bytes) < 65000 ⌝ }
-    ensures { λ r. ⌜ Inks p start (allBits (now (bytes .entry))) (now (out .entry)) r (now (out .exit)) ⌝ }
-{
-    let mut track = start;
-    let mut k: usize = 0;
-    while k < bytes.len() {
-        track = write_byte(p, track, bytes[k], out);
-        k += 1;
-    }
-    track
-}
 
 // A track and the check register, after some items.
 pub struct Part {
@@ -115,7 +35,8 @@ fn write_part(p: Profile, start: Part, items: &[u16], out: &mut [u16]) -> Part
     requires { ⌜ (start .track .at < 60000) × (length (now items) ≤ 64) ⌝ }
     ensures check { λ r. ⌜ r .check ≡ afterBytes (start .check) (writtenFrom (start .check) (now (items .entry))) ⌝ }
     ensures track { λ r. ⌜
-        Inks p (start .track) (allBits (writtenFrom (start .check) (now (items .entry)))) (now (out .entry)) (r .track) (now (out .exit)) ⌝ }
+        Inks p (start .track) (allBits (writtenFrom (start .check) (now (items .entry))))
+        (now (out .entry)) (r .track) (now (out .exit)) ⌝ }
 {
     let mut bytes = [0u16; 128];
     let stored = items::write_bytes(start.check, items, &mut bytes);
@@ -137,13 +58,11 @@ fn part_end(k: usize, length: usize) -> usize
 fn write_items(p: Profile, items: &[u16], out: &mut [u16]) -> Track
     requires { ⌜ profileRule p .number ≡ 0 ⌝ }
     requires { ⌜ writtenBytes (now items) ≤ 6400 ⌝ }
-    ensures { λ r. ⌜ Inks p (freshTrack p) (allBits (written (now (items .entry)))) (now (out .entry)) r (now (out .exit)) ⌝ }
+    ensures { λ r. ⌜
+        Inks p (freshTrack p) (allBits (written (now (items .entry)))) (now (out .entry)) r (now (out .exit)) ⌝ }
 {
     let mut part = Part {
-        track: Track {
-            pen: fresh_pen(p),
-            at: 0,
-        },
+        track: fresh_track(p),
         check: Check::fresh(),
     };
     let mut k: usize = 0;
@@ -203,7 +122,8 @@ fn check_list(items: &[u16]) -> Verdict
 fn write_list(p: Profile, items: &[u16], out: &mut [u16]) -> Counted
     requires { ⌜ profileRule p .number ≡ 0 ⌝ }
     requires { ⌜ listRule (now items) .number ≡ 0 ⌝ }
-    ensures { λ r. ⌜ (countedAnswer r ≡ writeRule p (now (items .entry)) (length (now (out .entry)))) × (now (out .exit) ≡ writeOutput p (now (items .entry)) (now (out .entry))) ⌝ }
+    ensures answer { λ r. ⌜ countedAnswer r ≡ writeRule p (now (items .entry)) (length (now (out .entry))) ⌝ }
+    ensures output { λ _. ⌜ now (out .exit) ≡ writeOutput p (now (items .entry)) (now (out .entry)) ⌝ }
 {
     if has_room(p, items, out.len()) {
         let count = write_stream(p, items, out);
@@ -214,7 +134,8 @@ fn write_list(p: Profile, items: &[u16], out: &mut [u16]) -> Counted
 
 // A list of items as intervals: 1, 2, 4, 3, 9, or the number of intervals stored.
 pub fn write(p: Profile, items: &[u16], out: &mut [u16]) -> Counted
-    ensures { λ r. ⌜ (countedAnswer r ≡ writeRule p (now (items .entry)) (length (now (out .entry)))) × (now (out .exit) ≡ writeOutput p (now (items .entry)) (now (out .entry))) ⌝ }
+    ensures answer { λ r. ⌜ countedAnswer r ≡ writeRule p (now (items .entry)) (length (now (out .entry))) ⌝ }
+    ensures output { λ _. ⌜ now (out .exit) ≡ writeOutput p (now (items .entry)) (now (out .entry)) ⌝ }
 {
     match timing::check(p) {
         Verdict::Refused(refusal) => Counted::Refused(refusal),

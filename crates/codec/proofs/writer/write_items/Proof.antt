@@ -66,8 +66,8 @@ Inv-loop p items out₀ part₀ k₀ out part k =
 abbrev μ-loop : tie.MeasureT-loop
 μ-loop p items out₀ part₀ k₀ out part k = length items - k
 
-fresh-pen-requires : tie.Need-fresh-pen-requires Inv-loop μ-loop
-fresh-pen-requires c κs = search needs
+fresh-track-requires : tie.Need-fresh-track-requires Inv-loop μ-loop
+fresh-track-requires c κs = search needs
 
 fresh-requires : tie.Need-fresh-requires Inv-loop μ-loop
 fresh-requires c κs = search needs
@@ -78,7 +78,7 @@ loop-holds c =
     let entry = c .before .before .before .before in
     let items = now (entry .args .items) in (
       omega arith,
-      rw (c .fresh .ensures, c .before .fresh-pen .ensures)
+      rw (c .fresh .ensures, c .before .fresh-track .ensures)
           (inking-begins _ (allBits (written items)) _ _ _ (fresh-pen-is-steady _ (entry .pre .0))),
     )
 
@@ -145,7 +145,7 @@ write-items-spec =
     (tie.spec
     Inv-loop
     μ-loop
-    fresh-pen-requires
+    fresh-track-requires
     fresh-requires
     loop-holds
     part-end-requires

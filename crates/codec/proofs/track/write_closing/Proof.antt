@@ -1,4 +1,4 @@
--- Why `codec::writer::write_closing` inks three 0s: one after the other. Rests on no axiom.
+-- Why `codec::track::write_closing` inks three 0s: one after the other. Rests on no axiom.
 use Prim.Native.Nat.{ℕ, _+_, _≤_}
 use mathlib.Core.Path.{_≡_, refl}
 use mathlib.Core.List.{List, [], _∷_}
@@ -12,8 +12,8 @@ use Rattle.lengths.specs.Pen.{inked, penAfter}
 use Rattle.lengths.specs.declared.pen.Pen.{Pen}
 use Rattle.codec.proofs.InkLaws.{Inking, inked-at-most, inking-begins, inking-goes-on, place-within, inking-ends}
 use borrow.Author.Needs.{needs}
-use Rattle.codec.proofs.writer.write_closing.Statement.{statement}
-use Rattle.codec.proofs.writer.write_closing.Tie as tie
+use Rattle.codec.proofs.track.write_closing.Statement.{statement}
+use Rattle.codec.proofs.track.write_closing.Tie as tie
 
 abbrev zeros : List Bit
 zeros = O ∷ O ∷ O ∷ []

@@ -1,4 +1,4 @@
--- Why `codec::writer::write_byte` inks the byte's bits: each turn inks one more of them. Rests on no axiom.
+-- Why `codec::track::write_byte` inks the byte's bits: each turn inks one more of them. Rests on no axiom.
 use Prim.Native.Nat.{_-_, _≤_}
 use native.Mathlib.Omega.{arith}
 use borrow.Author.Needs.{needs}
@@ -6,8 +6,8 @@ use lib.ListN.{length, drop, drop-of-length-le}
 use Rattle.symbols.specs.Bits.{writtenBits}
 use Rattle.symbols.proofs.BytesLaws.{written-row-is-eight}
 use Rattle.codec.proofs.InkLaws.{Inking, inked-at-most, inking-begins, inking-takes-a-bit, place-within, inking-ends}
-use Rattle.codec.proofs.writer.write_byte.Statement.{statement}
-use Rattle.codec.proofs.writer.write_byte.Tie as tie
+use Rattle.codec.proofs.track.write_byte.Statement.{statement}
+use Rattle.codec.proofs.track.write_byte.Tie as tie
 
 abbrev Inv-loop : tie.InvT-loop
 Inv-loop p w out₀ gaps pen₀ at₀ k₀ out pen at k =

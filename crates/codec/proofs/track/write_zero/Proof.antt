@@ -1,4 +1,4 @@
--- Why `codec::writer::write_zero` inks one 0: the pen draws it, and what it gives is stored. Rests on no axiom.
+-- Why `codec::track::write_zero` inks one 0: the pen draws it, and what it gives is stored. Rests on no axiom.
 use Prim.Native.Nat.{ℕ, _+_}
 use mathlib.Core.Path.{_≡_, sym, ap, _∙_}
 use mathlib.Core.List.{List}
@@ -10,8 +10,8 @@ use Rattle.lengths.specs.Pen.{strokeOf, givenBy}
 use Rattle.lengths.specs.declared.pen.Stroke.{Stroke}
 use Rattle.codec.proofs.InkLaws.{inked-of-one, pen-after-one}
 use borrow.Author.Needs.{needs}
-use Rattle.codec.proofs.writer.write_zero.Statement.{statement}
-use Rattle.codec.proofs.writer.write_zero.Tie as tie
+use Rattle.codec.proofs.track.write_zero.Statement.{statement}
+use Rattle.codec.proofs.track.write_zero.Tie as tie
 
 draw-requires : tie.Need-draw-requires
 draw-requires c κs = search needs

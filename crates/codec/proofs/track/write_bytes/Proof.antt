@@ -1,4 +1,4 @@
--- Why `codec::writer::write_bytes` inks all bits: each turn inks those of one byte more. Rests on no axiom.
+-- Why `codec::track::write_bytes` inks all bits: each turn inks those of one byte more. Rests on no axiom.
 use Prim.Native.Nat.{ℕ, suc, _+_, _-_, _≤_, _<_}
 use mathlib.Core.Path.{_≡_, refl, ap, subst, _∙_}
 use mathlib.Core.List.{List, _∷_, _++_}
@@ -15,8 +15,8 @@ use Rattle.timing.specs.declared.Profile.{Profile}
 use Rattle.lengths.specs.Pen.{inked, penAfter}
 use Rattle.lengths.specs.declared.pen.Pen.{Pen}
 use Rattle.codec.proofs.InkLaws.{Inking, inked-at-most, inking-begins, inking-goes-on, place-within, inking-ends}
-use Rattle.codec.proofs.writer.write_bytes.Statement.{statement}
-use Rattle.codec.proofs.writer.write_bytes.Tie as tie
+use Rattle.codec.proofs.track.write_bytes.Statement.{statement}
+use Rattle.codec.proofs.track.write_bytes.Tie as tie
 
 a-byte-more
     : (p : Profile) (bytes : List ℕ) (pen₀ : Pen) (old : List ℕ) (at₀ k : ℕ) {out : List ℕ} {pen : Pen} {at : ℕ}
