@@ -1,18 +1,13 @@
--- What a step of the writer or of the reader has for the output. No lemmas here.
+-- What the writer leaves after some bits. No lemmas here.
 use Prim.Native.Nat.{ℕ, _+_}
 use mathlib.Core.Path.{_≡_}
-use mathlib.Core.Bool.{Bool, cond}
-use mathlib.Core.List.{List, [], _∷_}
+use mathlib.Core.List.{List}
 use lib.ListN.{length}
 use Rattle.lists.specs.Filled.{storedAt}
 use Rattle.symbols.specs.Bits.{Bit}
 use Rattle.timing.specs.declared.Profile.{Profile}
 use Rattle.lengths.specs.Pen.{inked, penAfter, freshPen}
 use Rattle.codec.specs.declared.track.Track.{Track}
-
--- the number, where one was given
-abbrev pub ifGiven : Bool → ℕ → List ℕ
-ifGiven given n = cond given (n ∷ []) []
 
 -- before the first bit
 abbrev pub freshTrack : Profile → Track

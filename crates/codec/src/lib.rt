@@ -1,5 +1,4 @@
 // Writer and strip reader: lists of items to intervals, and back.
-mod output;
 pub mod reader;
 mod track;
 pub mod writer;

@@ -7,8 +7,8 @@ ghost use Rattle.lists.specs.Filled.{storedAt};
 ghost use Rattle.symbols.specs.Bits.{O, writtenBits, allBits};
 ghost use Rattle.lengths.specs.Pen.{inked, Steady};
 ghost use Rattle.codec.specs.Output.{freshTrack, Inks};
-use crate::output::put;
 use lengths::pen::Pen;
+use lists::put;
 use timing::Clocks;
 use timing::Profile;
 

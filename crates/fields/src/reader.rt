@@ -55,7 +55,7 @@ fn gather(p: Profile, intervals: &[u16], n: u32, out: &mut [u16]) -> Counted
             Taken::Refused(refusal) => return Counted::Refused(refusal),
             Taken::Read(cell) => {
                 let next = m.step(cell, k as u32);
-                count = intervals::store(next, out, count);
+                count = lists::put(out, count, next.done, next.item);
                 m = next;
                 k += 1;
             }

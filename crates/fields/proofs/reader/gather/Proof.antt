@@ -7,6 +7,7 @@ use mathlib.Core.Path.{_≡_, sym, ap, _∙_}
 use lib.ListN.{length, getD}
 use Rattle.timing.specs.Class.{classOf}
 use Rattle.timing.specs.declared.Class.{Class}
+use Rattle.symbols.specs.Step.{itemsOf}
 use Rattle.intervals.specs.Cells.{taken}
 use Rattle.refusal.specs.declared.Refusal.the-variants.{EndsEarly, MisplacedMark}
 use Turn.{Gathering, begins, no-items, count-is-small, turn-ends, turn-stops, turn-goes-on}
@@ -93,8 +94,8 @@ cast-step c = search needs
 step-requires : tie.Need-step-requires Inv-loop μ-loop
 step-requires c κs = search needs
 
-store-requires : tie.Need-store-requires Inv-loop μ-loop
-store-requires c κs =
+put-requires : tie.Need-put-requires Inv-loop μ-loop
+put-requires c κs =
     let tested = c .before .before .before .before .before .before .before .before .before in
     let turn = tested .before .before in
     count-is-small _ _ _ _ (turn .loop .inv) (tested .if1 .taken) (turn .before .before .before .before .pre .1)
@@ -106,8 +107,9 @@ loop-less : tie.Need-loop-less Inv-loop μ-loop
 loop-less c = search needs
 
 loop-again : tie.Need-loop-again Inv-loop μ-loop
+unfolding itemsOf
 loop-again c =
-    let stored = c .before .before .store in
+    let stored = c .before .before .put in
     let stepped = c .before .before .before .before in
     let at-take = stepped .before .before .before .before in
     let tested = at-take .before .before .before in
@@ -170,7 +172,7 @@ gather-spec =
     enum-known-cell
     cast-step
     step-requires
-    store-requires
+    put-requires
     add-k
     loop-less
     loop-again

@@ -1,10 +1,10 @@
--- Why `codec::output::put` stores what was given: one number, stored or past the end, or none. Rests on no axiom.
+-- Why `lists::put` stores what was given: one number, stored or past the end, or none. Rests on no axiom.
 use mathlib.Core.Path.{refl, sym}
 use native.Mathlib.Nat.{add-zero}
 use borrow.Author.Needs.{needs}
 use Rattle.lists.proofs.StoreLaws.{stored-none, stored-one, stored-outside}
-use Rattle.codec.proofs.output.put.Statement.{statement}
-use Rattle.codec.proofs.output.put.Tie as tie
+use Rattle.lists.proofs.put.Statement.{statement}
+use Rattle.lists.proofs.put.Tie as tie
 
 mul-out : tie.Need-mul-out
 mul-out c = search needs
