@@ -1,5 +1,5 @@
--- The pen over an output: what is left to ink, stored behind what is stored, is the whole, and it stays so when some bits more are inked.
--- Rests on no axiom.
+-- The pen over an output: what is left to ink, stored behind what is stored, is the whole, and it stays so when some
+-- bits more are inked. Rests on no axiom.
 use Prim.Native.Nat.{ℕ, suc, _+_, _-_, _≤_, _<_}
 use mathlib.Core.Path.{_≡_, refl, sym, ap, subst, _∙_}
 use mathlib.Core.Bool.{Bool, true, false, cond}
@@ -123,7 +123,9 @@ module _ (p : Profile) (bits : List Bit) (pen₀ : Pen) (old : List ℕ) (at₀ 
         : (rest : List Bit)
         → rest ≡ []
         → Inking rest out pen at
-        → (pen ≡ penAfter p pen₀ bits) × (at ≡ at₀ + length (inked p pen₀ bits)) × (out ≡ storedAt old at₀ (inked p pen₀ bits))
+        → (pen ≡ penAfter p pen₀ bits)
+        × (at ≡ at₀ + length (inked p pen₀ bits))
+        × (out ≡ storedAt old at₀ (inked p pen₀ bits))
     unfolding inked penAfter
     inking-ends rest e now =
         let last : Inking [] out pen at = subst (λ (bs : List Bit). Inking bs out pen at) e now in

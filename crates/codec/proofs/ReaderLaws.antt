@@ -1,5 +1,5 @@
--- The strip reader's answers by its passes: a pass that stopped gives 5 or 6, one that did not gives the machine's answer, which is the
--- strip's, and then the room decides. Rests on no axiom.
+-- The strip reader's answers by its passes: a pass that stopped gives 5 or 6, one that did not gives the machine's
+-- answer, which is the strip's, and then the room decides. Rests on no axiom.
 use Prim.Native.Nat.{ℕ, suc, _^_, _≤_, _<_}
 use mathlib.Core.Path.{_≡_, refl, sym, ap, subst, _∙_}
 use mathlib.Core.List.{List, [], _∷_}
@@ -12,7 +12,8 @@ use Rattle.lists.proofs.StoreLaws.{stored-at-front-fills}
 use Rattle.refusal.specs.Table.{numberOf, placeOf}
 use Rattle.refusal.specs.Answer.{Answer, accepted, refused, refuseIf, firstRefusal, settled}
 use Rattle.refusal.specs.declared.Refusal.{Refusal}
-use Rattle.refusal.proofs.AnswerLaws.{first-refusal-passes, refuse-if-passes, refuse-if-accepts, refusal-decides, acceptance-fills-the-buffer}
+use Rattle.refusal.proofs.AnswerLaws.{first-refusal-passes, refuse-if-passes, refuse-if-accepts, refusal-decides}
+use Rattle.refusal.proofs.AnswerLaws.{acceptance-fills-the-buffer}
 use Rattle.timing.specs.Profile.{profileRule}
 use Rattle.timing.specs.Class.{classesOf, edgeRule}
 use Rattle.timing.specs.declared.Profile.{Profile}
@@ -58,7 +59,11 @@ accepted-counts-items xs n e =
 
 -- 4 for the intervals, where the profile is accepted
 pub too-many-answer
-    : (p : Profile) (ds : List ℕ) → profileRule p .number ≡ 0 → (room : ℕ) → 51202 < length ds → refused 4 0 ≡ readRule p ds room
+    : (p : Profile) (ds : List ℕ)
+    → profileRule p .number ≡ 0
+    → (room : ℕ)
+    → 51202 < length ds
+    → refused 4 0 ≡ readRule p ds room
 unfolding readRule
 too-many-answer p ds accepts room h = rw (first-refusal-passes (profileRule p) _ accepts, lt-ltb 51202 (length ds) h)
 
@@ -98,7 +103,9 @@ module _ (p : Profile) (ds old : List ℕ) (accepts : profileRule p .number ≡ 
 
     from-strip : firstRefusal (stripRule (cellsRead p ds)) byRoom ≡ readRule p ds (length old)
     from-strip =
-        sym (first-refusal-passes (edgeRule (classesOf p ds)) _ (ap (λ (a : Answer). a .number) (sym (whole-is-accepted (classesOf p ds) m whole))))
+        sym
+        (first-refusal-passes (edgeRule (classesOf p ds)) _
+        (ap (λ (a : Answer). a .number) (sym (whole-is-accepted (classesOf p ds) m whole))))
         ∙ from-edges
 
     gathers-items : gathered 0 fresh (classesOf p ds) ≡ items
@@ -106,7 +113,9 @@ module _ (p : Profile) (ds old : List ℕ) (accepts : profileRule p .number ≡ 
     gathers-items = whole-gathers (classesOf p ds) m whole ∙ sym (strip-by-ran (cellsRead p ds) few-cells .1)
 
     pub strip-refuses
-        : (r : Refusal) → refused (numberOf r) (placeOf r) ≡ stripAnswer m → refused (numberOf r) (placeOf r) ≡ readRule p ds (length old)
+        : (r : Refusal)
+        → refused (numberOf r) (placeOf r) ≡ stripAnswer m
+        → refused (numberOf r) (placeOf r) ≡ readRule p ds (length old)
     strip-refuses r e = refusal-decides r (stripRule (cellsRead p ds)) _ (e ∙ machine-answers) ∙ from-strip
 
     module _ (n : ℕ) (counts : accepted n ≡ stripAnswer m) where
@@ -116,11 +125,14 @@ module _ (p : Profile) (ds old : List ℕ) (accepts : profileRule p .number ≡ 
 
       from-room : byRoom ≡ readRule p ds (length old)
       from-room =
-          sym (first-refusal-passes (stripRule (cellsRead p ds)) byRoom (ap (λ (a : Answer). a .number) (sym (counts ∙ machine-answers))))
+          sym
+          (first-refusal-passes (stripRule (cellsRead p ds)) byRoom
+          (ap (λ (a : Answer). a .number) (sym (counts ∙ machine-answers))))
           ∙ from-strip
 
       pub room-refuses : length old < n → refused 9 0 ≡ readRule p ds (length old)
-      room-refuses h = rw (← from-room, lt-ltb (length old) (length items) (subst (λ (k : ℕ). length old < k) number-of-items h))
+      room-refuses h =
+          rw (← from-room, lt-ltb (length old) (length items) (subst (λ (k : ℕ). length old < k) number-of-items h))
 
       pub room-accepts
           : n ≤ length old
@@ -138,5 +150,7 @@ module _ (p : Profile) (ds old : List ℕ) (accepts : profileRule p .number ≡ 
             e
                 ∙ ap (storedAt old 0) gathers-items
                 ∙ stored-at-front-fills items old fits
-                ∙ sym (acceptance-fills-the-buffer (readRule p ds (length old)) items old (ap (λ (a : Answer). a .number) (sym answer))),
+                ∙ sym
+                (acceptance-fills-the-buffer (readRule p ds (length old)) items old
+                (ap (λ (a : Answer). a .number) (sym answer))),
           )

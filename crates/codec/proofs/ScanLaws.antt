@@ -1,5 +1,5 @@
--- A pass over classes is the machine's run over their cells, up to the first interval that is too short or too long, where the paper's
--- rule stops too: by induction on the classes. Rests on no axiom.
+-- A pass over classes is the machine's run over their cells, up to the first interval that is too short or too long,
+-- where the paper's rule stops too: by induction on the classes. Rests on no axiom.
 use Prim.Native.Nat.{ℕ, suc, _-_, _≤_, _<_}
 use mathlib.Core.Path.{_≡_, refl, sym, ap, _∙_}
 use mathlib.Core.List.{List, [], _∷_, _++_}
@@ -61,7 +61,9 @@ whole-is-run cs m e = whole-is-run-from 0 fresh m cs e
 
 -- and what it gathers is what the run gives
 whole-gathers-from
-    : (k : ℕ) (m n : Reading) (cs : List Class) → Whole n ≡ scanned k m cs → gathered k m cs ≡ ranItems m k (cellsOfClasses cs)
+    : (k : ℕ) (m n : Reading) (cs : List Class)
+    → Whole n ≡ scanned k m cs
+    → gathered k m cs ≡ ranItems m k (cellsOfClasses cs)
 unfolding scanned gathered ranItems cellsOfClasses
 whole-gathers-from k m n [] e = refl
 whole-gathers-from k m n (Narrow ∷ cs) e = absurd (let z : _≡_ {A = ℕ} 0 1 = cc in omega arith)
@@ -74,7 +76,9 @@ whole-gathers-from k m n (Four ∷ cs) e =
 whole-gathers-from k m n (Wide ∷ cs) e = absurd (let z : _≡_ {A = ℕ} 0 1 = cc in omega arith)
 
 pub whole-gathers
-    : (cs : List Class) (m : Reading) → Whole m ≡ scanned 0 fresh cs → gathered 0 fresh cs ≡ ranItems fresh 0 (cellsOfClasses cs)
+    : (cs : List Class) (m : Reading)
+    → Whole m ≡ scanned 0 fresh cs
+    → gathered 0 fresh cs ≡ ranItems fresh 0 (cellsOfClasses cs)
 whole-gathers cs m e = whole-gathers-from 0 fresh m cs e
 
 -- ---- what a whole strip reads as, by the machine at its end
@@ -90,9 +94,16 @@ module _ (m : Reading) where
 
   pub ends-stray : m .register ≡ 2 → m .rows ≤ 6401 → m .stray ≡ 1 → refused 8 (m .place) ≡ stripAnswer m
   unfolding stripAnswer
-  ends-stray h few stray = rw (eq-eqb (m .register) 2 h, le-ltb 6400 (m .rows - 1) (omega arith), eq-eqb (m .stray) 1 stray)
+  ends-stray h few stray =
+      rw (eq-eqb (m .register) 2 h, le-ltb 6400 (m .rows - 1) (omega arith), eq-eqb (m .stray) 1 stray)
 
-  pub ends-whole : m .register ≡ 2 → m .rows ≤ 6401 → (m .stray ≡ 1 → ⊥) → (n : ℕ) → n ≡ m .rows - 1 → accepted n ≡ stripAnswer m
+  pub ends-whole
+      : m .register ≡ 2
+      → m .rows ≤ 6401
+      → (m .stray ≡ 1 → ⊥)
+      → (n : ℕ)
+      → n ≡ m .rows - 1
+      → accepted n ≡ stripAnswer m
   unfolding stripAnswer
   ends-whole h few none n e =
       rw (eq-eqb (m .register) 2 h, le-ltb 6400 (m .rows - 1) (omega arith), ne-eqb (m .stray) 1 none, e)

@@ -1,5 +1,5 @@
--- The writer's answers by its tests: where profile and list are accepted, the stream of the written bytes and the room decide.
--- Rests on no axiom.
+-- The writer's answers by its tests: where profile and list are accepted, the stream of the written bytes and the
+-- room decide. Rests on no axiom.
 use Prim.Native.Nat.{ℕ, _+_, _*_, _≤_, _<_}
 use mathlib.Core.Path.{_≡_, refl, sym, ap, subst, _∙_}
 use mathlib.Core.Bool.{Bool, true, false, cond, _||_, true≢false}
@@ -73,7 +73,8 @@ few-cells p ws =
 module _ (p : Profile) (ws old : List ℕ) where
   pub too-short
       : leb (length (byteStream p ws)) (length old) ≡ false
-      → (refused 9 0 ≡ streamRule p ws (length old)) × (old ≡ settled (streamRule p ws (length old)) (byteStream p ws) old)
+      → (refused 9 0 ≡ streamRule p ws (length old))
+      × (old ≡ settled (streamRule p ws (length old)) (byteStream p ws) old)
   unfolding streamRule
   too-short e =
       let h = leb-false (length (byteStream p ws)) (length old) e in
@@ -101,7 +102,8 @@ pub few-bytes : (items : List ℕ) → listRule items .number ≡ 0 → writtenB
 unfolding listRule
 few-bytes items h =
     let counts = refuse-if-accepts (ltb 6400 (length items) || ltb 6400 (writtenBytes items)) 3 0 _ h in
-    ltb-false 6400 (writtenBytes items) (both-false (ltb 6400 (length items)) (ltb 6400 (writtenBytes items)) (counts .0))
+    ltb-false 6400 (writtenBytes items)
+    (both-false (ltb 6400 (length items)) (ltb 6400 (writtenBytes items)) (counts .0))
 
 module _ (p : Profile) (items old : List ℕ) where
   pub rule-of-stream

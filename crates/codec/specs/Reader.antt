@@ -1,4 +1,5 @@
--- Document 01, "Turned-away numbers", strip reader: 1, 2, 4 (intervals), the first of 5 or 6, 7, 4 (bytes), 8, 9. No lemmas here.
+-- Document 01, "Turned-away numbers", strip reader: 1, 2, 4 (intervals), the first of 5 or 6, 7, 4 (bytes), 8, 9. No
+-- lemmas here.
 use Prim.Native.Nat.{ℕ}
 use mathlib.Core.List.{List, [], _∷_}
 use lib.Dec.{ltb}

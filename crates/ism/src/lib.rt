@@ -146,8 +146,10 @@ pub extern "C" fn ism_read_field(
     bytes: u64,
     out: &mut [u16],
 ) -> IsmAnswer
-    ensures answer { λ r. ⌜ r ≡ givenField (fieldReading (profileOf p) (now (intervals .entry)) bytes (length (now (out .entry)))) ⌝ }
-    ensures output { λ _. ⌜ now (out .exit) ≡ fieldOutput (profileOf p) (now (intervals .entry)) bytes (now (out .entry)) ⌝ }
+    ensures answer { λ r. ⌜
+        r ≡ givenField (fieldReading (profileOf p) (now (intervals .entry)) bytes (length (now (out .entry)))) ⌝ }
+    ensures output { λ _. ⌜
+        now (out .exit) ≡ fieldOutput (profileOf p) (now (intervals .entry)) bytes (now (out .entry)) ⌝ }
 {
     let read = fields::reader::read_field(profile(p), intervals, bytes as usize, out);
     field_answer(read)
@@ -162,8 +164,10 @@ pub extern "C" fn ism_make_sector(
     bytes: &[u8],
     out: &mut [u16],
 ) -> IsmAnswer
-    ensures answer { λ r. ⌜ r ≡ given (sectorRule track side sector code (now (bytes .entry)) (length (now (out .entry)))) ⌝ }
-    ensures output { λ _. ⌜ now (out .exit) ≡ sectorOutput track side sector code (now (bytes .entry)) (now (out .entry)) ⌝ }
+    ensures answer { λ r. ⌜
+        r ≡ given (sectorRule track side sector code (now (bytes .entry)) (length (now (out .entry)))) ⌝ }
+    ensures output { λ _. ⌜
+        now (out .exit) ≡ sectorOutput track side sector code (now (bytes .entry)) (now (out .entry)) ⌝ }
 {
     let counted = sectors::make_sector(track, side, sector, code, bytes, out);
     answer(counted)

@@ -49,7 +49,8 @@ fn append_cells(profile: Profile, stream: &[u16], out: &mut [u8], at: usize) -> 
 // The margin, the cells and their number.
 pub fn report(profile: Profile, margin: usize, stream: &[u16], out: &mut [u8]) -> usize
     requires { ⌜ (length (now stream) ≤ 4098) × (outputLength ≤ length (now out)) ⌝ }
-    ensures { λ r. ⌜ Printed (reportText profile margin (now (stream .entry))) r (now (out .entry)) (now (out .exit)) ⌝ }
+    ensures { λ r. ⌜
+        Printed (reportText profile margin (now (stream .entry))) r (now (out .entry)) (now (out .exit)) ⌝ }
 {
     let first = [margin];
     let cells = text::append_line(out, 0, b"margin", &first);

@@ -71,7 +71,8 @@ items-of-rows (w ∷ ws) e =
       items-of-rows ws (everywhere-in-rest isByte w ws e),
     )
 
-pub rows-have-no-stray : (ws : List ℕ) → everywhere isByte ws ≡ true → anywhere passed (straysOf (map writtenBits ws)) ≡ false
+pub rows-have-no-stray :
+    (ws : List ℕ) → everywhere isByte ws ≡ true → anywhere passed (straysOf (map writtenBits ws)) ≡ false
 unfolding straysOf anywhere
 rows-have-no-stray [] e = refl
 rows-have-no-stray (w ∷ ws) e =
@@ -86,7 +87,8 @@ pub items-of-whole-bytes : (ws : List ℕ) → everywhere isByte ws ≡ true →
 unfolding itemsRead
 items-of-whole-bytes ws e = rw (rows-of-whole-bytes ws) (items-of-rows ws e)
 
-pub whole-bytes-have-no-stray : (ws : List ℕ) → everywhere isByte ws ≡ true → anywhere passed (straysRead (O ∷ allBits ws)) ≡ false
+pub whole-bytes-have-no-stray :
+    (ws : List ℕ) → everywhere isByte ws ≡ true → anywhere passed (straysRead (O ∷ allBits ws)) ≡ false
 unfolding straysRead anywhere
 whole-bytes-have-no-stray ws e = rw (rows-of-whole-bytes ws) (rows-have-no-stray ws e)
 

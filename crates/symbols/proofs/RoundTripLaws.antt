@@ -61,7 +61,8 @@ pub record ReadBack (ws : List ℕ) (cs : List Cell) : Type 0 where
   pub count : bytesRead (readBits cs) ≡ length ws
   pub items : stripItems cs ≡ ws
 
-pub read-back : (ws : List ℕ) (cs : List Cell) → everywhere isByte ws ≡ true → map units cs ≡ writtenCells ws → ReadBack ws cs
+pub read-back :
+    (ws : List ℕ) (cs : List Cell) → everywhere isByte ws ≡ true → map units cs ≡ writtenCells ws → ReadBack ws cs
 unfolding isStray stripItems itemsRead straysRead anywhere
 read-back ws cs t h =
     let e = read-of-write ws cs h in
@@ -83,7 +84,9 @@ rule-of-write ws cs t few h =
 
 -- two different lists never have the same cells
 pub cells-injective :
-    (ws ws′ : List ℕ) → everywhere isByte ws ≡ true → everywhere isByte ws′ ≡ true → writtenCells ws ≡ writtenCells ws′ → ws ≡ ws′
+    (ws ws′ : List ℕ) → everywhere isByte ws ≡ true → everywhere isByte ws′ ≡ true
+    → writtenCells ws ≡ writtenCells ws′
+    → ws ≡ ws′
 cells-injective ws ws′ t t′ h =
     let r = cells-are-read ws in
     sym (read-back ws (r .0) t (r .1) .items) ∙ read-back ws′ (r .0) t′ (r .1 ∙ h) .items
@@ -141,7 +144,8 @@ module _
         in
         zero-of (rows .last) (rw e at (ends .1)) (rw e at no-gap)
 
-    read-letters : (O ∷ bs ≡ O ∷ allBits (itemsRead (O ∷ bs)) ++ (O ∷ [])) × (everywhere isByte (itemsRead (O ∷ bs)) ≡ true)
+    read-letters :
+        (O ∷ bs ≡ O ∷ allBits (itemsRead (O ∷ bs)) ++ (O ∷ [])) × (everywhere isByte (itemsRead (O ∷ bs)) ≡ true)
     unfolding itemsRead
     read-letters = (ap (λ (x : List Bit). O ∷ x) (rw closing-is-zero at (rows .letters)), rows .bytes)
 

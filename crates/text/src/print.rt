@@ -55,7 +55,8 @@ fn append_fields(out: &mut [u8], at: usize, numbers: &[usize]) -> usize
 pub fn append_line(out: &mut [u8], at: usize, word: &[u8], numbers: &[usize]) -> usize
     requires { ⌜ at + length (lineOf (now word) (now numbers)) ≤ length (now out) ⌝ }
     ensures { λ r. ⌜ r ≡ at + length (lineOf (now (word .entry)) (now (numbers .entry))) ⌝ }
-    ensures { λ _. ⌜ now (out .exit) ≡ storedAt (now (out .entry)) at (lineOf (now (word .entry)) (now (numbers .entry))) ⌝ }
+    ensures { λ _. ⌜
+        now (out .exit) ≡ storedAt (now (out .entry)) at (lineOf (now (word .entry)) (now (numbers .entry))) ⌝ }
 {
     let fields = append(out, at, word);
     let end = append_fields(out, fields, numbers);

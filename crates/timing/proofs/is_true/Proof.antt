@@ -29,7 +29,9 @@ add-result-3 c = omega (arith, c .before .before .before .before .before .before
 
 returns : tie.Need-returns
 unfolding isTrue
-returns c = rw (c .before .before .before .before .before .before .before .before .before .before .before .before .swing .ensures)
+returns c =
+    let swung = c .before .before .before .before .before .before .before .before .before .before .before .before in
+    rw (swung .swing .ensures)
 
 pub is-true-spec : {M : Type 1} → statement M
 is-true-spec =

@@ -1,5 +1,5 @@
--- Why `codec::reader::pass_over` answers `scanned` and stores `gathered`: what is left to scan and to store stays the same from turn to turn.
--- Rests on no axiom.
+-- Why `codec::reader::pass_over` answers `scanned` and stores `gathered`: what is left to scan and to store stays the
+-- same from turn to turn. Rests on no axiom.
 mod Turn
 use Prim.Native.Nat.{_-_}
 use mathlib.Core.Path.{sym, ap, _∙_}

@@ -1,5 +1,5 @@
--- Why `codec::reader::read` answers `readRule`: the profile's refusal decides, then the number of intervals, then what `read_strip` answers.
--- Rests on no axiom.
+-- Why `codec::reader::read` answers `readRule`: the profile's refusal decides, then the number of intervals, then
+-- what `read_strip` answers. Rests on no axiom.
 use Rattle.refusal.specs.declared.Refusal.the-variants.{TooLong}
 use Rattle.refusal.proofs.AnswerLaws.{verdict-refuses, verdict-accepts, refusal-keeps-the-buffer}
 use Rattle.codec.specs.Reader.{readRule, readOutput}
@@ -20,13 +20,14 @@ enum-told c = search needs
 returns : tie.Need-returns
 unfolding readOutput
 returns c =
-    let rule =
-    too-many-answer _ _ (verdict-accepts _ _ (c .before .before .before .check .ensures) (c .before .enum-told .given .1)) _ (c .if1 .taken) in
+    let accepts = verdict-accepts _ _ (c .before .before .before .check .ensures) (c .before .enum-told .given .1) in
+    let rule = too-many-answer _ _ accepts _ (c .if1 .taken) in
     (rule, refusal-keeps-the-buffer TooLong _ _ _ rule)
 
 read-strip-requires : tie.Need-read-strip-requires
 read-strip-requires c κs =
-    (verdict-accepts _ _ (c .before .before .before .before .check .ensures) (c .before .before .enum-told .given .1), c .before .if1 .left)
+    let told = c .before .before in
+    (verdict-accepts _ _ (told .before .before .check .ensures) (told .enum-told .given .1), c .before .if1 .left)
 
 returns-2 : tie.Need-returns-2
 unfolding readRule readOutput

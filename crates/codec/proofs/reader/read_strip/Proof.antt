@@ -1,5 +1,5 @@
--- Why `codec::reader::read_strip` answers `readRule`: the first pass decides every refusal and the count, the second stores the same items.
--- Rests on no axiom.
+-- Why `codec::reader::read_strip` answers `readRule`: the first pass decides every refusal and the count, the second
+-- stores the same items. Rests on no axiom.
 use mathlib.Core.Path.{sym, ap, _∙_}
 use denote.Ref.{now}
 use Rattle.refusal.specs.Answer.{countedAnswer}
@@ -35,10 +35,17 @@ enum-known-n c = search needs
 returns : tie.Need-returns
 unfolding readOutput
 returns c =
-    let start = c .before .before .before .before .before .before .before .before .before .before .before .before .before .args in
-    let pre = c .before .before .before .before .before .before .before .before .before .before .before .before .before .pre in
-    let counts = sym (ap countedAnswer (c .before .before .n .given .1)) ∙ c .before .before .before .before .conclude .ensures in
-    let rule = room-refuses (start .p) (now (start .intervals)) (now (start .out)) (pre .0) (pre .1) _ (sym (c .before .before .before .before .before .before .m .given .1) ∙ c .before .before .before .before .before .before .before .before .before .pass-over .ensures .0) _ counts (c .if1 .taken) in
+    let counted = c .before .before in
+    let concluded = counted .before .before in
+    let passed = concluded .before .before in
+    let first = passed .before .before .before in
+    let entry = first .before .before .before .before in
+    let old = now (entry .args .out) in
+    let whole = sym (passed .m .given .1) ∙ first .pass-over .ensures .0 in
+    let counts = sym (ap countedAnswer (counted .n .given .1)) ∙ concluded .conclude .ensures in
+    let rule =
+    room-refuses (entry .args .p) (now (entry .args .intervals)) old (entry .pre .0) (entry .pre .1) _ whole _ counts
+    (c .if1 .taken) in
     (rule, refusal-keeps-the-buffer OutputTooShort _ _ _ rule)
 
 pass-over-requires-2 : tie.Need-pass-over-requires-2
@@ -47,29 +54,50 @@ pass-over-requires-2 c κs = search needs
 returns-2 : tie.Need-returns-2
 unfolding readOutput
 returns-2 c =
-    let start = c .before .before .before .before .before .before .before .before .args in
-    let pre = c .before .before .before .before .before .before .before .before .pre in
-    let rule = stopped-answers (start .p) (now (start .intervals)) (now (start .out)) (pre .0) (pre .1) _ (sym (c .before .refusal .given .1) ∙ c .before .before .before .before .pass-over .ensures .0) in
-    (rule, refusal-keeps-the-buffer (c .before .refusal .given .0 .0) _ _ _ rule)
+    let told = c .before in
+    let first = told .before .before .before in
+    let entry = first .before .before .before .before in
+    let old = now (entry .args .out) in
+    let stopped = sym (told .refusal .given .1) ∙ first .pass-over .ensures .0 in
+    let rule =
+    stopped-answers (entry .args .p) (now (entry .args .intervals)) old (entry .pre .0) (entry .pre .1) _ stopped in
+    (rule, refusal-keeps-the-buffer (told .refusal .given .0 .0) _ _ _ rule)
 
 returns-3 : tie.Need-returns-3
 unfolding readOutput
 returns-3 c =
-    let start = c .before .before .before .before .before .before .before .before .before .before .before .before .args in
-    let pre = c .before .before .before .before .before .before .before .before .before .before .before .before .pre in
-    let refuses = sym (ap countedAnswer (c .before .refusal2 .given .1)) ∙ c .before .before .before .conclude .ensures in
-    let rule = strip-refuses (start .p) (now (start .intervals)) (now (start .out)) (pre .0) (pre .1) _ (sym (c .before .before .before .before .before .m .given .1) ∙ c .before .before .before .before .before .before .before .before .pass-over .ensures .0) (c .before .refusal2 .given .0 .0) refuses in
-    (rule, refusal-keeps-the-buffer (c .before .refusal2 .given .0 .0) _ _ _ rule)
+    let told = c .before in
+    let concluded = told .before .before in
+    let passed = concluded .before .before in
+    let first = passed .before .before .before in
+    let entry = first .before .before .before .before in
+    let old = now (entry .args .out) in
+    let whole = sym (passed .m .given .1) ∙ first .pass-over .ensures .0 in
+    let refuses = sym (ap countedAnswer (told .refusal2 .given .1)) ∙ concluded .conclude .ensures in
+    let refusal = told .refusal2 .given .0 .0 in
+    let rule =
+    strip-refuses (entry .args .p) (now (entry .args .intervals)) old (entry .pre .0) (entry .pre .1) _ whole refusal
+    refuses in
+    (rule, refusal-keeps-the-buffer refusal _ _ _ rule)
 
 same-length : tie.Need-same-length
 same-length c = search needs
 
 returns-4 : tie.Need-returns-4
 returns-4 c =
-    let start = c .before .before .before .before .before .before .before .before .before .before .before .before .before .before .before .before .before .args in
-    let pre = c .before .before .before .before .before .before .before .before .before .before .before .before .before .before .before .before .before .pre in
-    let counts = sym (ap countedAnswer (c .before .before .before .before .before .before .n .given .1)) ∙ c .before .before .before .before .before .before .before .before .conclude .ensures in
-    room-accepts (start .p) (now (start .intervals)) (now (start .out)) (pre .0) (pre .1) _ (sym (c .before .before .before .before .before .before .before .before .before .before .m .given .1) ∙ c .before .before .before .before .before .before .before .before .before .before .before .before .before .pass-over .ensures .0) _ counts (c .before .before .before .before .if1 .left) _ (c .before .before .pass-over2 .ensures .1)
+    let tested = c .before .before .before .before in
+    let counted = tested .before .before in
+    let concluded = counted .before .before in
+    let passed = concluded .before .before in
+    let first = passed .before .before .before in
+    let entry = first .before .before .before .before in
+    let old = now (entry .args .out) in
+    let whole = sym (passed .m .given .1) ∙ first .pass-over .ensures .0 in
+    let counts = sym (ap countedAnswer (counted .n .given .1)) ∙ concluded .conclude .ensures in
+    room-accepts (entry .args .p) (now (entry .args .intervals)) old (entry .pre .0) (entry .pre .1) _ whole _ counts
+    (tested .if1 .left)
+    _
+    (c .before .before .pass-over2 .ensures .1)
 
 pub read-strip-spec : {M : Type 1} → statement M
 read-strip-spec =

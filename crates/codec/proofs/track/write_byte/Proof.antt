@@ -5,7 +5,8 @@ use borrow.Author.Needs.{needs}
 use lib.ListN.{length, drop, drop-of-length-le}
 use Rattle.symbols.specs.Bits.{writtenBits}
 use Rattle.symbols.proofs.BytesLaws.{written-row-is-eight}
-use Rattle.codec.proofs.InkLaws.{Inking, inked-at-most, inking-begins, inking-takes-a-bit, place-within, inking-ends}
+use Rattle.codec.proofs.InkLaws.{Inking, inked-at-most, inking-begins, inking-takes-a-bit, place-within}
+use Rattle.codec.proofs.InkLaws.{inking-ends}
 use Rattle.codec.proofs.track.write_byte.Statement.{statement}
 use Rattle.codec.proofs.track.write_byte.Tie as tie
 
@@ -28,11 +29,13 @@ draw-letter-requires c κs =
 
 put-requires : tie.Need-put-requires Inv-loop μ-loop
 put-requires c κs =
-    let inking = c .before .before .before .loop .inv .1 in
-    let within = place-within _ _ _ _ _ _ inking in
-    let eight = written-row-is-eight (c .before .before .before .before .before .before .before .args .w) in
-    let most = inked-at-most (c .before .before .before .before .before .before .before .args .p) (c .before .before .before .before .before .before .before .args .track .pen) (writtenBits (c .before .before .before .before .before .before .before .args .w)) in
-    omega (arith, c .before .before .before .before .before .before .before .pre .1)
+    let turn = c .before .before .before in
+    let entry = turn .before .before .before .before in
+    let start = entry .args in
+    let within = place-within _ _ _ _ _ _ (turn .loop .inv .1) in
+    let eight = written-row-is-eight (start .w) in
+    let most = inked-at-most (start .p) (start .track .pen) (writtenBits (start .w)) in
+    omega (arith, entry .pre .1)
 
 add-k : tie.Need-add-k Inv-loop μ-loop
 add-k c = search needs
@@ -42,11 +45,17 @@ loop-less c = search needs
 
 loop-again : tie.Need-loop-again Inv-loop μ-loop
 loop-again c =
-    let taken = c .before .before .before .before .before .before .loop-test .taken in
-    let inking = c .before .before .before .before .before .before .before .loop .inv .1 in (
+    let stored = c .before .before .before .put .ensures in
+    let drawn = c .before .before .before .before .before in
+    let tested = drawn .before in
+    let turn = tested .before in
+    let start = turn .before .before .before .before .args in (
       omega arith,
-      inking-takes-a-bit _ _ _ _ _ _ _ _ _ (rw (written-row-is-eight (c .before .before .before .before .before .before .before .before .before .before .before .args .w)) taken) inking (c .before .before .before .before .before .draw-letter .ensures)
-          (c .before .before .before .put .ensures .0) (c .before .before .before .put .ensures .1),
+      inking-takes-a-bit _ _ _ _ _ _ _ _ _ (rw (written-row-is-eight (start .w)) (tested .loop-test .taken))
+          (turn .loop .inv .1)
+          (drawn .draw-letter .ensures)
+          (stored .0)
+          (stored .1),
     )
 
 same-length : tie.Need-same-length Inv-loop μ-loop
@@ -54,10 +63,12 @@ same-length c = c .before .loop .inv .1 .same-length
 
 returns : tie.Need-returns Inv-loop μ-loop
 returns c =
-    let eight = written-row-is-eight (c .before .before .before .before .before .args .w) in
+    let turn = c .before in
+    let start = turn .before .before .before .before .args in
+    let eight = written-row-is-eight (start .w) in
     inking-ends _ _ _ _ _ _
-    (drop-of-length-le (writtenBits (c .before .before .before .before .before .args .w)) {i = c .before .loop .k} (omega arith))
-    (c .before .loop .inv .1)
+    (drop-of-length-le (writtenBits (start .w)) {i = turn .loop .k} (omega arith))
+    (turn .loop .inv .1)
 
 pub write-byte-spec : {M : Type 1} → statement M
 write-byte-spec =

@@ -29,7 +29,10 @@ module _ (p : Profile) (pen₀ : Pen) (old : List ℕ) (at₀ : ℕ) where
   a-zero-more rest inking wrote =
       inking-goes-on p zeros pen₀ old at₀ (O ∷ []) rest _ _ _ inking (wrote .0) (wrote .1) (wrote .2)
 
-  place-below : {rest : List Bit} {out : List ℕ} {pen : Pen} {at : ℕ} → Inking p zeros pen₀ old at₀ rest out pen at → at ≤ at₀ + 3
+  place-below
+      : {rest : List Bit} {out : List ℕ} {pen : Pen} {at : ℕ}
+      → Inking p zeros pen₀ old at₀ rest out pen at
+      → at ≤ at₀ + 3
   place-below inking =
       let within = place-within p zeros pen₀ old at₀ _ inking in
       let most = inked-at-most p pen₀ zeros in
@@ -40,31 +43,46 @@ write-zero-requires c κs = search needs
 
 write-zero-requires-2 : tie.Need-write-zero-requires-2
 write-zero-requires-2 c κs =
-    let start = c .before .before .before .before .before .before .args in
-    let none = inking-begins (start .p) zeros (start .track .pen) (now (start .out)) (start .track .at) (c .before .before .before .before .before .before .pre .0) in
-    let one = a-zero-more (start .p) (start .track .pen) (now (start .out)) (start .track .at) (O ∷ O ∷ []) none (c .before .before .before .write-zero .ensures) in
-    let within = place-below (start .p) (start .track .pen) (now (start .out)) (start .track .at) one in
-    (one .steady, omega (arith, c .before .before .before .before .before .before .pre .1))
+    let first = c .before .before .before in
+    let entry = first .before .before .before in
+    let start = entry .args in
+    let track = start .track in
+    let out = now (start .out) in
+    let none = inking-begins (start .p) zeros (track .pen) out (track .at) (entry .pre .0) in
+    let one = a-zero-more (start .p) (track .pen) out (track .at) (O ∷ O ∷ []) none (first .write-zero .ensures) in
+    let within = place-below (start .p) (track .pen) out (track .at) one in
+    (one .steady, omega (arith, entry .pre .1))
 
 write-zero-requires-3 : tie.Need-write-zero-requires-3
 write-zero-requires-3 c κs =
-    let start = c .before .before .before .before .before .before .before .before .before .before .args in
-    let none = inking-begins (start .p) zeros (start .track .pen) (now (start .out)) (start .track .at) (c .before .before .before .before .before .before .before .before .before .before .pre .0) in
-    let one = a-zero-more (start .p) (start .track .pen) (now (start .out)) (start .track .at) (O ∷ O ∷ []) none (c .before .before .before .before .before .before .before .write-zero .ensures) in
-    let two = a-zero-more (start .p) (start .track .pen) (now (start .out)) (start .track .at) (O ∷ []) one (c .before .before .before .write-zero2 .ensures) in
-    let within = place-below (start .p) (start .track .pen) (now (start .out)) (start .track .at) two in
-    (two .steady, omega (arith, c .before .before .before .before .before .before .before .before .before .before .pre .1))
+    let second = c .before .before .before in
+    let first = second .before .before .before .before in
+    let entry = first .before .before .before in
+    let start = entry .args in
+    let track = start .track in
+    let out = now (start .out) in
+    let none = inking-begins (start .p) zeros (track .pen) out (track .at) (entry .pre .0) in
+    let one = a-zero-more (start .p) (track .pen) out (track .at) (O ∷ O ∷ []) none (first .write-zero .ensures) in
+    let two = a-zero-more (start .p) (track .pen) out (track .at) (O ∷ []) one (second .write-zero2 .ensures) in
+    let within = place-below (start .p) (track .pen) out (track .at) two in
+    (two .steady, omega (arith, entry .pre .1))
 
 same-length : tie.Need-same-length
 same-length c = search needs
 
 returns : tie.Need-returns
 returns c =
-    let start = c .before .before .before .before .before .before .before .before .before .before .before .before .before .args in
-    let none = inking-begins (start .p) zeros (start .track .pen) (now (start .out)) (start .track .at) (c .before .before .before .before .before .before .before .before .before .before .before .before .before .pre .0) in
-    let one = a-zero-more (start .p) (start .track .pen) (now (start .out)) (start .track .at) (O ∷ O ∷ []) none (c .before .before .before .before .before .before .before .before .before .before .write-zero .ensures) in
-    let two = a-zero-more (start .p) (start .track .pen) (now (start .out)) (start .track .at) (O ∷ []) one (c .before .before .before .before .before .before .write-zero2 .ensures) in
-    let three = a-zero-more (start .p) (start .track .pen) (now (start .out)) (start .track .at) [] two (c .before .before .write-zero3 .ensures) in
+    let third = c .before .before in
+    let second = third .before .before .before .before in
+    let first = second .before .before .before .before in
+    let entry = first .before .before .before in
+    let start = entry .args in
+    let track = start .track in
+    let out = now (start .out) in
+    let none = inking-begins (start .p) zeros (track .pen) out (track .at) (entry .pre .0) in
+    let one = a-zero-more (start .p) (track .pen) out (track .at) (O ∷ O ∷ []) none (first .write-zero .ensures) in
+    let two = a-zero-more (start .p) (track .pen) out (track .at) (O ∷ []) one (second .write-zero2 .ensures) in
+    let three = a-zero-more (start .p) (track .pen) out (track .at) [] two (third .write-zero3 .ensures) in
     let ended = inking-ends _ _ _ _ _ [] refl three in
     (ended .1, ended .2)
 

@@ -24,12 +24,14 @@ same-length c = search needs
 
 returns : tie.Need-returns
 returns c =
+    let stored = c .before .before .before .put .ensures in
+    let stroke = c .before .before .before .before .before .draw in
     let start = c .before .before .before .before .before .before .before .args in
-    let drawn : c .before .before .before .before .before .draw .result ≡ strokeOf (start .p) (start .track .pen) O = c .before .before .before .before .before .draw .ensures in
+    let drawn : stroke .result ≡ strokeOf (start .p) (start .track .pen) O = stroke .ensures in
     let given = ap givenBy drawn ∙ sym (inked-of-one (start .p) (start .track .pen) O) in (
       ap (λ (s : Stroke). s .pen) drawn ∙ sym (pen-after-one (start .p) (start .track .pen) O),
-      c .before .before .before .put .ensures .0 ∙ ap (λ (l : List ℕ). start .track .at + length l) given,
-      c .before .before .before .put .ensures .1 ∙ ap (storedAt (now (start .out)) (start .track .at)) given,
+      stored .0 ∙ ap (λ (l : List ℕ). start .track .at + length l) given,
+      stored .1 ∙ ap (storedAt (now (start .out)) (start .track .at)) given,
     )
 
 pub write-zero-spec : {M : Type 1} → statement M

@@ -21,12 +21,14 @@ cast-t7 c = search needs
 
 returns-3 : tie.Need-returns-3
 returns-3 c =
-    rule-of-foreign _ _ _ (c .before .before .before .before .if1 .left) (c .before .before .before .written-bytes .ensures) (c .before .before .if2 .left)
+    let counted = c .before .before .before in
+    rule-of-foreign _ _ _ (counted .before .if1 .left) (counted .written-bytes .ensures) (c .before .before .if2 .left)
     (c .before .find-foreign .ensures) (c .if3 .taken)
 
 returns-4 : tie.Need-returns-4
 returns-4 c =
-    rule-of-accepted _ _ _ (c .before .before .before .before .if1 .left) (c .before .before .before .written-bytes .ensures) (c .before .before .if2 .left)
+    let counted = c .before .before .before in
+    rule-of-accepted _ _ _ (counted .before .if1 .left) (counted .written-bytes .ensures) (c .before .before .if2 .left)
     (c .before .find-foreign .ensures) (c .if3 .left)
 
 pub check-list-spec : {M : Type 1} → statement M

@@ -1,5 +1,5 @@
--- Why `codec::writer::write` answers `writeRule`: the profile's refusal decides, then the list's, then what `write_list` answers.
--- Rests on no axiom.
+-- Why `codec::writer::write` answers `writeRule`: the profile's refusal decides, then the list's, then what
+-- `write_list` answers. Rests on no axiom.
 use mathlib.Core.Path.{_∙_}
 use Rattle.refusal.proofs.AnswerLaws.{verdict-refuses, verdict-passes, verdict-accepts, refusal-keeps-the-buffer}
 use Rattle.codec.specs.Writer.{writeRule, writeOutput}
@@ -26,10 +26,12 @@ enum-told-2 : tie.Need-enum-told-2
 enum-told-2 c = search needs
 
 write-list-requires : tie.Need-write-list-requires
-write-list-requires c κs = (
-  verdict-accepts _ _ (c .before .before .before .before .before .before .check .ensures) (c .before .before .before .before .enum-told .given .1),
-  verdict-accepts _ _ (c .before .before .before .check-list .ensures) (c .before .enum-told2 .given .1),
-)
+write-list-requires c κs =
+    let listed = c .before .before .before in
+    let told = listed .before in (
+      verdict-accepts _ _ (told .before .before .check .ensures) (told .enum-told .given .1),
+      verdict-accepts _ _ (listed .check-list .ensures) (c .before .enum-told2 .given .1),
+    )
 
 returns : tie.Need-returns
 unfolding writeRule writeOutput
@@ -40,9 +42,11 @@ returns c =
 returns-2 : tie.Need-returns-2
 unfolding writeRule writeOutput
 returns-2 c =
+    let listed = c .before .before .before in
+    let told = listed .before in
     let rule =
-    verdict-refuses _ _ _ _ (c .before .before .before .check-list .ensures) (c .before .refusal2 .given .1)
-    ∙ verdict-passes _ _ _ (c .before .before .before .before .before .before .check .ensures) (c .before .before .before .before .enum-told .given .1) in
+    verdict-refuses _ _ _ _ (listed .check-list .ensures) (c .before .refusal2 .given .1)
+    ∙ verdict-passes _ _ _ (told .before .before .check .ensures) (told .enum-told .given .1) in
     (rule, refusal-keeps-the-buffer (c .before .refusal2 .given .0 .0) _ _ _ rule)
 
 same-length : tie.Need-same-length

@@ -49,7 +49,8 @@ module _ (items : List ℕ) (k end : ℕ) (from : k ≤ end) (check : Check) whe
       → pen′ ≡ penAfter p pen (allBits bytes)
       → at′ ≡ at + length (inked p pen (allBits bytes))
       → out′ ≡ storedAt out at (inked p pen (allBits bytes))
-      → Inking p (allBits (written items)) (freshPen p) old 0 (allBits (writtenFrom check′ (drop end items))) out′ pen′ at′
+      → Inking p (allBits (written items)) (freshPen p) old 0 (allBits (writtenFrom check′ (drop end items)))
+      out′ pen′ at′
   a-part-more p old {out} {pen} {at} inking out′ pen′ at′ check′ checks pens places stores =
       let all = allBits (written items) in
       rw checks
@@ -124,8 +125,9 @@ loop-again c =
     let wrote = c .before .before .write-part .ensures in
     let part-end = c .before .before .before .before .before .part-end in (
       omega (arith, part-end .ensures),
-      a-part-more (now (entry .args .items)) (looked .loop .k) (part-end .result) (omega arith) (looked .loop .part .check)
-          _ _ (looked .loop .inv .1) _ _ _ _ (wrote .0) (wrote .1 .0) (wrote .1 .1) (wrote .1 .2),
+      a-part-more (now (entry .args .items)) (looked .loop .k) (part-end .result) (omega arith)
+          (looked .loop .part .check) _ _ (looked .loop .inv .1) _ _ _ _
+          (wrote .0) (wrote .1 .0) (wrote .1 .1) (wrote .1 .2),
     )
 
 same-length : tie.Need-same-length Inv-loop μ-loop

@@ -41,7 +41,8 @@ returns-2 c =
     let pre = entry .pre in
     let items = now (entry .args .items) in
     let old = now (entry .args .out) in
-    let answers = too-short (entry .args .p) (written items) old (sym (c .before .has-room .ensures) ∙ c .if1 .left) in (
+    let no-room = sym (c .before .has-room .ensures) ∙ c .if1 .left in
+    let answers = too-short (entry .args .p) (written items) old no-room in (
       answers .0 ∙ rule-of-stream (entry .args .p) items old (pre .0) (pre .1),
       answers .1 ∙ output-of-stream (entry .args .p) items old (pre .0) (pre .1),
     )

@@ -1,4 +1,5 @@
--- Why `codec::writer::write_stream` stores the stream: the bytes' bits, then the closing 0s behind them. Rests on no axiom.
+-- Why `codec::writer::write_stream` stores the stream: the bytes' bits, then the closing 0s behind them. Rests on no
+-- axiom.
 use mathlib.Core.Path.{sym, subst, _∙_}
 use native.Mathlib.Omega.{arith}
 use denote.Ref.{now}
@@ -19,15 +20,16 @@ write-items-requires c κs = search needs
 
 write-closing-requires : tie.Need-write-closing-requires
 write-closing-requires c κs =
-    let start = c .before .before .before .before .before .before .before .args in
+    let entry = c .before .before .before .before .before .before .before in
+    let start = entry .args in
     let wrote = c .before .before .before .write-items .ensures in
     let bytes = written (now (start .items)) in
     let many = length-of-written (now (start .items)) in
     let bits = length-of-bits bytes in
     let most = inked-at-most (start .p) (freshPen (start .p)) (allBits bytes) in (
       subst (Steady (start .p)) (sym (wrote .0))
-          (pen-stays-steady (freshPen (start .p)) (allBits bytes) (fresh-pen-is-steady (start .p) (c .before .before .before .before .before .before .before .pre .0))),
-      omega (arith, wrote .1, c .before .before .before .before .before .before .before .pre .1),
+          (pen-stays-steady (freshPen (start .p)) (allBits bytes) (fresh-pen-is-steady (start .p) (entry .pre .0))),
+      omega (arith, wrote .1, entry .pre .1),
     )
 
 same-length : tie.Need-same-length

@@ -1,5 +1,5 @@
--- One turn of a pass: the interval's class either stops both the code and the definition, or hands both the same machine and the same
--- item, so what is left to scan and to store stays what it was. Rests on no axiom.
+-- One turn of a pass: the interval's class either stops both the code and the definition, or hands both the same
+-- machine and the same item, so what is left to scan and to store stays what it was. Rests on no axiom.
 use Prim.Native.Nat.{ℕ, suc, _+_, _≤_, _<_}
 use mathlib.Core.Path.{_≡_, refl, sym, ap, _∙_}
 use mathlib.Core.Bool.{Bool, true, false, cond}
@@ -69,12 +69,15 @@ module _ (p : Profile) (ds old : List ℕ) where
     pub few : count ≤ k
     pub same-length : length out ≡ length old
     pub to-scan : scanned k m (drop k (classesOf p ds)) ≡ scanned 0 fresh (classesOf p ds)
-    pub to-store : storedAt out count (gathered k m (drop k (classesOf p ds))) ≡ storedAt old 0 (gathered 0 fresh (classesOf p ds))
+    pub to-store
+        : storedAt out count (gathered k m (drop k (classesOf p ds)))
+        ≡ storedAt old 0 (gathered 0 fresh (classesOf p ds))
 
   pub begins : Passing old fresh 0 0
   begins = record { within = omega arith; few = omega arith; same-length = refl; to-scan = refl; to-store = refl }
 
-  class-here : (k : ℕ) → k < length ds → drop k (classesOf p ds) ≡ classOf p (getD ds k 0) ∷ drop (suc k) (classesOf p ds)
+  class-here
+      : (k : ℕ) → k < length ds → drop k (classesOf p ds) ≡ classOf p (getD ds k 0) ∷ drop (suc k) (classesOf p ds)
   class-here k h =
       sym (classes-of-drop p k ds)
       ∙ ap (classesOf p) (drop-cons ds k 0 h)
@@ -127,5 +130,7 @@ module _ (p : Profile) (ds old : List ℕ) where
         let none : drop k (classesOf p ds) ≡ [] =
         drop-of-length-le (classesOf p ds) {i = k} (let same = classes-length p ds in omega arith) in (
           ap (scanned k m) (sym none) ∙ now .to-scan,
-          sym (stored-none out count) ∙ ap (λ (cs : List Class). storedAt out count (gathered k m cs)) (sym none) ∙ now .to-store,
+          sym (stored-none out count)
+              ∙ ap (λ (cs : List Class). storedAt out count (gathered k m cs)) (sym none)
+              ∙ now .to-store,
         )

@@ -153,7 +153,8 @@ module _ (p : Profile) (ds old : List ℕ) (n : ℕ) where
           placed = length-append (so-far .done) (x ∷ []) ∙ (let at = so-far .placed in omega arith);
           within = inside;
           front =
-              front-goes-on cs n (so-far .done) (wanted h) (taken-is-read k _ x e) (drop (suc k) cs) (front-here inside);
+              front-goes-on cs n (so-far .done) (wanted h) (taken-is-read k _ x e) (drop (suc k) cs)
+              (front-here inside);
           same-length = ap length store ∙ stored-length out count (itemsOf next) ∙ so-far .same-length;
           counted =
               places
