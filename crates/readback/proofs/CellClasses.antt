@@ -1,11 +1,11 @@
 -- The classes of cells: of a sync, of a mark A1, and of the gap between the fields, in which no run of 64 stands. They
 -- are the cells of those bytes, one class for each. Rests on no axiom.
 use Prim.Native.Nat.{ℕ, _+_}
-use mathlib.Core.Path.{_≡_, refl, sym, ap, _∙_}
+use mathlib.Core.Path.{_≡_, refl, sym, ap, ap₂, _∙_}
 use mathlib.Core.Bool.{true, false}
-use mathlib.Core.List.{List, [], _∷_, _++_, map, map-append}
+use mathlib.Core.List.{List, [], _∷_, _++_, map, map-append, append-assoc}
 use native.Mathlib.Omega.{arith}
-use lib.ListN.{length, drop, replicate, length-append, length-map}
+use lib.ListN.{length, drop, replicate, length-append, length-map, length-replicate}
 use lib.Seq.{drop-at}
 use Rattle.timing.specs.Class.{classNumber, classesOf}
 use Rattle.timing.specs.declared.Profile.{Profile}
@@ -84,6 +84,29 @@ gap-classes b ws xs no-gap h =
     ∙ ap (λ (us : List ℕ). gapAfter b 21 ++ (replicate 7 2 ++ us)) (cells-of-zero-bytes 11 ws))
     ∙ map-append classOfUnits (gapAfter b 21) (replicate 95 2 ++ writtenCells ws)
     ∙ ap (λ (cs : List Class). gapClasses b ++ cs) (classes-after (replicate 95 2) ws)
+
+-- ---- parts
+
+pub length-of-front : (n : ℕ) (xs : List Cell) → length (replicate n Two ++ map classOfCell xs) ≡ n + length xs
+length-of-front n xs =
+    length-append (replicate n Two) (map classOfCell xs)
+    ∙ ap₂ _+_ (length-replicate n Two) (length-map xs classOfCell)
+
+pub parts
+    : (before : List Class) (xs ys : List Cell) {all : List Cell}
+    → xs ++ ys ≡ all
+    → before ++ map classOfCell all ≡ (before ++ map classOfCell xs) ++ map classOfCell ys
+parts before xs ys e =
+    ap (λ (zs : List Cell). before ++ map classOfCell zs) (sym e)
+    ∙ ap (λ (cs : List Class). before ++ cs) (map-append classOfCell xs ys)
+    ∙ sym (append-assoc before (map classOfCell xs) (map classOfCell ys))
+
+pub last-apart : (xs ys zs rest : List Class) → xs ++ (ys ++ (zs ++ rest)) ≡ (xs ++ (ys ++ zs)) ++ rest
+last-apart xs ys zs rest =
+    ap (λ (cs : List Class). xs ++ cs) (sym (append-assoc ys zs rest)) ∙ sym (append-assoc xs (ys ++ zs) rest)
+
+pub length-of-three : (xs ys : List Class) (n : ℕ) → length (xs ++ (ys ++ replicate n Two)) ≡ length xs + length ys + n
+length-of-three xs ys n = simp (length-append, length-replicate) (omega arith)
 
 -- ---- places
 

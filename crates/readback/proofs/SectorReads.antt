@@ -3,9 +3,9 @@
 -- field reader gives its bytes; and the gap after the ID has no run before the data's sync. Rests on no axiom.
 use Prim.Native.Nat.{ℕ, _+_}
 use mathlib.Core.Path.{_≡_, refl, sym, ap, ap₂, _∙_}
-use mathlib.Core.List.{List, [], _∷_, _++_, map, map-append, append-assoc}
+use mathlib.Core.List.{List, [], _∷_, _++_, map}
 use native.Mathlib.Omega.{arith}
-use lib.ListN.{length, drop, replicate, length-append, length-map, length-replicate}
+use lib.ListN.{length, drop, replicate}
 use Rattle.refusal.specs.Answer.{accepted}
 use Rattle.refusal.proofs.AnswerLaws.{first-refusal-passes}
 use Rattle.timing.specs.Profile.{profileRule}
@@ -37,28 +37,8 @@ use Rattle.readback.proofs.WrittenSector.{A1, middleGap, idBytes, dataB
 use Rattle.readback.proofs.WrittenSector.{sector-written}
 use Rattle.readback.proofs.CellClasses.{cells, cells-bits, classesFor, cells-classes, sync-classes, mark-classes}
 use Rattle.readback.proofs.CellClasses.{gapClasses, no-run-in-gap, gap-classes, classes-from, place-after-zero}
+use Rattle.readback.proofs.CellClasses.{length-of-front, parts, last-apart, length-of-three}
 use Rattle.readback.proofs.CheckedField.{checked-field-is-read}
-
-length-of-front : (n : ℕ) (xs : List Cell) → length (replicate n Two ++ map classOfCell xs) ≡ n + length xs
-length-of-front n xs =
-    length-append (replicate n Two) (map classOfCell xs)
-    ∙ ap₂ _+_ (length-replicate n Two) (length-map xs classOfCell)
-
-parts
-    : (before : List Class) (xs ys : List Cell) {all : List Cell}
-    → xs ++ ys ≡ all
-    → before ++ map classOfCell all ≡ (before ++ map classOfCell xs) ++ map classOfCell ys
-parts before xs ys e =
-    ap (λ (zs : List Cell). before ++ map classOfCell zs) (sym e)
-    ∙ ap (λ (cs : List Class). before ++ cs) (map-append classOfCell xs ys)
-    ∙ sym (append-assoc before (map classOfCell xs) (map classOfCell ys))
-
-last-apart : (xs ys zs rest : List Class) → xs ++ (ys ++ (zs ++ rest)) ≡ (xs ++ (ys ++ zs)) ++ rest
-last-apart xs ys zs rest =
-    ap (λ (cs : List Class). xs ++ cs) (sym (append-assoc ys zs rest)) ∙ sym (append-assoc xs (ys ++ zs) rest)
-
-length-of-three : (xs ys : List Class) (n : ℕ) → length (xs ++ (ys ++ replicate n Two)) ≡ length xs + length ys + n
-length-of-three xs ys n = simp (length-append, length-replicate) (omega arith)
 
 module _
     (track side sector code : ℕ)
