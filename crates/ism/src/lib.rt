@@ -7,16 +7,13 @@ ghost use Rattle.timing.specs.Class.{classRule};
 ghost use Rattle.lengths.specs.Margin.{marginRule};
 ghost use Rattle.codec.specs.Writer.{writeRule, writeOutput};
 ghost use Rattle.codec.specs.Reader.{readRule, readOutput};
-ghost use Rattle.fields.specs.Lock.{findRule};
-ghost use Rattle.fields.specs.FieldRule.{fieldAnswer, fieldReading, fieldOutput};
-ghost use Rattle.sectors.specs.Sector.{sectorRule, sectorOutput};
-ghost use Rattle.ism.specs.Answers.{profileOf, given, givenField};
-use fields::reader::FieldRead;
+ghost use Rattle.ism.specs.Answers.{profileOf, given};
 use refusal::Counted;
 use timing::Clocks;
 use timing::HalfClocks;
 use timing::Profile;
 
+pub mod disk;
 pub mod queue;
 
 #[repr(C)]
@@ -108,67 +105,5 @@ pub extern "C" fn ism_read(p: IsmProfile, intervals: &[u16], out: &mut [u16]) ->
     ensures output { λ _. ⌜ now (out .exit) ≡ readOutput (profileOf p) (now (intervals .entry)) (now (out .entry)) ⌝ }
 {
     let counted = codec::reader::read(profile(p), intervals, out);
-    answer(counted)
-}
-
-#[no_mangle]
-pub extern "C" fn ism_find(p: IsmProfile, intervals: &[u16], start: u64) -> IsmAnswer
-    ensures { λ r. ⌜ r ≡ given (findRule (profileOf p) (now (intervals .entry)) start) ⌝ }
-{
-    answer(fields::finder::find_lock(profile(p), intervals, start as usize))
-}
-
-fn field_answer(read: FieldRead) -> IsmAnswer
-    ensures { λ r. ⌜ r ≡ givenField (fieldAnswer read) ⌝ }
-{
-    match read {
-        FieldRead::Field { count, used, holds } => IsmAnswer {
-            number: 0,
-            place: 0,
-            count: count as u64,
-            used: used as u64,
-            holds: holds as u32,
-        },
-        FieldRead::Refused(refusal) => IsmAnswer {
-            number: refusal.number(),
-            place: refusal.place(),
-            count: 0,
-            used: 0,
-            holds: 0,
-        },
-    }
-}
-
-#[no_mangle]
-pub extern "C" fn ism_read_field(
-    p: IsmProfile,
-    intervals: &[u16],
-    bytes: u64,
-    out: &mut [u16],
-) -> IsmAnswer
-    ensures answer { λ r. ⌜
-        r ≡ givenField (fieldReading (profileOf p) (now (intervals .entry)) bytes (length (now (out .entry)))) ⌝ }
-    ensures output { λ _. ⌜
-        now (out .exit) ≡ fieldOutput (profileOf p) (now (intervals .entry)) bytes (now (out .entry)) ⌝ }
-{
-    let read = fields::reader::read_field(profile(p), intervals, bytes as usize, out);
-    field_answer(read)
-}
-
-#[no_mangle]
-pub extern "C" fn ism_make_sector(
-    track: u8,
-    side: u8,
-    sector: u8,
-    code: u8,
-    bytes: &[u8],
-    out: &mut [u16],
-) -> IsmAnswer
-    ensures answer { λ r. ⌜
-        r ≡ given (sectorRule track side sector code (now (bytes .entry)) (length (now (out .entry)))) ⌝ }
-    ensures output { λ _. ⌜
-        now (out .exit) ≡ sectorOutput track side sector code (now (bytes .entry)) (now (out .entry)) ⌝ }
-{
-    let counted = sectors::make_sector(track, side, sector, code, bytes, out);
     answer(counted)
 }

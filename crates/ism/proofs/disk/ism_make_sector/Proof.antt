@@ -1,10 +1,10 @@
--- Why `ism::ism_make_sector` answers as the library does: it hands the arguments over and the answer back. Rests on
--- no axiom.
+-- Why `ism::disk::ism_make_sector` answers as the library does: it hands the arguments over and the answer back.
+-- Rests on no axiom.
 use mathlib.Core.Path.{ap, _∙_}
 use Rattle.ism.specs.Answers.{given}
 use borrow.Author.Needs.{needs}
-use Rattle.ism.proofs.ism_make_sector.Statement.{statement}
-use Rattle.ism.proofs.ism_make_sector.Tie as tie
+use Rattle.ism.proofs.disk.ism_make_sector.Statement.{statement}
+use Rattle.ism.proofs.disk.ism_make_sector.Tie as tie
 
 make-sector-requires : tie.Need-make-sector-requires
 make-sector-requires c κs = search needs

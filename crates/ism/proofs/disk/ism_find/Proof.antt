@@ -1,12 +1,13 @@
--- Why `ism::ism_find` answers as the library does: it hands the arguments over and the answer back. Rests on no axiom.
+-- Why `ism::disk::ism_find` answers as the library does: it hands the arguments over and the answer back. Rests on no
+-- axiom.
 use mathlib.Core.Path.{ap, _∙_}
 use denote.Ref.{now}
 use Rattle.timing.specs.declared.Profile.{Profile}
 use Rattle.fields.specs.Lock.{findRule}
 use Rattle.ism.specs.Answers.{given}
 use borrow.Author.Needs.{needs}
-use Rattle.ism.proofs.ism_find.Statement.{statement}
-use Rattle.ism.proofs.ism_find.Tie as tie
+use Rattle.ism.proofs.disk.ism_find.Statement.{statement}
+use Rattle.ism.proofs.disk.ism_find.Tie as tie
 
 profile-requires : tie.Need-profile-requires
 profile-requires c κs = search needs

@@ -1,5 +1,5 @@
--- Why `ism::field_answer` hands over what the field reader gave: a case of the code for each of the definition. Rests
--- on no axiom.
+-- Why `ism::disk::field_answer` hands over what the field reader gave: a case of the code for each of the definition.
+-- Rests on no axiom.
 use Prim.Native.Nat.{ℕ}
 use mathlib.Core.Path.{_≡_, refl, sym, ap, ap₂, _∙_}
 use mathlib.Core.Bool.{Bool, true, false}
@@ -10,8 +10,8 @@ use Rattle.fields.specs.declared.reader.FieldRead.{FieldRead}
 use Rattle.ism.specs.Answers.{asNumber, givenField}
 use Rattle.ism.specs.declared.IsmAnswer.{IsmAnswer}
 use borrow.Author.Needs.{needs}
-use Rattle.ism.proofs.field_answer.Statement.{statement}
-use Rattle.ism.proofs.field_answer.Tie as tie
+use Rattle.ism.proofs.disk.field_answer.Statement.{statement}
+use Rattle.ism.proofs.disk.field_answer.Tie as tie
 
 -- a yes or no as the machine has it
 number-of-yes : (b : Bool) → boolByte b ≡ asNumber b

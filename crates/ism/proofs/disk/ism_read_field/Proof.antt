@@ -1,5 +1,5 @@
--- Why `ism::ism_read_field` answers as the library does: it hands the arguments over and the answer back. Rests on no
--- axiom.
+-- Why `ism::disk::ism_read_field` answers as the library does: it hands the arguments over and the answer back. Rests
+-- on no axiom.
 use mathlib.Core.Path.{ap, _∙_}
 use denote.Ref.{now}
 use lib.ListN.{length}
@@ -7,8 +7,8 @@ use Rattle.timing.specs.declared.Profile.{Profile}
 use Rattle.fields.specs.FieldRule.{fieldReading, fieldOutput}
 use Rattle.ism.specs.Answers.{givenField}
 use borrow.Author.Needs.{needs}
-use Rattle.ism.proofs.ism_read_field.Statement.{statement}
-use Rattle.ism.proofs.ism_read_field.Tie as tie
+use Rattle.ism.proofs.disk.ism_read_field.Statement.{statement}
+use Rattle.ism.proofs.disk.ism_read_field.Tie as tie
 
 profile-requires : tie.Need-profile-requires
 profile-requires c κs = search needs
