@@ -53,7 +53,7 @@ extern "C" {
 #define ISM_SHORT 11u    /* the list ends before n bytes */
 #define ISM_MISCOUNT 12u /* n outside 1 to 1,030 */
 #define ISM_MISFIT 13u   /* length code above 3, or data not that long */
-#define ISM_GARBLED 14u  /* only from the strip program: input not in its form; place: lowest faulty line, from 1 */
+#define ISM_GARBLED 14u  /* only from the strip program: garbled input; place: lowest faulty line, 0 if too long */
 
 /* Limits. ISM_MAX_INTERVALS intervals always hold the stream of ISM_MAX_BYTES written bytes. */
 #define ISM_MAX_BYTES 6400u

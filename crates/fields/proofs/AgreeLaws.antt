@@ -3,6 +3,7 @@
 use Prim.Native.Nat.{ℕ, zero, suc}
 use mathlib.Core.Path.{_≡_, sym, ap, _∙_}
 use mathlib.Core.List.{List, [], _∷_, _++_}
+use borrow.Author.Tests.{eq-eqb}
 use lib.ListN.{length, take, drop, take-append-drop}
 use Rattle.refusal.proofs.AnswerLaws.{first-refusal-accepts, refuse-if-accepts}
 use Rattle.timing.specs.Profile.{outside, profileRule}
@@ -14,6 +15,7 @@ use Rattle.symbols.specs.Bits.{O}
 use Rattle.fields.specs.Field.{bitsWanted, fieldStop, fieldCells, fieldUsed, fieldBits}
 use Rattle.fields.specs.Field.{fieldItems, fieldHolds, fieldStray, fieldStrayPlace}
 use Rattle.fields.specs.FieldRule.{gatherRule, deliverRule, checkedRule, fieldRule, fieldReading, fieldOutput}
+use Rattle.fields.specs.Claims.{UsedIntervalsDecide}
 use Rattle.fields.proofs.TakenLaws.{SameFront, used-decide}
 
 pub classes-of-take : (p : Profile) (k : ℕ) (ds : List ℕ) → classesOf p (take k ds) ≡ take k (classesOf p ds)
@@ -111,3 +113,19 @@ module _ (p : Profile) (ds es : List ℕ) (n room : ℕ) where
     unfolding fieldOutput
     used-intervals-decide-output old =
         rw (rules-agree (length old), same-items n (classesOf p ds) (classesOf p es) cells-agree stops-agree)
+
+-- as document 01 says it, by the number of intervals that is answered
+used-by-answer
+    : (p : Profile) (ds : List ℕ) (n room : ℕ)
+    → fieldRule p ds n room .number ≡ 0
+    → fieldReading p ds n room .used ≡ fieldUsed (classesOf p ds) n
+unfolding fieldReading
+used-by-answer p ds n room accepts = rw (eq-eqb (fieldRule p ds n room .number) 0 accepts)
+
+pub two-lists-that-agree : UsedIntervalsDecide
+two-lists-that-agree p n ds es old accepts agree =
+    let same : AgreeInUsed p ds es n (length old) = rw (used-by-answer p ds n (length old) accepts) at agree in
+    (
+      used-intervals-decide p ds es n (length old) accepts same,
+      used-intervals-decide-output p ds es n (length old) accepts same old,
+    )

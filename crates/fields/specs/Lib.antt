@@ -1,3 +1,4 @@
 pub mod Lock
 pub mod Field
 pub mod FieldRule
+pub mod Claims

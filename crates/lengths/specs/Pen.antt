@@ -6,6 +6,7 @@ use mathlib.Core.Path.{_≡_}
 use mathlib.Core.Bool.{Bool, true, false, cond}
 use mathlib.Core.List.{List, [], _∷_, _++_}
 use lib.Dec.{eqb}
+use Rattle.lists.specs.Filled.{ifGiven}
 use Rattle.symbols.specs.Bits.{Bit, isOne}
 use Rattle.symbols.specs.Bytes.{isGap}
 use Rattle.timing.specs.Profile.{profileRule}
@@ -76,7 +77,7 @@ strokeOf p pen b = stroke p pen (isOne b) (isGap b)
 
 -- the length that a stroke gave, if it did
 abbrev pub givenBy : Stroke → List ℕ
-givenBy s = cond (s .made) (s .length .0 ∷ []) []
+givenBy s = ifGiven (s .made) (s .length .0)
 
 -- the pen after some bits, and the lengths that they give
 unfoldable pub penAfter : Profile → Pen → List Bit → Pen

@@ -34,7 +34,7 @@ use Rattle.unique.proofs.Demand3.{moved-has-classes}
 use Rattle.readback.specs.SectorReads.{withCheck, ReadsField, Made, idField, dataField, idPlace, dataPlace}
 use Rattle.readback.specs.SectorReads.{SectorReads, MadeSectorsReadBack}
 use Rattle.readback.proofs.WrittenSector.{A1, middleGap, idBytes, dataBytes, id-bytes, data-bytes}
-use Rattle.readback.proofs.WrittenSector.{sector-written}
+use Rattle.readback.proofs.WrittenSector.{sector-written, sector-is-listed}
 use Rattle.readback.proofs.CellClasses.{cells, cells-bits, classesFor, cells-classes, sync-classes, mark-classes}
 use Rattle.readback.proofs.CellClasses.{gapClasses, no-run-in-gap, gap-classes, classes-from, place-after-zero}
 use Rattle.readback.proofs.CellClasses.{length-of-front, parts, last-apart, length-of-three}
@@ -78,7 +78,7 @@ module _
 
     -- ---- the ID
 
-    id-place : idPlace track side sector code bytes ≡ 96
+    id-place : idPlace ≡ 96
     unfolding idPlace cellsOf cellsFrom symbolsOf symbolsFrom pairSymbols allBits writtenBits byteBits isMark
     id-place = refl
 
@@ -203,6 +203,7 @@ module _
     unfolding idField dataField used
     sector-reads =
         record {
+          written = sector-is-listed track side sector code bytes made;
           id-lock = rw id-place (found 0 96 first-lock);
           id-reads = rw id-place id-is-read;
           data-lock = rw (id-place, data-place) (found (96 + used) place second-lock);

@@ -5,17 +5,21 @@ use mathlib.Core.Path.{_≡_, refl, ap, _∙_}
 use mathlib.Core.Bool.{true, false, _&&_}
 use mathlib.Core.List.{List, [], _∷_, _++_}
 use native.Mathlib.Omega.{arith}
-use lib.ListN.{replicate}
+use borrow.Author.Tests.{le-ltb}
+use lib.ListN.{length, replicate}
 use Rattle.lists.specs.Place.{anywhere, everywhere}
+use Rattle.lists.proofs.PlaceLaws.{anywhere-of-none, anywhere-of-failing, anywhere-of-append}
 use Rattle.lists.proofs.PlaceLaws.{everywhere-of-passing, everywhere-of-append, everywhere-of-replicate}
-use Rattle.items.specs.Item.{isByte, isMark, isCheck}
+use Rattle.items.specs.Item.{isByte, isMark, isCheck, isItem, isForeign, writtenBytes}
 use Rattle.items.specs.Written.{fresh, afterBytes, checkBytes, writtenFrom, written}
 use Rattle.items.specs.declared.Check.{Check}
-use Rattle.items.proofs.ItemLaws.{data-is-byte, bytes-have-no-check}
+use Rattle.items.proofs.ItemLaws.{data-is-byte, bytes-are-items, bytes-have-no-check, item-is-not-foreign}
 use Rattle.items.proofs.CheckLaws.{unmarked-after-data, mark-starts-again}
 use Rattle.items.proofs.CheckFacts.{written-from-of-check-at-end}
 use Rattle.items.proofs.WrittenLaws.{written-from-of-append, written-from-of-no-check}
+use Rattle.lengths.specs.Stream.{listRule}
 use Rattle.sectors.specs.Sector.{opening, identity, sectorItems}
+use Rattle.sectors.proofs.SectorCounts.{size-at-most-1024, sector-counts}
 use Rattle.readback.specs.SectorReads.{withCheck, Made, idField, dataField}
 
 abbrev pub A1 : ℕ
@@ -28,6 +32,10 @@ A1-is-mark = refl
 A1-is-byte : isByte A1 ≡ true
 unfolding isByte isMark
 A1-is-byte = refl
+
+check-order-is-item : isItem 512 ≡ true
+unfolding isItem isByte isMark isCheck
+check-order-is-item = refl
 
 -- ---- a gap and the field after it
 
@@ -134,3 +142,43 @@ module _ (track side sector code : ℕ) (bytes : List ℕ) where
         (second
         ∙ ap (λ (us : List ℕ). middleGap ++ (withCheck (A1 ∷ dataBytes) ++ us))
         (written-from-of-no-check after-data last (bytes-have-no-check last (data-repeated 54 0x4e 4E-is-byte))))
+
+    -- ---- the writer takes it
+
+    field-has-no-foreign
+        : (ws : List ℕ) → everywhere isByte ws ≡ true → anywhere isForeign (ws ++ (512 ∷ [])) ≡ false
+    field-has-no-foreign ws e =
+        anywhere-of-append isForeign ws (512 ∷ [])
+        ∙ rw (bytes-are-items ws e)
+        (anywhere-of-failing isForeign 512 [] (item-is-not-foreign 512 check-order-is-item) ∙ anywhere-of-none isForeign)
+
+    no-foreign : anywhere isForeign (sectorItems track side sector code bytes) ≡ false
+    no-foreign =
+        let last : List ℕ = replicate 54 0x4e in
+        let id : List ℕ = (A1 ∷ idBytes) ++ (512 ∷ []) in
+        let data-field : List ℕ = (A1 ∷ dataBytes) ++ (512 ∷ []) in
+        ap (anywhere isForeign) sector-grouped
+        ∙ anywhere-of-append isForeign (replicate 12 0x00) (id ++ (middleGap ++ (data-field ++ last)))
+        ∙ rw (
+          bytes-are-items (replicate 12 0x00) (data-repeated 12 0x00 00-is-byte),
+          anywhere-of-append isForeign id (middleGap ++ (data-field ++ last)),
+          field-has-no-foreign (A1 ∷ idBytes) id-bytes,
+          anywhere-of-append isForeign middleGap (data-field ++ last),
+          bytes-are-items middleGap middle-gap-bytes,
+          anywhere-of-append isForeign data-field last,
+          field-has-no-foreign (A1 ∷ dataBytes) data-bytes,
+          bytes-are-items last (data-repeated 54 0x4e 4E-is-byte),
+        )
+
+    all-bytes : everywhere isByte (track ∷ side ∷ sector ∷ code ∷ bytes) ≡ true
+    all-bytes =
+        everywhere-of-append isByte (track ∷ side ∷ sector ∷ code ∷ []) bytes
+        ∙ rw (made .id-bytes, made .data-bytes)
+
+    pub sector-is-listed : listRule (sectorItems track side sector code bytes) .number ≡ 0
+    unfolding listRule
+    sector-is-listed =
+        let items : List ℕ = sectorItems track side sector code bytes in
+        let most = size-at-most-1024 code in
+        let (count, written-count) = sector-counts track side sector code bytes (made .fits) all-bytes in
+        rw (le-ltb 6400 (length items) (omega arith), le-ltb 6400 (writtenBytes items) (omega arith), no-foreign)

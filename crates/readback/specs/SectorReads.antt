@@ -14,10 +14,10 @@ use Rattle.items.specs.Item.{isByte}
 use Rattle.items.specs.Written.{fresh, afterBytes, checkBytes}
 use Rattle.symbols.specs.Bits.{O, allBits}
 use Rattle.symbols.specs.Cells.{symbolsOf, cellsOf}
-use Rattle.lengths.specs.Stream.{streamOf}
+use Rattle.lengths.specs.Stream.{streamOf, listRule}
 use Rattle.fields.specs.Lock.{findRule}
 use Rattle.fields.specs.Field.{fieldUsed}
-use Rattle.fields.specs.FieldRule.{FieldAnswer, fieldReading, fieldOutput}
+use Rattle.fields.specs.FieldRule.{fieldReading, fieldOutput}
 use Rattle.sectors.specs.Sector.{sectorSize, sectorItems, isMisfit}
 use Rattle.unique.specs.Streams.{AcceptedProfile, Moved}
 use Rattle.unique.specs.Demand3.{stated}
@@ -41,8 +41,12 @@ pub record ReadsField (p : Profile) (ds : List ℕ) (n : ℕ) (items : List ℕ)
       ≡ record { answer = accepted n; used = fieldUsed (classesOf p ds) n; holds = true }
   pub output : (old : List ℕ) → n ≤ length old → fieldOutput p ds n old ≡ filled items old
 
+-- where the ID's marks stand
+unfoldable pub idPlace : ℕ
+idPlace = placeAfter (replicate 12 0x00)
+
 module _ (track side sector code : ℕ) (bytes : List ℕ) where
-  -- a sector that the maker makes, of data and mark bytes
+  -- numbers of which a sector is made: the maker takes data bytes, and the law holds with mark bytes among them too
   pub record Made : Type 0 where
     pub fits : isMisfit code bytes ≡ false
     pub id-bytes : everywhere isByte (track ∷ side ∷ sector ∷ code ∷ []) ≡ true
@@ -56,15 +60,14 @@ module _ (track side sector code : ℕ) (bytes : List ℕ) where
   unfoldable pub dataField : List ℕ
   dataField = withCheck (replicate 3 (256 + 0xa1) ++ (0xfb ∷ bytes))
 
-  -- where the ID's marks and the data's marks stand
-  unfoldable pub idPlace : ℕ
-  idPlace = placeAfter (replicate 12 0x00)
-
+  -- where the data's marks stand
   unfoldable pub dataPlace : ℕ
   dataPlace = placeAfter (replicate 12 0x00 ++ idField ++ replicate 22 0x4e ++ replicate 12 0x00)
 
   -- what is read of the intervals of such a sector
   pub record SectorReads (p : Profile) (changed : List ℕ) : Type 0 where
+    -- the writer takes the maker's items
+    pub written : listRule (sectorItems track side sector code bytes) .number ≡ 0
     -- the first lock from 0 stands at the ID's marks
     pub id-lock : findRule p changed 0 ≡ accepted idPlace
     -- the field reader there with n = 10 gives the three marks, FE, the four bytes and the check bytes, the sum holding

@@ -1,4 +1,5 @@
--- The bytes of a line, one at a time. Rests on no axiom.
+-- The bytes of a line, one at a time: each field that is a byte leaves the test and the items of the fields after it,
+-- so a scan that keeps each byte has kept them all. Rests on no axiom.
 use Prim.Native.Nat.{ℕ, _+_, _≤_, _<_}
 use mathlib.Core.Path.{_≡_, refl, sym, _∙_, ap}
 use mathlib.Core.Bool.{true, false}

@@ -1,4 +1,5 @@
--- The word of a line and what it asks of the fields after it. Rests on no axiom.
+-- The word of a line and what it asks of the fields after it: the definition goes by the word, so the word that was
+-- found decides it. Rests on no axiom.
 use Prim.Native.Nat.{ℕ, _+_, _≤_}
 use mathlib.Core.Path.{_≡_, sym, _∙_, ap}
 use mathlib.Core.Bool.{true, false, _&&_}

@@ -1,4 +1,5 @@
--- Decimals that are stored one after the other, as many as there are places. Rests on no axiom.
+-- Decimals that are stored one after the other, as many as there are places: by induction on the fields, each number
+-- taking the next place. Rests on no axiom.
 use Prim.Native.Nat.{ℕ, suc, _+_, _<_}
 use mathlib.Core.Path.{_≡_, refl, sym, _∙_}
 use mathlib.Core.Bool.{Bool, true, false, _&&_, false≢true}

@@ -1,4 +1,5 @@
--- The input as a whole: its length, its first line, and the lines after it. Rests on no axiom.
+-- The input as a whole, its length, its first line and the lines after it: the definition tests them in this order,
+-- and each test that fails is its refusal. Rests on no axiom.
 use Prim.Native.Nat.{ℕ, suc, _+_, _≤_, _<_}
 use mathlib.Core.Path.{_≡_, refl, sym, _∙_, ap, subst}
 use mathlib.Core.Bool.{Bool, true, false, cond}

@@ -1,5 +1,5 @@
--- What one cell adds to the register, to the last bit and to the open row: the three methods of the reading machine,
--- after a 0 and after a 1.
+-- What one cell adds to the register, to the last bit and to the open row, for each length of a cell, after a 0 and
+-- after a 1: each case is computed.
 use Prim.Native.Nat.{ℕ, _+_, _*_, _%_, _≤_}
 use mathlib.Core.Path.{_≡_, refl}
 use mathlib.Core.Bool.{false, true≢false}

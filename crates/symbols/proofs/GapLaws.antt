@@ -1,4 +1,5 @@
--- The register before the first gap of a row, as letters are added to the row.
+-- The register before the first gap of a row, as letters are added to the row: a letter that begins no gap changes
+-- nothing, and after the first gap no other counts.
 use Prim.Native.Nat.{ℕ, _+_, _*_, _≤_}
 use mathlib.Core.Path.{_≡_, refl, sym, _∙_}
 use mathlib.Core.Bool.{true, false, cond, not, true≢false}

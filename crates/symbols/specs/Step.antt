@@ -3,6 +3,7 @@ use Prim.Native.Nat.{ℕ, suc, _+_, _-_, _*_, _%_}
 use mathlib.Core.Bool.{cond, not}
 use mathlib.Core.List.{List, [], _∷_, _++_}
 use lib.Dec.{eqb, ltb}
+use Rattle.lists.specs.Filled.{ifGiven}
 use Rattle.refusal.specs.Answer.{Answer, accepted, refuseIf}
 use Rattle.symbols.specs.declared.Cell.{Cell}
 use Rattle.symbols.specs.declared.Cell.the-variants.{Short, Medium, Long}
@@ -74,7 +75,7 @@ readyFor m Long at = noted m at
 
 -- the item that the last cell gave, if it closed a byte
 unfoldable pub itemsOf : Reading → List ℕ
-itemsOf m = cond (m .done) (m .item ∷ []) []
+itemsOf m = ifGiven (m .done) (m .item)
 
 -- cells read one after the other, the first at place k
 unfoldable pub ran : Reading → ℕ → List Cell → Reading

@@ -1,4 +1,5 @@
--- The fields of a printed line, one at a time. Rests on no axiom.
+-- The fields of a printed line, one at a time: each is stored where the one before it ends, so the line is stored
+-- whole. Rests on no axiom.
 use Prim.Native.Nat.{ℕ, suc, _+_, _<_}
 use mathlib.Core.Path.{_≡_, refl, _∙_, ap}
 use mathlib.Core.List.{List, [], _∷_, _++_}

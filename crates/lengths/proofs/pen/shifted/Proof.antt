@@ -1,3 +1,5 @@
+-- Why `lengths::pen::shifted` adds the shift: in an accepted profile the sum is neither below zero nor too large for
+-- 16 bits, so the integers of the code are the numbers of the definition. Rests on no axiom.
 use mathlib.Core.Path.{ap, subst⁻¹}
 use native.Mathlib.Omega.{arith}
 use lib.Dec.{T}
