@@ -1,16 +1,16 @@
 -- The strip reader's answers by its passes: a pass that stopped gives 5 or 6, one that did not gives the machine's
 -- answer, which is the strip's, and then the room decides. Rests on no axiom.
-use Prim.Native.Nat.{ℕ, suc, _^_, _≤_, _<_}
-use mathlib.Core.Path.{_≡_, refl, sym, ap, subst, _∙_}
+use Prim.Native.Nat.{ℕ, _^_, _≤_, _<_}
+use mathlib.Core.Path.{_≡_, sym, ap, subst, _∙_}
 use mathlib.Core.List.{List, [], _∷_}
 use native.Mathlib.Omega.{arith}
 use lib.Dec.{ltb}
 use lib.ListN.{length}
 use borrow.Author.Tests.{lt-ltb, le-ltb}
-use Rattle.lists.specs.Filled.{filled, storedAt}
+use Rattle.lists.specs.Filled.{storedAt}
 use Rattle.lists.proofs.StoreLaws.{stored-at-front-fills}
 use Rattle.refusal.specs.Table.{numberOf, placeOf}
-use Rattle.refusal.specs.Answer.{Answer, accepted, refused, refuseIf, firstRefusal, settled}
+use Rattle.refusal.specs.Answer.{Answer, accepted, refused, refuseIf, firstRefusal}
 use Rattle.refusal.specs.declared.Refusal.{Refusal}
 use Rattle.refusal.proofs.AnswerLaws.{first-refusal-passes, refuse-if-passes, refuse-if-accepts, refusal-decides}
 use Rattle.refusal.proofs.AnswerLaws.{acceptance-fills-the-buffer}

@@ -1,7 +1,7 @@
 -- A pass over classes is the machine's run over their cells, up to the first interval that is too short or too long,
 -- where the paper's rule stops too: by induction on the classes. Rests on no axiom.
 use Prim.Native.Nat.{ℕ, suc, _-_, _≤_, _<_}
-use mathlib.Core.Path.{_≡_, refl, sym, ap, _∙_}
+use mathlib.Core.Path.{_≡_, refl, ap, _∙_}
 use mathlib.Core.List.{List, [], _∷_, _++_}
 use native.Mathlib.Omega.{arith}
 use borrow.Author.Tests.{eq-eqb, ne-eqb, lt-ltb, le-ltb}
@@ -13,7 +13,6 @@ use Rattle.timing.specs.declared.Class.{Class}
 use Rattle.timing.specs.declared.Class.the-variants.{Narrow, Two, Three, Four, Wide}
 use Rattle.symbols.specs.Machine.{fresh}
 use Rattle.symbols.specs.Step.{stepped, ran, ranItems, itemsOf, stripAnswer}
-use Rattle.symbols.specs.declared.Cell.{Cell}
 use Rattle.symbols.specs.declared.Cell.the-variants.{Short, Medium, Long}
 use Rattle.symbols.specs.declared.Reading.{Reading}
 use Rattle.codec.specs.Scan.{scanned, gathered}

@@ -1,20 +1,19 @@
 -- The writer's answers by its tests: where profile and list are accepted, the stream of the written bytes and the
 -- room decide. Rests on no axiom.
-use Prim.Native.Nat.{ℕ, _+_, _*_, _≤_, _<_}
-use mathlib.Core.Path.{_≡_, refl, sym, ap, subst, _∙_}
-use mathlib.Core.Bool.{Bool, true, false, cond, _||_, true≢false}
+use Prim.Native.Nat.{ℕ, _+_, _*_, _≤_}
+use mathlib.Core.Path.{_≡_, refl, sym, ap, _∙_}
+use mathlib.Core.Bool.{Bool, true, false, _||_, true≢false}
 use mathlib.Core.List.{List, [], _∷_, _++_}
 use lib.Dec.{ltb, leb}
 use native.Mathlib.Omega.{arith}
 use lib.ListN.{length, length-append, take}
 use lib.Seq.{sets, length-sets, length-take-le}
 use borrow.Author.Tests.{lt-ltb, le-ltb, ltb-false, leb-true, leb-false}
-use Rattle.lists.specs.Place.{anywhere, lowest}
-use Rattle.lists.specs.Filled.{filled, storedAt}
+use Rattle.lists.specs.Filled.{storedAt}
 use Rattle.lists.proofs.StoreLaws.{stored-after-stored, stored-at-front-fills}
-use Rattle.refusal.specs.Answer.{Answer, accepted, refused, firstRefusal, settled}
+use Rattle.refusal.specs.Answer.{Answer, accepted, refused, settled}
 use Rattle.refusal.proofs.AnswerLaws.{first-refusal-passes, refuse-if-accepts}
-use Rattle.items.specs.Item.{isForeign, writtenBytes}
+use Rattle.items.specs.Item.{writtenBytes}
 use Rattle.items.specs.Written.{writtenFrom, written}
 use Rattle.items.specs.declared.Check.{Check}
 use Rattle.items.proofs.ItemLaws.{written-bytes-bounds}

@@ -10,13 +10,13 @@ use lib.ListN.{length, getD, replicate, length-append, length-replicate, getD-re
 use lib.Seq.{append-snoc, getD-append-add, getD-append-seam}
 use borrow.Author.Tests.{ltb-true, eqb-true, eqb-false}
 use Rattle.lists.specs.Place.{anywhere}
-use Rattle.refusal.specs.Answer.{Answer, accepted}
+use Rattle.refusal.specs.Answer.{accepted}
 use Rattle.timing.specs.Class.{classNumber}
 use Rattle.timing.specs.declared.Class.{Class}
-use Rattle.timing.specs.declared.Class.the-variants.{Narrow, Two, Three, Four, Wide}
-use Rattle.fields.specs.Lock.{lockAt, lockFrom, lockPatterns, mayStand}
+use Rattle.timing.specs.declared.Class.the-variants.{Narrow, Two, Three, Four}
+use Rattle.fields.specs.Lock.{lockFrom, lockPatterns, mayStand}
 use Rattle.fields.proofs.FinderLaws.{lock-stands, broken-mark-has-no-lock, broken-run-is-passed}
-use Rattle.fields.proofs.FirstLockLaws.{FirstFrom, lock-from-is}
+use Rattle.fields.proofs.FirstLockLaws.{lock-from-is}
 
 -- ---- a run and a mark
 

@@ -2,7 +2,7 @@
 -- so its bytes are the items, none of them stray. Where the next byte begins with 0 1 the used cells end with the
 -- field's last bit, since no cell gives a 1 right after a 0 that is known, and the rest reads as the bytes after it.
 -- Rests on no axiom.
-use Prim.Native.Nat.{ℕ, _+_, _≤_, _<_}
+use Prim.Native.Nat.{ℕ, _+_, _≤_}
 use mathlib.Core.Path.{_≡_, refl, sym, ap, _∙_}
 use mathlib.Core.Bool.{true, false, true≢false}
 use mathlib.Core.List.{List, [], _∷_, _++_, map, append-assoc}
@@ -31,7 +31,7 @@ use Rattle.symbols.proofs.MiddleLaws.{bits-append}
 use Rattle.symbols.proofs.ReadingLaws.{read-append, last-of-snoc, beginsWithOne, no-one-after-zero}
 use Rattle.intervals.proofs.CellLaws.{classOfCell}
 use Rattle.fields.specs.Field.{bitsWanted, fieldStop, fieldCells, fieldUsed, fieldBits}
-use Rattle.fields.specs.Field.{fieldItems, holdsAfter, fieldHolds, fieldStray, fieldStrayPlace}
+use Rattle.fields.specs.Field.{fieldItems, holdsAfter, fieldHolds, fieldStray}
 use Rattle.fields.specs.FieldRule.{gatherRule, deliverRule, checkedRule, fieldRule, fieldReading, fieldOutput}
 use Rattle.fields.proofs.EnoughLaws.{Enough, Taken, enough-are-taken}
 use Rattle.fields.proofs.FieldLaws.{field-bits-enough}

@@ -7,7 +7,7 @@ use mathlib.Core.List.{List, [], _∷_, _++_, map, map-append, append-assoc}
 use native.Mathlib.Omega.{arith}
 use lib.ListN.{length, drop, replicate, length-append, length-map, length-replicate}
 use lib.Seq.{drop-at}
-use Rattle.timing.specs.Class.{classNumber, classesOf}
+use Rattle.timing.specs.Class.{classesOf}
 use Rattle.timing.specs.declared.Profile.{Profile}
 use Rattle.timing.specs.declared.Class.{Class}
 use Rattle.timing.specs.declared.Class.the-variants.{Two}

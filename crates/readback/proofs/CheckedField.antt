@@ -1,7 +1,7 @@
 -- A field with its check bytes is read whole: they are bytes too, and the register is zero after them.
-use Prim.Native.Nat.{ℕ, _+_, _≤_, _<_}
-use mathlib.Core.Path.{_≡_, refl, sym, ap, ap₂, subst, _∙_}
-use mathlib.Core.Bool.{Bool, true, false, _&&_}
+use Prim.Native.Nat.{ℕ, _+_, _≤_}
+use mathlib.Core.Path.{_≡_, refl, ap, subst, _∙_}
+use mathlib.Core.Bool.{true, false}
 use mathlib.Core.List.{List, [], _∷_, _++_, map}
 use native.Mathlib.Omega.{arith}
 use borrow.Author.Tests.{le-ltb}
@@ -23,7 +23,6 @@ use Rattle.symbols.specs.Reading.{readBits}
 use Rattle.symbols.specs.declared.Cell.{Cell}
 use Rattle.intervals.proofs.CellLaws.{classOfCell}
 use Rattle.fields.specs.Field.{holdsAfter}
-use Rattle.fields.specs.FieldRule.{FieldAnswer}
 use Rattle.fields.proofs.WrittenFieldLaws.{written-field-is-read, written-field-is-stored}
 use Rattle.unique.specs.Streams.{AcceptedProfile}
 use Rattle.readback.specs.SectorReads.{withCheck, ReadsField}

@@ -10,7 +10,7 @@ use borrow.Author.Tests.{eqb-true, eqb-false, eq-eqb}
 use Rattle.lists.specs.Filled.{filled}
 use Rattle.refusal.specs.Table.{numberOf, placeOf}
 use Rattle.refusal.specs.Answer.{Answer, accepted, refused, refuseIf, firstRefusal, verdictAnswer}
-use Rattle.refusal.specs.Answer.{countedAnswer, settled}
+use Rattle.refusal.specs.Answer.{settled}
 use Rattle.refusal.specs.declared.Refusal.{Refusal}
 use Rattle.refusal.specs.declared.Refusal.the-variants.{ProfileOutOfRange, ProfileInconsistent, NotAnItem}
 use Rattle.refusal.specs.declared.Refusal.the-variants.{TooLong, IntervalTooShort, IntervalTooLong}
@@ -19,8 +19,6 @@ use Rattle.refusal.specs.declared.Refusal.the-variants.{EndsEarly, Count
 use Rattle.refusal.specs.declared.Refusal.the-variants.{MalformedInput}
 use Rattle.refusal.specs.declared.Verdict.{Verdict}
 use Rattle.refusal.specs.declared.Verdict.the-variants.{Accepted, Refused}
-use Rattle.refusal.specs.declared.Counted.{Counted}
-use Rattle.refusal.specs.declared.Counted.the-variants.{Count, Refused as NotCounted}
 
 pub number-is-not-zero : (r : Refusal) → eqb (numberOf r) 0 ≡ false
 number-is-not-zero (ProfileOutOfRange which) = refl

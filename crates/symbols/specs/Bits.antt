@@ -2,7 +2,7 @@
 -- A third letter marks, once and in the byte itself, the first 0 of a mark's gap; everything after this file is free
 -- of bytes and marks.
 use Prim.Native.Nat.{ℕ, _/_, _%_}
-use mathlib.Core.Bool.{Bool, true, false, cond, _&&_, _||_}
+use mathlib.Core.Bool.{Bool, true, false, cond, _&&_}
 use mathlib.Core.List.{List, [], _∷_, _++_}
 use lib.Dec.{eqb}
 use Rattle.items.specs.Item.{isMark}

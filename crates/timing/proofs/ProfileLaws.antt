@@ -1,7 +1,7 @@
 -- What the profile's rule means: where it accepts, every number is in range and every window holds its lengths, since
 -- each test of the definition gave the answer that let the next be asked. Rests on no axiom.
-use Prim.Native.Nat.{ℕ, zero, suc, _+_, _*_, _≤_, _<_}
-use mathlib.Core.Path.{_≡_, refl, ap, sym, _∙_}
+use Prim.Native.Nat.{ℕ, suc, _+_, _*_, _≤_, _<_}
+use mathlib.Core.Path.{_≡_, refl, ap, _∙_}
 use mathlib.Core.Bool.{Bool, true, false, cond, not, _&&_, _||_, true≢false, false≢true}
 use mathlib.Core.List.{List, [], _∷_}
 use native.Mathlib.Omega.{arith}
@@ -9,7 +9,7 @@ use native.Mathlib.Nat.{zero-add, add-suc, suc-add}
 use lib.Dec.{leb, ltb, eqb, eqb·suc-zero}
 use borrow.Author.Tests.{ltb-false, ltb-true, leb-true}
 use Rattle.lists.specs.Place.{anywhere, lowest, passed}
-use Rattle.refusal.specs.Answer.{Answer, accepted, refused, refuseIf}
+use Rattle.refusal.specs.Answer.{accepted, refused, refuseIf}
 use Rattle.timing.specs.Profile.{outside, unset, swing, isTrue, profileRule, firstOutside, lowestUnset, InRange}
 use Rattle.timing.specs.declared.Profile.{Profile}
 

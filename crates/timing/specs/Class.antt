@@ -1,7 +1,7 @@
 -- Document 01, "Profile": the class of an interval, and of each interval of a stream. No lemmas here.
 -- An interval that equals an edge belongs above it (house rule for ties).
 use Prim.Native.Nat.{ℕ, suc}
-use mathlib.Core.Bool.{Bool, cond}
+use mathlib.Core.Bool.{cond}
 use mathlib.Core.List.{List, [], _∷_}
 use lib.Dec.{ltb}
 use Rattle.refusal.specs.Answer.{Answer, accepted, refused, firstRefusal}

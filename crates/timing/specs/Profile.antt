@@ -1,7 +1,7 @@
 -- Document 01, "Profile": the nine numbers, their ranges, and when a profile is true. No lemmas here.
 -- Compare points are whole clocks; every length is in half clocks.
 use Prim.Native.Nat.{ℕ, suc, _+_, _-_, _*_, _≤_}
-use mathlib.Core.Bool.{Bool, true, false, cond, not, _&&_, _||_}
+use mathlib.Core.Bool.{Bool, cond, not, _&&_, _||_}
 use mathlib.Core.List.{List, [], _∷_}
 use lib.Dec.{leb, ltb, eqb}
 use Rattle.lists.specs.Place.{anywhere, lowest, passed}

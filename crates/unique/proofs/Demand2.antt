@@ -1,9 +1,9 @@
 -- Why demand 2 holds: the writer's rule gives the paper's lengths by definition; what the strip reader accepts has
 -- exactly the cells of the list that it gives, and the cells of every list within the limit read as that list. Rests
 -- on no axiom.
-use Prim.Native.Nat.{ℕ, _+_, _*_, _≤_}
+use Prim.Native.Nat.{ℕ, _≤_}
 use mathlib.Core.Path.{_≡_, refl, sym, ap, subst, _∙_}
-use mathlib.Core.List.{List, map}
+use mathlib.Core.List.{List}
 use native.Mathlib.Omega.{arith}
 use lib.Dec.{ltb}
 use lib.ListN.{length, length-map}
@@ -12,19 +12,16 @@ use Rattle.lists.specs.Filled.{filled}
 use Rattle.refusal.specs.Answer.{accepted}
 use Rattle.refusal.proofs.AnswerLaws.{first-refusal-passes, refuse-if-passes, acceptance-fills-the-buffer}
 use Rattle.timing.specs.Profile.{profileRule}
-use Rattle.timing.specs.Class.{classesOf, classNumber, edgeRule}
+use Rattle.timing.specs.Class.{classesOf, classNumber}
 use Rattle.timing.specs.declared.Profile.{Profile}
-use Rattle.timing.specs.declared.Class.{Class}
 use Rattle.timing.proofs.ClassLaws.{classes-length}
-use Rattle.symbols.specs.Cells.{writtenCells}
-use Rattle.symbols.specs.Reading.{units}
 use Rattle.symbols.specs.Strip.{stripRule, stripItems}
 use Rattle.symbols.specs.declared.Cell.{Cell}
 use Rattle.symbols.proofs.RoundTripLaws.{cells-are-read, read-back, rule-of-write, cells-injective, write-of-read}
 use Rattle.symbols.proofs.UnitLaws.{cells-at-most}
 use Rattle.lengths.specs.Stream.{byteStream, streamOf, listRule}
 use Rattle.codec.specs.Writer.{streamRule, writeRule, writeOutput}
-use Rattle.codec.specs.Reader.{cellsOfClasses, cellsRead, itemsOfStream, readRule}
+use Rattle.codec.specs.Reader.{cellsRead, itemsOfStream, readRule}
 use Rattle.unique.specs.Streams.{AcceptedProfile, AcceptedList, ReadsAs}
 use Rattle.unique.specs.Demand2.{CellsAreClasses, Demand2}
 use Rattle.unique.proofs.ListLaws.{listed, bytes-are-accepted}

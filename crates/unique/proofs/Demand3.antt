@@ -1,13 +1,12 @@
 -- Why demand 3 holds: within the margin every interval keeps the class of its cell, so both streams still read as the
 -- lists that were written; one half clock beyond it, an interval of a one-byte list changes its class, and other
 -- classes are refused or are another list. Rests on no axiom.
-use Prim.Native.Nat.{ℕ, _+_, _≤_, _<_, _^_}
+use Prim.Native.Nat.{ℕ, _≤_, _<_, _^_}
 use mathlib.Core.Path.{_≡_, refl, sym, ap, subst, _∙_}
 use mathlib.Core.Bool.{Bool, true, false}
 use mathlib.Core.List.{List, [], _∷_, map}
-use native.Mathlib.Omega.{arith}
 use lib.Dec.{eqb}
-use lib.ListN.{length, getD, set, length-set}
+use lib.ListN.{length, getD, length-set}
 use lib.Seq.{getD-set-same, getD-set-other}
 use borrow.Author.Tests.{eqb-true, eqb-false}
 use Rattle.refusal.specs.Answer.{accepted}
@@ -15,11 +14,9 @@ use Rattle.refusal.proofs.AnswerLaws.{first-refusal-passes}
 use Rattle.timing.specs.Profile.{profileRule}
 use Rattle.timing.specs.Class.{classesOf, classNumber}
 use Rattle.timing.specs.declared.Profile.{Profile}
-use Rattle.timing.specs.declared.Class.{Class}
-use Rattle.timing.proofs.ProfileLaws.{Kept, kept}
+use Rattle.timing.proofs.ProfileLaws.{kept}
 use Rattle.items.specs.Written.{written}
 use Rattle.symbols.specs.Cells.{writtenCells}
-use Rattle.symbols.specs.Reading.{units}
 use Rattle.symbols.proofs.RoundTripLaws.{cells-are-read}
 use Rattle.lengths.specs.Stream.{byteStream, streamOf}
 use Rattle.lengths.specs.Near.{Near, classOfUnits}
@@ -31,10 +28,10 @@ use Rattle.lengths.proofs.NearLaws.{near-of-each, near-at, near-itself, near-st
 use Rattle.lengths.proofs.StreamLaws.{length-fits}
 use Rattle.lengths.proofs.PapersMargin.{margin-is-the-papers, one-byte-is-written}
 use Rattle.codec.specs.Reader.{readRule}
-use Rattle.unique.specs.Streams.{AcceptedProfile, AcceptedList, Moved, ReadsAs, OutputEnough, Misread, refused}
+use Rattle.unique.specs.Streams.{AcceptedProfile, AcceptedList, Moved, ReadsAs, Misread, refused}
 use Rattle.unique.specs.Streams.{another}
 use Rattle.unique.specs.Demand2.{CellsAreClasses}
-use Rattle.unique.specs.Demand3.{stated, Counterexample, Unmistaken, Demand3}
+use Rattle.unique.specs.Demand3.{stated, Counterexample, Demand3}
 use Rattle.unique.proofs.ListLaws.{listed, one-byte-is-listed}
 use Rattle.unique.proofs.ClassCells.{number-of-units, class-numbers-injective}
 use Rattle.unique.proofs.Demand2.{read-only-lists, one-list, every-list-is-read}

@@ -1,6 +1,6 @@
 -- What an accepted list is: at most 6,400 bytes, each a data or a mark byte, and written as it stands. Rests on no
 -- axiom.
-use Prim.Native.Nat.{ℕ, suc, _≤_, _<_}
+use Prim.Native.Nat.{ℕ, _≤_, _<_}
 use mathlib.Core.Path.{_≡_, refl, sym, ap, _∙_}
 use mathlib.Core.Bool.{Bool, true, false, _||_, true≢false}
 use mathlib.Core.List.{List, [], _∷_}
@@ -11,7 +11,7 @@ use borrow.Author.Tests.{ltb-false, le-ltb}
 use Rattle.lists.specs.Place.{anywhere, everywhere, lowest}
 use Rattle.lists.proofs.PlaceLaws.{everywhere-of-none, everywhere-of-passing}
 use Rattle.refusal.proofs.AnswerLaws.{refuse-if-accepts}
-use Rattle.items.specs.Item.{isByte, isCheck, isForeign, writtenBytes}
+use Rattle.items.specs.Item.{isByte, isForeign, writtenBytes}
 use Rattle.items.specs.Written.{written}
 use Rattle.items.proofs.ItemLaws.{data-is-byte, bytes-are-items, bytes-have-no-check, items-but-no-check-are-bytes}
 use Rattle.items.proofs.WrittenLaws.{written-of-no-check, length-of-written}

@@ -1,7 +1,7 @@
 -- The strip reader's rule taken apart: it accepts where each test in its turn lets the stream pass, and then gives
 -- the list that the cells read as. Rests on no axiom.
 use Prim.Native.Nat.{ℕ, _≤_}
-use mathlib.Core.Path.{_≡_, refl, sym, ap, _∙_}
+use mathlib.Core.Path.{_≡_, ap, _∙_}
 use mathlib.Core.List.{List}
 use lib.Dec.{ltb}
 use lib.ListN.{length, take}

@@ -12,7 +12,7 @@ use Rattle.symbols.specs.Cells.{writtenSymbols, writtenCells}
 use Rattle.lengths.specs.Lengths.{lengthsOf}
 use Rattle.lengths.specs.Stream.{listRule}
 use Rattle.codec.specs.Writer.{writeRule, writeOutput}
-use Rattle.codec.specs.Reader.{readRule, readOutput}
+use Rattle.codec.specs.Reader.{readRule}
 use Rattle.unique.specs.Streams.{AcceptedProfile, AcceptedList, ReadsAs}
 
 -- the cells of a list are the classes of the intervals

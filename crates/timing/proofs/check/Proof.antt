@@ -1,10 +1,9 @@
 -- Why `timing::check` answers `profileRule`: the place that was found and the windows' test are the rule's two tests.
 -- Rests on no axiom.
-use Prim.Native.Nat.{ℕ}
-use mathlib.Core.Path.{_≡_, _∙_, sym, ap}
+use mathlib.Core.Path.{_∙_, sym, ap}
 use mathlib.Core.Bool.{Bool, cond}
 use borrow.Author.Needs.{needs}
-use Rattle.refusal.specs.Answer.{Answer, accepted, refused}
+use Rattle.refusal.specs.Answer.{accepted, refused}
 use Rattle.timing.proofs.ProfileLaws.{rule-of-unset, rule-of-windows, in-range}
 use Rattle.timing.proofs.check.Statement.{statement}
 use Rattle.timing.proofs.check.Tie as tie

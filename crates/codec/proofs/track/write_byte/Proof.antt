@@ -2,7 +2,7 @@
 use Prim.Native.Nat.{_-_, _≤_}
 use native.Mathlib.Omega.{arith}
 use borrow.Author.Needs.{needs}
-use lib.ListN.{length, drop, drop-of-length-le}
+use lib.ListN.{drop, drop-of-length-le}
 use Rattle.symbols.specs.Bits.{writtenBits}
 use Rattle.symbols.proofs.BytesLaws.{written-row-is-eight}
 use Rattle.codec.proofs.InkLaws.{Inking, inked-at-most, inking-begins, inking-takes-a-bit, place-within}

@@ -1,7 +1,7 @@
 -- Why `codec::track::write_bytes` inks all bits: each turn inks those of one byte more. Rests on no axiom.
 use Prim.Native.Nat.{ℕ, suc, _+_, _-_, _≤_, _<_}
-use mathlib.Core.Path.{_≡_, refl, ap, subst, _∙_}
-use mathlib.Core.List.{List, _∷_, _++_}
+use mathlib.Core.Path.{_≡_, ap, subst}
+use mathlib.Core.List.{List}
 use denote.Ref.{now}
 use native.Mathlib.Omega.{arith}
 use native.Mathlib.Numerals.{add-one}
@@ -9,7 +9,7 @@ use borrow.Author.Needs.{needs}
 use lib.ListN.{length, drop, getD, drop-of-length-le}
 use lib.Seq.{drop-cons}
 use Rattle.lists.specs.Filled.{storedAt}
-use Rattle.symbols.specs.Bits.{Bit, writtenBits, allBits}
+use Rattle.symbols.specs.Bits.{writtenBits, allBits}
 use Rattle.symbols.proofs.BytesLaws.{length-of-bits}
 use Rattle.timing.specs.declared.Profile.{Profile}
 use Rattle.lengths.specs.Pen.{inked, penAfter}

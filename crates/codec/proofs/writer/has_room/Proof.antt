@@ -1,6 +1,6 @@
 -- Why `codec::writer::has_room` answers whether the stream has room: it measures it, but where there is room for as
 -- many cells as so many bytes can end. Rests on no axiom.
-use mathlib.Core.Path.{sym, ap, _∙_}
+use mathlib.Core.Path.{sym}
 use native.Mathlib.Omega.{arith}
 use borrow.Author.Tests.{le-leb}
 use denote.Ref.{now}

@@ -1,7 +1,7 @@
 -- Why `codec::writer::write_part` inks the bits of some items: their bytes are the front of the buffer. Rests on no
 -- axiom.
 use Prim.Native.Nat.{ℕ, _+_}
-use mathlib.Core.Path.{_≡_, ap, _∙_}
+use mathlib.Core.Path.{ap, _∙_}
 use mathlib.Core.List.{List}
 use native.Mathlib.Omega.{arith}
 use denote.Ref.{now}

@@ -1,6 +1,6 @@
 -- Why `fields::finder::run_end` answers `runEnd`: each interval of class 2 moves it on by one, and the first that is
 -- not ends it, as the list does. Rests on no axiom.
-use Prim.Native.Nat.{ℕ, _+_, _-_, _<_, _≤_}
+use Prim.Native.Nat.{_-_, _≤_}
 use mathlib.Core.Path.{_≡_, refl, sym, ap, _∙_}
 use native.Mathlib.Omega.{arith}
 use borrow.Author.Needs.{needs}

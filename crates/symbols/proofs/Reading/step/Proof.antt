@@ -1,7 +1,7 @@
 -- Why `Reading::step` gives `stepped`: for each cell that is `pushed`, from the state and with the register that the
 -- cell gives.
 use Prim.Native.Nat.{ℕ}
-use mathlib.Core.Path.{_≡_, refl, _∙_}
+use mathlib.Core.Path.{_≡_, refl}
 use Rattle.symbols.specs.Machine.{pushed}
 use Rattle.symbols.specs.Step.{afterMedium, afterLong, wordAfter, readyFor, stepped}
 use Rattle.symbols.specs.declared.Cell.{Cell}

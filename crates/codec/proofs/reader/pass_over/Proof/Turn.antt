@@ -11,11 +11,9 @@ use lib.Seq.{drop-cons}
 use Rattle.lists.specs.Filled.{storedAt}
 use Rattle.lists.proofs.StoreLaws.{stored-none, stored-after-stored, stored-length}
 use Rattle.refusal.specs.declared.Refusal.{Refusal}
-use Rattle.refusal.specs.declared.Refusal.the-variants.{IntervalTooShort, IntervalTooLong}
 use Rattle.timing.specs.Class.{classOf, classesOf}
 use Rattle.timing.specs.declared.Profile.{Profile}
 use Rattle.timing.specs.declared.Class.{Class}
-use Rattle.timing.specs.declared.Class.the-variants.{Narrow, Two, Three, Four, Wide}
 use Rattle.timing.proofs.ClassLaws.{classes-of-cons, classes-of-drop, classes-length}
 use Rattle.symbols.specs.Machine.{fresh}
 use Rattle.symbols.specs.Step.{stepped, itemsOf}
@@ -25,7 +23,6 @@ use Rattle.intervals.specs.Cells.{taken}
 use Rattle.intervals.specs.declared.Taken.the-variants.{Read, Refused}
 use Rattle.intervals.proofs.CellLaws.{ReadAs, as-short, as-medium, as-long, taken-is-read, taken-is-refused}
 use Rattle.codec.specs.Scan.{scanned, gathered}
-use Rattle.codec.specs.declared.reader.Scan.{Scan}
 use Rattle.codec.specs.declared.reader.Scan.the-variants.{Whole, Stopped}
 
 -- ---- one class more
