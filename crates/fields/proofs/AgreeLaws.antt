@@ -124,8 +124,7 @@ used-by-answer p ds n room accepts = rw (eq-eqb (fieldRule p ds n room .number) 
 
 pub two-lists-that-agree : UsedIntervalsDecide
 two-lists-that-agree p n ds es old accepts agree =
-    let same : AgreeInUsed p ds es n (length old) = rw (used-by-answer p ds n (length old) accepts) at agree in
-    (
+    let same : AgreeInUsed p ds es n (length old) = rw (used-by-answer p ds n (length old) accepts) at agree in (
       used-intervals-decide p ds es n (length old) accepts same,
       used-intervals-decide-output p ds es n (length old) accepts same old,
     )

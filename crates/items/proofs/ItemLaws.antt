@@ -64,11 +64,6 @@ item-is-byte-or-check n e = either (isByte n) (isCheck n) e
 pub item-but-no-check-is-byte : (n : ℕ) → isItem n ≡ true → isCheck n ≡ false → isByte n ≡ true
 item-but-no-check-is-byte n e f = ⊎-elim (λ b. b) (λ k. absurd (true≢false (sym k ∙ f))) (item-is-byte-or-check n e)
 
-pub item-at-most-512 : (n : ℕ) → isItem n ≡ true → n ≤ 512
-item-at-most-512 n e =
-    ⊎-elim (λ b. let h : n < 512 = byte-below-512 n b in omega arith)
-    (λ k. let q : n ≡ 512 = check-is-512 n k in omega arith) (item-is-byte-or-check n e)
-
 pub item-is-not-foreign : (n : ℕ) → isItem n ≡ true → isForeign n ≡ false
 unfolding isForeign
 item-is-not-foreign n e = rw e
@@ -98,10 +93,6 @@ items-but-no-check-are-bytes (n ∷ ns) e f =
     ∙ items-but-no-check-are-bytes ns (nowhere-in-rest isForeign n ns e) (nowhere-in-rest isCheck n ns f)
 
 -- ---- counting
-
-pub bytes-of-check-is-2 : (n : ℕ) → isCheck n ≡ true → bytesOf n ≡ 2
-unfolding bytesOf
-bytes-of-check-is-2 n e = rw e
 
 pub bytes-of-others-is-1 : (n : ℕ) → isCheck n ≡ false → bytesOf n ≡ 1
 unfolding bytesOf

@@ -17,7 +17,6 @@ use Rattle.items.specs.Written.{fresh, afterByte, afterBytes, checkBytes
 use Rattle.items.specs.Written.{writtenFrom, written}
 use Rattle.items.specs.declared.Check.{Check}
 use Rattle.items.proofs.ItemLaws.{check-or-not, data-is-byte, item-but-no-check-is-byte, not-foreign-is-item}
-use Rattle.items.proofs.ItemLaws.{bytes-have-no-check}
 use Rattle.items.proofs.CheckLaws.{high-byte-bound, low-byte-bound, fresh-bound, after-bytes-of-append}
 use Rattle.items.proofs.CheckLaws.{after-item-bound}
 
@@ -130,9 +129,6 @@ written-from-of-no-check c (n ∷ ns) e =
 pub written-of-no-check : (ns : List ℕ) → anywhere isCheck ns ≡ false → written ns ≡ ns
 unfolding written
 written-of-no-check ns e = written-from-of-no-check fresh ns e
-
-pub written-of-bytes : (ns : List ℕ) → everywhere isByte ns ≡ true → written ns ≡ ns
-written-of-bytes ns e = written-of-no-check ns (bytes-have-no-check ns e)
 
 -- ---- in a buffer that they fit, they fill the front
 

@@ -10,11 +10,9 @@ use Rattle.timing.specs.Class.{classOf, classesOf}
 use Rattle.timing.specs.declared.Profile.{Profile}
 use Rattle.timing.specs.declared.Class.{Class}
 use Rattle.timing.specs.declared.Class.the-variants.{Narrow}
-use Rattle.timing.proofs.ProfileLaws.{Kept}
 use Rattle.lengths.specs.Stream.{byteStream}
 use Rattle.lengths.specs.Near.{Near}
 use Rattle.lengths.proofs.NearLaws.{near-with-one-moved}
-use Rattle.lengths.proofs.StreamLaws.{length-fits}
 use Rattle.lengths.proofs.MarginLaws.{Broken}
 
 class-at :
@@ -23,20 +21,6 @@ unfolding classesOf
 class-at p [] k h = absurd (omega arith)
 class-at p (d ∷ ds) zero h = refl
 class-at p (d ∷ ds) (suc k) h = class-at p ds k (omega arith)
-
-set-stays-below :
-    (b : ℕ) (ls : List ℕ) (j d : ℕ)
-    → d < b
-    → ((k : ℕ) → k < length ls → getD ls k 0 < b)
-    → (k : ℕ)
-    → k < length ls
-    → getD (set ls j d) k 0 < b
-set-stays-below b [] j d small all k h = absurd (omega arith)
-set-stays-below b (l ∷ ls) zero d small all zero h = small
-set-stays-below b (l ∷ ls) zero d small all (suc k) h = all (suc k) h
-set-stays-below b (l ∷ ls) (suc j) d small all zero h = all 0 h
-set-stays-below b (l ∷ ls) (suc j) d small all (suc k) h =
-    set-stays-below b ls j d small (λ i g. all (suc i) (omega arith)) k (omega arith)
 
 module _ {p : Profile} {n : ℕ} (x : Broken p n) where
   -- the stream with that one interval moved
@@ -55,7 +39,3 @@ module _ {p : Profile} {n : ℕ} (x : Broken p n) where
       let there = getD-set-same ls (x .place) (x .moved) 0 (x .in-stream) in
       x .other-class
       (ap (classOf p) (sym there) ∙ sym moved ∙ ap (λ (cs : List Class). getD cs (x .place) Narrow) same ∙ unmoved)
-
-  pub broken-stream-fits : Kept p → (i : ℕ) → i < length (byteStream p (x .byte ∷ [])) → getD brokenStream i 0 < 65536
-  broken-stream-fits k =
-      set-stays-below 65536 (byteStream p (x .byte ∷ [])) (x .place) (x .moved) (x .fits) (length-fits k (x .byte ∷ []))

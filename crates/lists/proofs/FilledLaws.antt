@@ -4,8 +4,8 @@ use mathlib.Core.Path.{_≡_, refl, sym, ap, _∙_}
 use mathlib.Core.List.{List, [], _∷_, _++_}
 use native.Mathlib.Nat.{add-zero, zero-add, add-suc, suc-add}
 use native.Mathlib.Omega.{arith}
-use lib.ListN.{length, set, take, drop, length-append, length-drop}
-use lib.Seq.{sets, sets-eq, set-out, take-append-seam, drop-append-seam}
+use lib.ListN.{length, set, take, drop}
+use lib.Seq.{sets, sets-eq, set-out, take-append-seam}
 use Rattle.lists.specs.Filled.{filled}
 
 module _ {A : Type 0} where
@@ -31,14 +31,6 @@ module _ {A : Type 0} where
   sets-from-front-is-filled vs l h =
       sets-eq vs l 0 (omega arith) ∙ ap (λ (n : ℕ). vs ++ drop n l) (zero-add (length vs))
 
-  pub length-of-filled : (vs l : List A) → length vs ≤ length l → length (filled vs l) ≡ length l
-  unfolding filled
-  length-of-filled vs l h = simp (length-append, length-drop) (omega arith)
-
   pub front-of-filled : (vs l : List A) → take (length vs) (filled vs l) ≡ vs
   unfolding filled
   front-of-filled vs l = take-append-seam vs (drop (length vs) l)
-
-  pub remainder-of-filled : (vs l : List A) → drop (length vs) (filled vs l) ≡ drop (length vs) l
-  unfolding filled
-  remainder-of-filled vs l = drop-append-seam vs (drop (length vs) l)

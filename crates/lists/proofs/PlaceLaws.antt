@@ -25,10 +25,6 @@ module _ {A : Type 0} (f : A → Bool) where
   unfolding anywhere
   anywhere-of-none = refl
 
-  pub anywhere-of-passing : (x : A) (xs : List A) → f x ≡ true → anywhere f (x ∷ xs) ≡ true
-  unfolding anywhere
-  anywhere-of-passing x xs e = rw e
-
   pub anywhere-of-failing : (x : A) (xs : List A) → f x ≡ false → anywhere f (x ∷ xs) ≡ anywhere f xs
   unfolding anywhere
   anywhere-of-failing x xs e = rw e
@@ -66,16 +62,6 @@ module _ {A : Type 0} (f : A → Bool) where
       elim (f x) as (λ t. cond t 0 (suc (lowest f xs)) ≤ suc (length xs))
       [ true ↦ zero-le | false ↦ suc-le-suc (lowest-at-most-length xs) ]
 
-  pub lowest-passes : (xs : List A) (d : A) → lowest f xs < length xs → f (getD xs (lowest f xs) d) ≡ true
-  unfolding lowest
-  lowest-passes [] d h = absurd (not-suc-le-zero h)
-  lowest-passes (x ∷ xs) d h =
-      (elim (f x) as
-      (λ t.
-      let place = cond t 0 (suc (lowest f xs)) in
-      f x ≡ t → place < suc (length xs) → f (getD (x ∷ xs) place d) ≡ true)
-      [ true ↦ λ e k. e | false ↦ λ e k. lowest-passes xs d (le-of-suc-le-suc k) ]) refl h
-
   pub below-lowest-fails : (xs : List A) (d : A) (k : ℕ) → k < lowest f xs → f (getD xs k d) ≡ false
   unfolding lowest
   below-lowest-fails [] d k h = absurd (not-suc-le-zero h)
@@ -102,10 +88,6 @@ module _ {A : Type 0} (f : A → Bool) where
       (elim (f x) as (λ t. (t || anywhere f xs) ≡ true → cond t 0 (suc (lowest f xs)) < suc (length xs))
       [ true ↦ λ k. suc-le-suc zero-le | false ↦ λ k. suc-le-suc (lowest-of-some xs k) ]) e
 
-  pub nowhere-fails-at-each-place : (xs : List A) (d : A) (k : ℕ) → anywhere f xs ≡ false → k < length xs
-      → f (getD xs k d) ≡ false
-  nowhere-fails-at-each-place xs d k e h = below-lowest-fails xs d k (rw (lowest-of-none xs e) h)
-
   pub anywhere-of-append : (xs ys : List A) → anywhere f (xs ++ ys) ≡ (anywhere f xs || anywhere f ys)
   unfolding anywhere
   anywhere-of-append [] ys = refl
@@ -125,13 +107,6 @@ module _ {A : Type 0} (f : A → Bool) where
   pub everywhere-of-replicate : (n : ℕ) (x : A) → f x ≡ true → everywhere f (replicate n x) ≡ true
   everywhere-of-replicate zero x e = everywhere-of-none
   everywhere-of-replicate (suc n) x e = everywhere-of-passing x (replicate n x) e ∙ everywhere-of-replicate n x e
-
-  pub everywhere-passes-at-each-place : (xs : List A) (d : A) (k : ℕ) → everywhere f xs ≡ true → k < length xs
-      → f (getD xs k d) ≡ true
-  everywhere-passes-at-each-place [] d k e h = absurd (not-suc-le-zero h)
-  everywhere-passes-at-each-place (x ∷ xs) d zero e h = everywhere-passes-at-first x xs e
-  everywhere-passes-at-each-place (x ∷ xs) d (suc k) e h =
-      everywhere-passes-at-each-place xs d k (everywhere-in-rest x xs e) (le-of-suc-le-suc h)
 
   -- ---- a scan from place k, whose invariant is `k + lowest f (drop k xs) ≡ lowest f xs`
 

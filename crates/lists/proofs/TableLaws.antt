@@ -1,16 +1,11 @@
 -- Laws of a table that is made by a rule: each entry is the rule at its place.
 use Prim.Native.Nat.{ℕ, zero, suc, _+_, _<_}
-use mathlib.Core.Path.{_≡_, refl, sym, ap, _∙_}
+use mathlib.Core.Path.{_≡_, sym, ap, _∙_}
 use native.Mathlib.Nat.{add-zero, add-suc, suc-add, zero-add, not-suc-le-zero, le-of-suc-le-suc}
-use lib.ListN.{length, getD}
+use lib.ListN.{getD}
 use Rattle.lists.specs.Table.{tabulated}
 
 module _ {A : Type 0} (rule : ℕ → A) where
-  pub length-of-table : (k n : ℕ) → length (tabulated rule k n) ≡ n
-  unfolding tabulated
-  length-of-table k zero = refl
-  length-of-table k (suc n) = ap suc (length-of-table (suc k) n)
-
   entry-from-is-rule : (k n i : ℕ) (d : A) → i < n → getD (tabulated rule k n) i d ≡ rule (k + i)
   unfolding tabulated
   entry-from-is-rule k zero i d h = absurd (not-suc-le-zero h)

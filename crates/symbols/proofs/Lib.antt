@@ -13,7 +13,7 @@ pub mod RoundTripLaws
 pub mod Cases
 -- Units, cells and bits
 pub mod UnitLaws
--- Reading from the middle, and reading a front
+-- Reading from the middle
 pub mod MiddleLaws
 -- The cells of the bytes that a track is laid out with
 pub mod FormatLaws

@@ -3,24 +3,17 @@
 use Prim.Native.Nat.{ℕ, zero, suc, _/_, _%_, _<_}
 use mathlib.Core.Path.{_≡_, refl, ap, sym, _∙_}
 use mathlib.Core.Bool.{Bool, true, false}
-use mathlib.Core.List.{List, [], _∷_, _++_, map, append-assoc, append-nil, map-append}
+use mathlib.Core.List.{List, [], _∷_, _++_, map, append-assoc, append-nil}
 use native.Mathlib.Omega.{arith}
 use borrow.Author.Tests.{ne-eqb}
 use lib.ListN.{length, drop}
-use Rattle.lists.specs.Place.{anywhere, passed}
 use lib.Seq.{append-snoc, drop-append-seam}
 use Rattle.items.specs.Item.{isMark}
-use Rattle.symbols.specs.Bits.{Bit, O, bitOf, lastOf, byteBits, writtenBits, allBits, bitsOf}
+use Rattle.symbols.specs.Bits.{Bit, O, bitOf, byteBits, writtenBits, allBits, bitsOf}
 use Rattle.symbols.specs.Cells.{pairSymbols, symbolsFrom, symbolsOf, cellsFrom}
 use Rattle.symbols.specs.Cells.{cellsOf, writtenSymbols, writtenCells}
-use Rattle.symbols.specs.Reading.{units, readFrom, readBits}
-use Rattle.symbols.specs.Bytes.{isGap, itemOf, rowsOf, straysOf, itemsRead, straysRead}
-use Rattle.symbols.specs.Strip.{isStray}
+use Rattle.symbols.specs.Reading.{units, readBits}
 use Rattle.symbols.specs.declared.Cell.{Cell}
-use Rattle.symbols.proofs.TestLaws.{neither}
-use Rattle.symbols.proofs.ReadingLaws.{read-append}
-use Rattle.symbols.proofs.PlaceLaws.{anywhere-append}
-use Rattle.symbols.proofs.PlaceLaws.{strays-append}
 use Rattle.symbols.proofs.RoundTripLaws.{read-of-write}
 
 pub bits-append : (us ws : List ℕ) → allBits (us ++ ws) ≡ allBits us ++ allBits ws
@@ -103,52 +96,3 @@ read-from-the-middle front ws cs h =
 pub cells-of-zero-byte : (ws : List ℕ) → writtenCells (0 ∷ ws) ≡ 2 ∷ 2 ∷ 2 ∷ 2 ∷ 2 ∷ 2 ∷ 2 ∷ 2 ∷ writtenCells ws
 unfolding cellsBefore cellsOf cellsFrom symbolsOf symbolsFrom pairSymbols allBits writtenBits isMark byteBits
 cells-of-zero-byte ws = cells-after-byte [] ws 0 (omega arith) refl
-
--- Reading a front: the bits of the first cells are the first bits, so their whole bytes are the first items, and no
--- gap is judged otherwise
-
-rows-of-front : (xs ys : List Bit) → (more : List (List Bit)) × (rowsOf (xs ++ ys) ≡ rowsOf xs ++ more)
-unfolding rowsOf
-rows-of-front [] ys = (rowsOf ys, refl)
-rows-of-front (a ∷ []) ys = (rowsOf (a ∷ ys), refl)
-rows-of-front (a ∷ b ∷ []) ys = (rowsOf (a ∷ b ∷ ys), refl)
-rows-of-front (a ∷ b ∷ c ∷ []) ys = (rowsOf (a ∷ b ∷ c ∷ ys), refl)
-rows-of-front (a ∷ b ∷ c ∷ d ∷ []) ys = (rowsOf (a ∷ b ∷ c ∷ d ∷ ys), refl)
-rows-of-front (a ∷ b ∷ c ∷ d ∷ e ∷ []) ys = (rowsOf (a ∷ b ∷ c ∷ d ∷ e ∷ ys), refl)
-rows-of-front (a ∷ b ∷ c ∷ d ∷ e ∷ f ∷ []) ys = (rowsOf (a ∷ b ∷ c ∷ d ∷ e ∷ f ∷ ys), refl)
-rows-of-front (a ∷ b ∷ c ∷ d ∷ e ∷ f ∷ g ∷ []) ys = (rowsOf (a ∷ b ∷ c ∷ d ∷ e ∷ f ∷ g ∷ ys), refl)
-rows-of-front (a ∷ b ∷ c ∷ d ∷ e ∷ f ∷ g ∷ h ∷ xs) ys =
-    let r = rows-of-front xs ys in
-    (r .0, ap (λ (x : List (List Bit)). (a ∷ b ∷ c ∷ d ∷ e ∷ f ∷ g ∷ h ∷ []) ∷ x) (r .1))
-
-items-of-front-bits : (xs ys : List Bit) → (more : List ℕ) × (itemsRead (xs ++ ys) ≡ itemsRead xs ++ more)
-unfolding itemsRead
-items-of-front-bits [] ys = (itemsRead ys, refl)
-items-of-front-bits (lead ∷ xs) ys =
-    let r = rows-of-front xs ys in
-    (map itemOf (r .0), ap (map itemOf) (r .1) ∙ map-append itemOf (rowsOf xs) (r .0))
-
-strays-of-front-bits : (xs ys : List Bit) → isStray (xs ++ ys) ≡ false → isStray xs ≡ false
-unfolding isStray straysRead anywhere
-strays-of-front-bits [] ys h = refl
-strays-of-front-bits (lead ∷ xs) ys h =
-    let r = rows-of-front xs ys in
-    let tests =
-    ap (λ (x : List (List Bit)). anywhere passed (straysOf x)) (r .1)
-    ∙ ap (anywhere passed) (strays-append (rowsOf xs) (r .0))
-    ∙ anywhere-append passed (straysOf (rowsOf xs)) (straysOf (r .0))
-    in
-    let n = neither (isGap lead) (anywhere passed (straysOf (rowsOf (xs ++ ys)))) h in
-    let m = neither (anywhere passed (straysOf (rowsOf xs))) (anywhere passed (straysOf (r .0))) (sym tests ∙ n .1) in
-    rw (n .0, m .0)
-
-pub items-of-front :
-    (cs ds : List Cell) → (more : List ℕ) × (itemsRead (readBits (cs ++ ds)) ≡ itemsRead (readBits cs) ++ more)
-unfolding readBits
-items-of-front cs ds =
-    rw (read-append O cs ds) (items-of-front-bits (readFrom O cs) (readFrom (lastOf O (readFrom O cs)) ds))
-
-pub strays-of-front : (cs ds : List Cell) → isStray (readBits (cs ++ ds)) ≡ false → isStray (readBits cs) ≡ false
-unfolding readBits
-strays-of-front cs ds h =
-    strays-of-front-bits (readFrom O cs) (readFrom (lastOf O (readFrom O cs)) ds) (rw (read-append O cs ds) at h)

@@ -1,15 +1,15 @@
 -- How many units, cells and bits go together: a cell of u units gives half as many bits, and half a bit is owed after
 -- a 1. So the units alone say how many bits cells give, whether the last is 1, and whether they are whole bytes.
-use Prim.Native.Nat.{ℕ, zero, suc, _+_, _*_, _/_, _%_, _≤_}
+use Prim.Native.Nat.{ℕ, _+_, _*_, _/_, _%_, _≤_}
 use mathlib.Core.Path.{_≡_, refl, ap, _∙_}
 use mathlib.Core.Bool.{not, _||_}
-use mathlib.Core.List.{List, [], _∷_, map}
+use mathlib.Core.List.{List, [], _∷_}
 use native.Mathlib.Omega.{arith}
 use native.Mathlib.Decide.{ℕ-discrete}
 use borrow.Author.Tests.{eq-eqb, ne-eqb}
 use lib.Dec.{eqb}
 use lib.Arith.{digits-mod}
-use lib.ListN.{length, getD, length-append, length-map}
+use lib.ListN.{length, length-append, length-map}
 use Rattle.symbols.specs.Bits.{Bit, O, I, G, isOne, lastOf}
 use Rattle.symbols.specs.Cells.{writtenCells}
 use Rattle.symbols.specs.Reading.{units, given, lastAfter, readFrom, readBits}
@@ -121,16 +121,3 @@ cells-at-most ws =
     let r = cells-are-read ws in
     let n = ap length (read-of-write ws (r .0) (r .1)) ∙ bits-count ws in
     rw (← r .1, length-map (r .0) units) (omega (arith, cells-at-most-bits O (r .0)))
-
-units-are-small : (cs : List Cell) (i : ℕ) → (2 ≤ getD (map units cs) i 2) × (getD (map units cs) i 2 ≤ 4)
-units-are-small [] i = omega arith
-units-are-small (Short ∷ cs) zero = omega arith
-units-are-small (Medium ∷ cs) zero = omega arith
-units-are-small (Long ∷ cs) zero = omega arith
-units-are-small (Short ∷ cs) (suc i) = units-are-small cs i
-units-are-small (Medium ∷ cs) (suc i) = units-are-small cs i
-units-are-small (Long ∷ cs) (suc i) = units-are-small cs i
-
--- of 2 to 4 units each
-pub cells-are-small : (ws : List ℕ) (i : ℕ) → (2 ≤ getD (writtenCells ws) i 2) × (getD (writtenCells ws) i 2 ≤ 4)
-cells-are-small ws i = let r = cells-are-read ws in rw (← r .1) (units-are-small (r .0) i)
