@@ -1,5 +1,5 @@
--- What a turn of the finder's scan keeps: the intervals from `first` up to `known` are of class 2, and no lock was
--- passed over. One law for each way in which a turn ends. Rests on no axiom.
+-- What a turn of the finder's scan keeps: the intervals from k - 64 up to `known` are of class 2, and no lock stands at
+-- a place before k. One law for each way in which a turn ends. Rests on no axiom.
 use Prim.Native.Nat.{ℕ, _+_, _-_, _<_, _≤_}
 use mathlib.Core.Path.{_≡_, refl, sym, ap, _∙_}
 use mathlib.Core.Bool.{true, false}
@@ -38,86 +38,88 @@ one-more-two cs k high two after =
     (λ j low under. ap (λ (i : ℕ). getD cs i Narrow) (omega arith) ∙ two)
     after
 
-pub record Run (cs : List Class) (start first known : ℕ) : Type 0 where
-  pub ordered : first ≤ known
-  pub within : known ≤ first + 64
-  pub same : lockFrom cs start ≡ lockFrom cs first
-  pub twos : Twos cs first known
+pub record Run (cs : List Class) (start k known : ℕ) : Type 0 where
+  pub behind : 64 ≤ k
+  pub ordered : k ≤ known + 64
+  pub within : known ≤ k
+  pub same : lockFrom cs start ≡ lockFrom cs (k - 64)
+  pub twos : Twos cs (k - 64) known
 
-pub run-starts : (cs : List Class) (start : ℕ) → Run cs start start start
+pub run-starts : (cs : List Class) (start : ℕ) → Run cs start (start + 64) start
 run-starts cs start =
-    record { ordered = omega arith; within = omega arith; same = refl; twos = no-twos cs start }
+    record {
+      behind = omega arith;
+      ordered = omega arith;
+      within = omega arith;
+      same = ap (lockFrom cs) (omega arith);
+      twos = λ j low high. absurd (omega arith);
+    }
 
-module _ {cs : List Class} {start first known : ℕ} (run : Run cs start first known) where
+module _ {cs : List Class} {start k known : ℕ} (run : Run cs start k known) where
   -- one of the 64 is not of class 2, and those after it are: no lock has it among its 64
   pub run-breaks
       : (j : ℕ)
       → known ≤ j
-      → j < first + 64
+      → j < k
       → (getD cs j Narrow ≡ Two → ⊥)
-      → Twos cs (j + 1) (first + 64)
-      → Run cs start (j + 1) (first + 64)
+      → Twos cs (j + 1) k
+      → Run cs start (j + 65) k
   run-breaks j low high broken after =
-      let from : first ≤ j = let ordered = run .ordered in omega arith in
+      let ordered = run .ordered in
       record {
-        ordered = omega arith;
-        within = omega arith;
-        same = run .same ∙ broken-run-is-passed cs first j from high broken;
-        twos = after;
-      }
-
-  -- 64 of class 2, and others behind them up to k
-  pub run-is-whole
-      : (k : ℕ) → Twos cs known (first + 64) → first + 64 ≤ k → Twos cs (first + 64) k → Run cs start (k - 64) k
-  run-is-whole k rest past behind =
-      let all : Twos cs first k =
-      twos-then-twos cs first (first + 64) k
-      (twos-then-twos cs first known (first + 64) (run .twos) rest)
-      behind in
-      record {
+        behind = omega arith;
         ordered = omega arith;
         within = omega arith;
         same =
             run .same
-            ∙ longer-run-is-passed cs (k - 64 - first) first (λ j low high. behind j low (omega arith))
+            ∙ broken-run-is-passed cs (k - 64) j (omega arith) (omega arith) broken
+            ∙ ap (lockFrom cs) (omega arith);
+        twos = λ i from to. after i (omega arith) to;
+      }
+
+  -- 64 of class 2, and others behind them up to `end`
+  pub run-is-whole : (end : ℕ) → Twos cs known k → k ≤ end → Twos cs k end → Run cs start end end
+  run-is-whole end rest past more =
+      let behind = run .behind in
+      let all : Twos cs (k - 64) end =
+      twos-then-twos cs (k - 64) k end (twos-then-twos cs (k - 64) known k (run .twos) rest) more in
+      record {
+        behind = omega arith;
+        ordered = omega arith;
+        within = omega arith;
+        same =
+            run .same
+            ∙ longer-run-is-passed cs (end - k) (k - 64) (λ j low high. more j (omega arith) (omega arith))
             ∙ ap (lockFrom cs) (omega arith);
         twos = λ j low high. all j (omega arith) high;
       }
 
+  pub run-ends-adrift : length cs ≤ k → refused 10 0 ≡ lockFrom cs start
+  run-ends-adrift over = end-is-adrift cs (k - 64) (omega arith) ∙ sym (run .same)
+
+module _ {cs : List Class} {start k : ℕ} (run : Run cs start k k) where
+  -- the 64 before k begin at k - 64
+  sync : k - 64 + 64 ≡ k
+  sync = let behind = run .behind in omega arith
+
   -- 64 of class 2, and no mark after them
-  pub run-moves-on
-      : (i next : ℕ)
-      → first + 64 ≡ known
-      → i < 5
-      → mayStand i (getD cs (known + i) Narrow) ≡ false
-      → next ≡ first + 1
-      → Run cs start next known
-  run-moves-on i next k-is five broken e =
+  pub run-moves-on : (i : ℕ) → i < 5 → mayStand i (getD cs (k + i) Narrow) ≡ false → Run cs start (k + 1) k
+  run-moves-on i five broken =
+      let behind = run .behind in
       record {
+        behind = omega arith;
         ordered = omega arith;
         within = omega arith;
         same =
             run .same
-            ∙ no-lock-goes-on cs first (ap (lockAt cs) k-is ∙ broken-mark-has-no-lock cs known i five broken)
-            ∙ ap (lockFrom cs) (sym e);
+            ∙ no-lock-goes-on cs (k - 64) (ap (lockAt cs) sync ∙ broken-mark-has-no-lock cs k i five broken)
+            ∙ ap (lockFrom cs) (omega arith);
         twos = λ j low high. run .twos j (omega arith) high;
       }
 
-  pub run-ends-adrift : length cs ≤ first + 64 → refused 10 0 ≡ lockFrom cs start
-  run-ends-adrift over = end-is-adrift cs first over ∙ sym (run .same)
-
   pub run-ends-in-lock
-      : first + 64 ≡ known
-      → ((j : ℕ) → j < 5 → mayStand j (getD cs (known + j) Narrow) ≡ true)
-      → accepted known ≡ lockFrom cs start
-  run-ends-in-lock k-is mark =
-      ap accepted (sym k-is)
-      ∙ lock-is-first
-      cs
-      first
-      (lock-stands
-      cs
-      first
-      (λ j low high. run .twos j low (omega arith))
-      (λ j five. rw k-is (mark j five)))
-      ∙ sym (run .same)
+      : ((j : ℕ) → j < 5 → mayStand j (getD cs (k + j) Narrow) ≡ true) → accepted k ≡ lockFrom cs start
+  run-ends-in-lock mark =
+      let stands =
+      lock-stands cs (k - 64) (λ j low high. run .twos j low (omega arith)) (λ j five. rw sync (mark j five)) in
+      ap accepted (sym sync) ∙ lock-is-first cs (k - 64) stands ∙ sym (run .same)
