@@ -52,10 +52,10 @@ fn run_end(p: Profile, intervals: &[u16], from: usize) -> usize
     k
 }
 
-// Each turn begins with the intervals from k - 64 up to `known` of class 2, and with no lock at a place before k from
-// start + 64 on. The others of the 64 before k are looked at from the last one back: one of another class rules out
-// every place that has it among its 64, so that the places up to 64 after it are passed over. Where all 64 are of
-// class 2, k goes on to the end of their run, since no mark begins with class 2.
+// Invariant: the intervals from k - 64 up to `known` are of class 2, and no lock stands at a place before k from
+// start + 64 on. The others of the 64 before k are looked at from the last one back: an interval of another class
+// rules out every place that has it among its 64, so all of them are passed over, and what stands before it is not
+// looked at. Where all 64 are of class 2, k goes on to the end of their run, since no mark begins with class 2.
 fn scan(p: Profile, intervals: &[u16], start: usize) -> Counted
     ensures { λ r. ⌜ countedAnswer r ≡ lockFrom (classesOf p (now (intervals .entry))) start ⌝ }
 {

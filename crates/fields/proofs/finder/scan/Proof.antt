@@ -14,21 +14,17 @@ use Rattle.timing.specs.Class.{classesOf, classNumber}
 use Rattle.timing.proofs.ClassLaws.{classes-length}
 use Rattle.timing.specs.declared.Class.{Class}
 use Rattle.timing.specs.declared.Class.the-variants.{Narrow, Two}
-use Rattle.fields.specs.Lock.{runEnd, mayStand}
+use Rattle.fields.specs.Lock.{mayStand}
 use Rattle.fields.proofs.LockLaws.{number-2-is-two}
-use Rattle.fields.proofs.RunLaws.{run-end-from, run-end-within, twos-up-to-run-end}
-use Turn.{Twos, no-twos, one-more-two}
-use Turn.{Run, run-starts, run-breaks, run-is-whole, run-moves-on, run-ends-adrift, run-ends-in-lock}
+use Rattle.fields.proofs.RunLaws.{run-end-from, run-end-within}
+use Turn.{Run, run-starts, run-moves-on, run-ends-adrift, run-ends-in-lock}
+use Turn.{Looked, look-starts, look-breaks, look-goes-on, look-ends}
 use Rattle.fields.proofs.finder.scan.Statement.{statement}
 use Rattle.fields.proofs.finder.scan.Tie as tie
 
 abbrev Inv-loop : tie.InvT-loop
 Inv-loop p intervals start k₀ known₀ j₀ k known j =
-    (k ≡ k₀)
-    × Run (classesOf p intervals) start k known
-    × (known ≤ j)
-    × (j ≤ k)
-    × Twos (classesOf p intervals) j k
+    (k ≡ k₀) × Looked (classesOf p intervals) start k known j
 
 abbrev μ-loop : tie.MeasureT-loop
 μ-loop p intervals start k₀ known₀ j₀ k known j = j
@@ -52,7 +48,7 @@ abbrev μ-scan : tie.MeasureT-scan
 μ-scan p intervals start k₀ known₀ k known = length intervals + 65 - k
 
 returns : tie.Need-returns Inv-loop μ-loop Inv-loop2 μ-loop2 Inv-scan μ-scan
-returns c = run-ends-adrift (run-starts _ _) (rw classes-length (omega arith))
+returns c = run-ends-adrift (run-starts _ _ _ refl) (rw classes-length (omega arith))
 
 -- the classes of the list that is searched
 abbrev classes-at : tie.At-scan Inv-loop μ-loop Inv-loop2 μ-loop2 Inv-scan μ-scan → List Class
@@ -64,12 +60,10 @@ add-k : tie.Need-add-k Inv-loop μ-loop Inv-loop2 μ-loop2 Inv-scan μ-scan
 add-k c = omega arith
 
 scan-holds : tie.Need-scan-holds Inv-loop μ-loop Inv-loop2 μ-loop2 Inv-scan μ-scan
-scan-holds c = (run-starts _ _, omega arith)
+scan-holds c = (run-starts _ _ _ (omega arith), omega arith)
 
 loop-holds : tie.Need-loop-holds Inv-loop μ-loop Inv-loop2 μ-loop2 Inv-scan μ-scan
-loop-holds c =
-    let run = c .before .scan .inv .0 in
-    (refl, run, run .within, omega arith, no-twos (classes-at (c .before)) _)
+loop-holds c = (refl, look-starts (c .before .scan .inv .0))
 
 sub-j : tie.Need-sub-j Inv-loop μ-loop Inv-loop2 μ-loop2 Inv-scan μ-scan
 sub-j c = omega arith
@@ -88,62 +82,30 @@ scan-less c = omega arith
 
 scan-again : tie.Need-scan-again Inv-loop μ-loop Inv-loop2 μ-loop2 Inv-scan μ-scan
 scan-again c =
-    let looked = c .before .before .before .before in
+    let turn = c .before .before .before .before in
     let class-at = c .before .before .class-at in
     let other : class-at .result ≡ Two → ⊥ = λ e. c .if3 .taken (c .before .number .ensures ∙ ap classNumber e) in
-    let back : looked .loop .j - 1 + 1 ≡ looked .loop .j = omega arith in (
-      run-breaks
-          (looked .loop .inv .1)
-          _
-          (omega arith)
-          (omega arith)
-          (λ e. other (class-at .ensures ∙ e))
-          (rw back (looked .loop .inv .4)),
-      omega arith,
-    )
+    (look-breaks (turn .loop .inv .1) _ (omega arith) (λ e. other (class-at .ensures ∙ e)) (omega arith), omega arith)
 
 loop-less : tie.Need-loop-less Inv-loop μ-loop Inv-loop2 μ-loop2 Inv-scan μ-scan
 loop-less c = omega arith
 
 loop-again : tie.Need-loop-again Inv-loop μ-loop Inv-loop2 μ-loop2 Inv-scan μ-scan
 loop-again c =
-    let looked = c .before .before .before .before in
-    let cs = classes-at (looked .before .before) in
-    let j = looked .loop .j in
+    let turn = c .before .before .before .before in
     let two = number-2-is-two _ (sym (c .before .number .ensures) ∙ c .if3 .left) in
-    let after : Twos cs (j - 1 + 1) (looked .loop .k) =
-    let back : j - 1 + 1 ≡ j = omega arith in rw back (looked .loop .inv .4) in (
-      looked .loop .inv .0,
-      looked .loop .inv .1,
-      omega arith,
-      omega arith,
-      one-more-two cs _ _ (sym (c .before .before .class-at .ensures) ∙ two) after,
-    )
+    let class-at = c .before .before .class-at in
+    (turn .loop .inv .0, look-goes-on (turn .loop .inv .1) (omega arith) (sym (class-at .ensures) ∙ two))
 
 run-end-requires : tie.Need-run-end-requires Inv-loop μ-loop Inv-loop2 μ-loop2 Inv-scan μ-scan
 run-end-requires c κs = search needs
 
 loop2-holds : tie.Need-loop2-holds Inv-loop μ-loop Inv-loop2 μ-loop2 Inv-scan μ-scan
 loop2-holds c =
-    let looked = c .before .before in
-    let cs = classes-at (looked .before .before) in
-    let k = looked .loop .k in
-    let end = c .run-end .result in
-    let end-is : end ≡ runEnd cs k = c .run-end .ensures in
-    let inside : k ≤ length cs = rw classes-length (omega arith) in
-    let within : end ≤ length cs = rw end-is (run-end-within cs k inside) in
-    let rest = looked .loop .inv .4 in (
-      refl,
-      (rw classes-length at within),
-      run-is-whole
-          (looked .loop .inv .1)
-          end
-          (λ j low high. rest j (omega arith) high)
-          (rw end-is (run-end-from cs k))
-          (rw end-is (twos-up-to-run-end cs k)),
-      omega arith,
-      λ j h. absurd (omega arith),
-    )
+    let turn = c .before .before in
+    let run = look-ends (turn .loop .inv .1) (omega arith) in
+    let within = run-end-within (classes-at (turn .before .before)) (turn .loop .k) (rw classes-length (omega arith)) in
+    rw (c .run-end .ensures) (refl, (rw classes-length at within), run, omega arith, λ j h. absurd (omega arith))
 
 add-class-at : tie.Need-add-class-at Inv-loop μ-loop Inv-loop2 μ-loop2 Inv-scan μ-scan
 add-class-at c = omega arith
@@ -163,8 +125,8 @@ loop2-less c = omega arith
 
 loop2-again : tie.Need-loop2-again Inv-loop μ-loop Inv-loop2 μ-loop2 Inv-scan μ-scan
 loop2-again c =
-    let looked = c .before .before .before .before in
-    let inv = looked .loop2 .inv in
+    let turn = c .before .before .before .before in
+    let inv = turn .loop2 .inv in
     let stands =
     ap (mayStand _) (sym (c .before .before .class-at2 .ensures))
     ∙ sym (c .before .may-stand .ensures)
@@ -177,17 +139,17 @@ add-k-3 c = omega arith
 scan-less-2 : tie.Need-scan-less-2 Inv-loop μ-loop Inv-loop2 μ-loop2 Inv-scan μ-scan
 scan-less-2 c =
     let run-end = c .before .before .before .before .before .run-end in
-    let looked = c .before .before .before .before .before .before .before in
-    let on : looked .loop .k ≤ run-end .result = rw (run-end .ensures) (run-end-from _ _) in omega arith
+    let turn = c .before .before .before .before .before .before .before in
+    let on : turn .loop .k ≤ run-end .result = rw (run-end .ensures) (run-end-from _ _) in omega arith
 
 scan-again-2 : tie.Need-scan-again-2 Inv-loop μ-loop Inv-loop2 μ-loop2 Inv-scan μ-scan
 scan-again-2 c =
-    let looked = c .before .before .before .before in
+    let turn = c .before .before .before .before in
     let failed =
     ap (mayStand _) (sym (c .before .before .class-at2 .ensures))
     ∙ sym (c .before .may-stand .ensures)
     ∙ c .if4 .left in
-    (run-moves-on (looked .loop2 .inv .2) _ (omega arith) failed, omega arith)
+    (run-moves-on (turn .loop2 .inv .2) _ _ (omega arith) failed (omega arith), omega arith)
 
 returns-2 : tie.Need-returns-2 Inv-loop μ-loop Inv-loop2 μ-loop2 Inv-scan μ-scan
 returns-2 c = run-ends-adrift (c .before .scan .inv .0) (rw classes-length (omega arith))
