@@ -52,39 +52,39 @@ fn run_end(p: Profile, intervals: &[u16], from: usize) -> usize
     k
 }
 
-// The 64 intervals from `first` on are looked at from the last one back, down to those that are known to be of class 2:
-// one that is not rules out every place that has it among its 64, so that of data most is passed over unread. No
-// interval is looked at again but where 64 stand and no mark follows.
+// Invariant: the intervals from k - 64 up to `known` are of class 2, and no lock stands at a place before k from
+// start + 64 on. The others of the 64 before k are looked at from the last one back: an interval of another class
+// rules out every place that has it among its 64, so all of them are passed over, and what stands before it is not
+// looked at. Where all 64 are of class 2, k goes on to the end of their run, since no mark begins with class 2.
 fn scan(p: Profile, intervals: &[u16], start: usize) -> Counted
     ensures { λ r. ⌜ countedAnswer r ≡ lockFrom (classesOf p (now (intervals .entry))) start ⌝ }
 {
     if intervals.len() <= start {
         return Counted::Refused(Refusal::NoLock);
     }
-    let mut first = start;
+    let mut k = start + 64;
     let mut known = start;
     let place = 'scan: loop {
-        let end = first + 64;
-        if intervals.len() <= end {
+        if intervals.len() <= k {
             break 'scan Counted::Refused(Refusal::NoLock);
         }
-        let mut j = end;
+        let mut j = k;
         while known < j {
             j -= 1;
             if class_at(p, intervals, j).number() != 2 {
-                first = j + 1;
-                known = end;
+                known = k;
+                k = j + 65;
                 continue 'scan;
             }
         }
-        let k = run_end(p, intervals, end);
+        k = run_end(p, intervals, k);
         let mut i: usize = 0;
         while i < 5 {
             if may_stand(i, class_at(p, intervals, k + i)) {
                 i += 1;
             } else {
-                first = k - 63;
                 known = k;
+                k += 1;
                 continue 'scan;
             }
         }

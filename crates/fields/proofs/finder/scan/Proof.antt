@@ -14,41 +14,41 @@ use Rattle.timing.specs.Class.{classesOf, classNumber}
 use Rattle.timing.proofs.ClassLaws.{classes-length}
 use Rattle.timing.specs.declared.Class.{Class}
 use Rattle.timing.specs.declared.Class.the-variants.{Narrow, Two}
-use Rattle.fields.specs.Lock.{runEnd, mayStand}
+use Rattle.fields.specs.Lock.{mayStand}
 use Rattle.fields.proofs.LockLaws.{number-2-is-two}
-use Rattle.fields.proofs.RunLaws.{run-end-from, run-end-within, twos-up-to-run-end}
-use Turn.{Twos, no-twos, one-more-two}
-use Turn.{Run, run-starts, run-breaks, run-is-whole, run-moves-on, run-ends-adrift, run-ends-in-lock}
+use Rattle.fields.proofs.RunLaws.{run-end-from, run-end-within}
+use Turn.{Run, run-starts, run-moves-on, run-ends-adrift, run-ends-in-lock}
+use Turn.{Looked, look-starts, look-breaks, look-goes-on, look-ends}
 use Rattle.fields.proofs.finder.scan.Statement.{statement}
 use Rattle.fields.proofs.finder.scan.Tie as tie
 
 abbrev Inv-loop : tie.InvT-loop
-Inv-loop p intervals start first₀ known₀ end j₀ first known j =
-    (known ≡ known₀) × (known ≤ j) × (j ≤ end) × Twos (classesOf p intervals) j end
+Inv-loop p intervals start k₀ known₀ j₀ k known j =
+    (k ≡ k₀) × Looked (classesOf p intervals) start k known j
 
 abbrev μ-loop : tie.MeasureT-loop
-μ-loop p intervals start first₀ known₀ end j₀ first known j = j
+μ-loop p intervals start k₀ known₀ j₀ k known j = j
 
 abbrev Inv-loop2 : tie.InvT-loop2
-Inv-loop2 p intervals start first₀ known₀ end j k i₀ first known i =
-    (end ≤ k)
+Inv-loop2 p intervals start k₀ known₀ j i₀ k known i =
+    (k ≡ k₀)
     × (k ≤ length intervals)
-    × Run (classesOf p intervals) start (k - 64) k
+    × Run (classesOf p intervals) start k k
     × (i ≤ 5)
     × ((n : ℕ) → n < i → mayStand n (getD (classesOf p intervals) (k + n) Narrow) ≡ true)
 
 abbrev μ-loop2 : tie.MeasureT-loop2
-μ-loop2 p intervals start first₀ known₀ end j k i₀ first known i = 5 - i
+μ-loop2 p intervals start k₀ known₀ j i₀ k known i = 5 - i
 
 abbrev Inv-scan : tie.InvT-scan
-Inv-scan p intervals start first₀ known₀ first known =
-    Run (classesOf p intervals) start first known × (first < length intervals)
+Inv-scan p intervals start k₀ known₀ k known =
+    Run (classesOf p intervals) start k known × (k < length intervals + 65)
 
 abbrev μ-scan : tie.MeasureT-scan
-μ-scan p intervals start first₀ known₀ first known = length intervals - first
+μ-scan p intervals start k₀ known₀ k known = length intervals + 65 - k
 
 returns : tie.Need-returns Inv-loop μ-loop Inv-loop2 μ-loop2 Inv-scan μ-scan
-returns c = run-ends-adrift (run-starts _ _) (rw classes-length (omega arith))
+returns c = run-ends-adrift (run-starts _ _ _ refl) (rw classes-length (omega arith))
 
 -- the classes of the list that is searched
 abbrev classes-at : tie.At-scan Inv-loop μ-loop Inv-loop2 μ-loop2 Inv-scan μ-scan → List Class
@@ -56,14 +56,14 @@ classes-at c =
     let args = c .before .before .before .args in
     classesOf (args .p) (now (args .intervals))
 
-scan-holds : tie.Need-scan-holds Inv-loop μ-loop Inv-loop2 μ-loop2 Inv-scan μ-scan
-scan-holds c = (run-starts _ _, omega arith)
+add-k : tie.Need-add-k Inv-loop μ-loop Inv-loop2 μ-loop2 Inv-scan μ-scan
+add-k c = omega arith
 
-add-end : tie.Need-add-end Inv-loop μ-loop Inv-loop2 μ-loop2 Inv-scan μ-scan
-add-end c = omega arith
+scan-holds : tie.Need-scan-holds Inv-loop μ-loop Inv-loop2 μ-loop2 Inv-scan μ-scan
+scan-holds c = (run-starts _ _ _ (omega arith), omega arith)
 
 loop-holds : tie.Need-loop-holds Inv-loop μ-loop Inv-loop2 μ-loop2 Inv-scan μ-scan
-loop-holds c = (refl, omega arith, omega arith, no-twos (classes-at (c .before)) _)
+loop-holds c = (refl, look-starts (c .before .scan .inv .0))
 
 sub-j : tie.Need-sub-j Inv-loop μ-loop Inv-loop2 μ-loop2 Inv-scan μ-scan
 sub-j c = omega arith
@@ -74,66 +74,38 @@ class-at-requires c κs = search needs
 number-requires : tie.Need-number-requires Inv-loop μ-loop Inv-loop2 μ-loop2 Inv-scan μ-scan
 number-requires c κs = search needs
 
-add-first : tie.Need-add-first Inv-loop μ-loop Inv-loop2 μ-loop2 Inv-scan μ-scan
-add-first c = omega arith
+add-k-2 : tie.Need-add-k-2 Inv-loop μ-loop Inv-loop2 μ-loop2 Inv-scan μ-scan
+add-k-2 c = omega arith
 
 scan-less : tie.Need-scan-less Inv-loop μ-loop Inv-loop2 μ-loop2 Inv-scan μ-scan
 scan-less c = omega arith
 
 scan-again : tie.Need-scan-again Inv-loop μ-loop Inv-loop2 μ-loop2 Inv-scan μ-scan
 scan-again c =
-    let looked = c .before .before .before .before in
+    let turn = c .before .before .before .before in
     let class-at = c .before .before .class-at in
     let other : class-at .result ≡ Two → ⊥ = λ e. c .if3 .taken (c .before .number .ensures ∙ ap classNumber e) in
-    let back : looked .loop .j - 1 + 1 ≡ looked .loop .j = omega arith in (
-      run-breaks
-          (looked .before .before .scan .inv .0)
-          _
-          (omega arith)
-          (omega arith)
-          (λ e. other (class-at .ensures ∙ e))
-          (rw back (looked .loop .inv .3)),
-      omega arith,
-    )
+    (look-breaks (turn .loop .inv .1) _ (omega arith) (λ e. other (class-at .ensures ∙ e)) (omega arith), omega arith)
 
 loop-less : tie.Need-loop-less Inv-loop μ-loop Inv-loop2 μ-loop2 Inv-scan μ-scan
 loop-less c = omega arith
 
 loop-again : tie.Need-loop-again Inv-loop μ-loop Inv-loop2 μ-loop2 Inv-scan μ-scan
 loop-again c =
-    let looked = c .before .before .before .before in
-    let cs = classes-at (looked .before .before) in
-    let j = looked .loop .j in
+    let turn = c .before .before .before .before in
     let two = number-2-is-two _ (sym (c .before .number .ensures) ∙ c .if3 .left) in
-    let after : Twos cs (j - 1 + 1) (looked .before .before .scan .first + 64) =
-    let back : j - 1 + 1 ≡ j = omega arith in rw back (looked .loop .inv .3) in (
-      looked .loop .inv .0,
-      omega arith,
-      omega arith,
-      one-more-two cs _ _ (sym (c .before .before .class-at .ensures) ∙ two) after,
-    )
+    let class-at = c .before .before .class-at in
+    (turn .loop .inv .0, look-goes-on (turn .loop .inv .1) (omega arith) (sym (class-at .ensures) ∙ two))
 
 run-end-requires : tie.Need-run-end-requires Inv-loop μ-loop Inv-loop2 μ-loop2 Inv-scan μ-scan
 run-end-requires c κs = search needs
 
 loop2-holds : tie.Need-loop2-holds Inv-loop μ-loop Inv-loop2 μ-loop2 Inv-scan μ-scan
 loop2-holds c =
-    let turn = c .before .before .before .before in
-    let cs = classes-at turn in
-    let end = turn .scan .first + 64 in
-    let k = c .run-end .result in
-    let k-is : k ≡ runEnd cs end = c .run-end .ensures in
-    let inside : end ≤ length cs = rw classes-length (omega arith) in
-    let from : end ≤ k = rw k-is (run-end-from cs end) in
-    let within : k ≤ length cs = rw k-is (run-end-within cs end inside) in
-    let twos : Twos cs end k = rw k-is (twos-up-to-run-end cs end) in
-    let window = c .before .before .loop .inv .3 in (
-      from,
-      (rw classes-length at within),
-      run-is-whole (turn .scan .inv .0) k (λ j low high. window j (omega arith) high) from twos,
-      omega arith,
-      λ j h. absurd (omega arith),
-    )
+    let turn = c .before .before in
+    let run = look-ends (turn .loop .inv .1) (omega arith) in
+    let within = run-end-within (classes-at (turn .before .before)) (turn .loop .k) (rw classes-length (omega arith)) in
+    rw (c .run-end .ensures) (refl, (rw classes-length at within), run, omega arith, λ j h. absurd (omega arith))
 
 add-class-at : tie.Need-add-class-at Inv-loop μ-loop Inv-loop2 μ-loop2 Inv-scan μ-scan
 add-class-at c = omega arith
@@ -153,28 +125,31 @@ loop2-less c = omega arith
 
 loop2-again : tie.Need-loop2-again Inv-loop μ-loop Inv-loop2 μ-loop2 Inv-scan μ-scan
 loop2-again c =
-    let looked = c .before .before .before .before in
-    let inv = looked .loop2 .inv in
+    let turn = c .before .before .before .before in
+    let inv = turn .loop2 .inv in
     let stands =
     ap (mayStand _) (sym (c .before .before .class-at2 .ensures))
     ∙ sym (c .before .may-stand .ensures)
     ∙ c .if4 .taken in
     (inv .0, inv .1, inv .2, omega arith, below-more _ _ (inv .4) stands)
 
-sub-first : tie.Need-sub-first Inv-loop μ-loop Inv-loop2 μ-loop2 Inv-scan μ-scan
-sub-first c = omega arith
+add-k-3 : tie.Need-add-k-3 Inv-loop μ-loop Inv-loop2 μ-loop2 Inv-scan μ-scan
+add-k-3 c = omega arith
 
 scan-less-2 : tie.Need-scan-less-2 Inv-loop μ-loop Inv-loop2 μ-loop2 Inv-scan μ-scan
-scan-less-2 c = omega arith
+scan-less-2 c =
+    let run-end = c .before .before .before .before .before .run-end in
+    let turn = c .before .before .before .before .before .before .before in
+    let on : turn .loop .k ≤ run-end .result = rw (run-end .ensures) (run-end-from _ _) in omega arith
 
 scan-again-2 : tie.Need-scan-again-2 Inv-loop μ-loop Inv-loop2 μ-loop2 Inv-scan μ-scan
 scan-again-2 c =
-    let looked = c .before .before .before .before in
+    let turn = c .before .before .before .before in
     let failed =
     ap (mayStand _) (sym (c .before .before .class-at2 .ensures))
     ∙ sym (c .before .may-stand .ensures)
     ∙ c .if4 .left in
-    (run-moves-on (looked .loop2 .inv .2) _ _ (omega arith) (omega arith) failed (omega arith), omega arith)
+    (run-moves-on (turn .loop2 .inv .2) _ _ (omega arith) failed (omega arith), omega arith)
 
 returns-2 : tie.Need-returns-2 Inv-loop μ-loop Inv-loop2 μ-loop2 Inv-scan μ-scan
 returns-2 c = run-ends-adrift (c .before .scan .inv .0) (rw classes-length (omega arith))
@@ -183,7 +158,7 @@ returns-3 : tie.Need-returns-3 Inv-loop μ-loop Inv-loop2 μ-loop2 Inv-scan μ-s
 returns-3 c =
     let inv = c .before .loop2 .inv in
     let all : c .before .loop2 .i ≡ 5 = omega arith in
-    run-ends-in-lock (inv .2) (omega arith) (λ j h. inv .4 j (omega arith))
+    run-ends-in-lock (inv .2) (λ j h. inv .4 j (omega arith))
 
 pub scan-spec : {M : Type 1} → statement M
 scan-spec =
@@ -196,13 +171,13 @@ scan-spec =
     Inv-scan
     μ-scan
     returns
+    add-k
     scan-holds
-    add-end
     loop-holds
     sub-j
     class-at-requires
     number-requires
-    add-first
+    add-k-2
     scan-less
     scan-again
     loop-less
@@ -215,7 +190,7 @@ scan-spec =
     add-i
     loop2-less
     loop2-again
-    sub-first
+    add-k-3
     scan-less-2
     scan-again-2
     returns-2
