@@ -1,5 +1,6 @@
 -- Document 01, "Items and the check register": the written bytes of a list, and the register after it. No lemmas here.
--- A written byte is a number: 0 to 255 a data byte, or 256 plus A1 or C2 a mark byte, whose byte is the rest modulo 256.
+-- A written byte is a number: 0 to 255 a data byte, or 256 plus A1 or C2 a mark byte, whose byte is the rest modulo
+-- 256.
 use Prim.Native.Nat.{ℕ, _%_}
 use mathlib.Core.Bool.{true, false, cond}
 use mathlib.Core.List.{List, [], _∷_, _++_}

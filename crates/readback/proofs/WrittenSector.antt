@@ -150,7 +150,8 @@ module _ (track side sector code : ℕ) (bytes : List ℕ) where
     field-has-no-foreign ws e =
         anywhere-of-append isForeign ws (512 ∷ [])
         ∙ rw (bytes-are-items ws e)
-        (anywhere-of-failing isForeign 512 [] (item-is-not-foreign 512 check-order-is-item) ∙ anywhere-of-none isForeign)
+        (anywhere-of-failing isForeign 512 [] (item-is-not-foreign 512 check-order-is-item)
+        ∙ anywhere-of-none isForeign)
 
     no-foreign : anywhere isForeign (sectorItems track side sector code bytes) ≡ false
     no-foreign =
