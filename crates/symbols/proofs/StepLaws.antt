@@ -13,8 +13,7 @@ use Rattle.symbols.specs.Bits.{Bit, O, I, G, lastOf}
 use Rattle.symbols.specs.Bytes.{digit, numberFrom, isGap, itemsRead}
 use Rattle.symbols.specs.Reading.{given, lastAfter, readBits}
 use Rattle.symbols.specs.Machine.{pushed}
-use Rattle.symbols.specs.Step.{itemsOf, turned, withLast, afterMedium}
-use Rattle.symbols.specs.Step.{gapAt, noted, afterLong, stepped}
+use Rattle.symbols.specs.Step.{itemsOf, turned, withLast, gapAt, noted, stepped}
 use Rattle.symbols.specs.declared.Cell.{Cell}
 use Rattle.symbols.specs.declared.Cell.the-variants.{Short, Medium, Long}
 use Rattle.symbols.specs.declared.Reading.{Reading}
@@ -100,6 +99,7 @@ module _ (m : Reading) (cs : List Cell) (reads : Reads m cs) (room : length cs <
   b = lastOf O (readBits cs)
 
   short-kept : After (stepped m Short (length cs)) (cs ++ (Short ∷ [])) (reads .before)
+  unfolding stepped
   short-kept =
       advanced m cs Short reads room m (m .register * 2 + m .last)
       (grown-plain cs Short m (reads .before) (reads .rest) (reads .row) (fair m cs Short reads room)
@@ -110,7 +110,7 @@ module _ (m : Reading) (cs : List Cell) (reads : Reads m cs) (room : length cs <
       (sym (number-of-short (m .register) b (last-is-no-gap cs)) ∙ sym (register-grown m cs Short reads room)))
 
   medium-kept : After (stepped m Medium (length cs)) (cs ++ (Medium ∷ [])) (reads .before)
-  unfolding afterMedium withLast
+  unfolding stepped withLast
   medium-kept =
       advanced m cs Medium reads room (withLast m (turned (m .register) (m .last) % 2)) (turned (m .register) (m .last))
       (row-with-last m (cs ++ (Medium ∷ [])) (reads .before) (all m cs Medium reads room)
@@ -138,7 +138,7 @@ module _ (m : Reading) (cs : List Cell) (reads : Reads m cs) (room : length cs <
   long-row G e h = absurd (true≢false h)
 
   long-kept : After (stepped m Long (length cs)) (cs ++ (Long ∷ [])) (reads .before)
-  unfolding afterLong noted
+  unfolding stepped noted
   long-kept =
       let keeps = noted-keeps (eqb (m .last) 0) (eqb (m .gap) 0) m (length cs) in
       advanced m cs Long reads room (noted m (length cs)) (m .register * 4 + m .last)

@@ -10,13 +10,15 @@ use Rattle.symbols.specs.declared.Cell.the-variants.{Short, Medium, Long
 use Rattle.symbols.specs.declared.Reading.{Reading}
 use Rattle.symbols.specs.Machine.{pushed}
 
--- a cell of 2 units gives the last bit again
-abbrev pub afterShort : Reading → Reading
-afterShort m = pushed m (m .register * 2 + m .last)
-
--- one of 3 gives 01 after 0, and 0 after 1
+-- a cell of 3 units gives 01 after 0, and 0 after 1
 unfoldable pub turned : ℕ → ℕ → ℕ
 turned register last = cond (eqb last 0) (register * 4 + 1) (register * 2)
+
+-- the register with a cell's bits: one of 2 units gives the last bit again, one of 4 gives 0 and the last bit again
+abbrev pub wordAfter : Reading → Cell → ℕ
+wordAfter m Short = m .register * 2 + m .last
+wordAfter m Medium = turned (m .register) (m .last)
+wordAfter m Long = m .register * 4 + m .last
 
 unfoldable pub withLast : Reading → ℕ → Reading
 withLast m last =
@@ -32,10 +34,7 @@ withLast m last =
       done = m .done;
     }
 
-unfoldable pub afterMedium : Reading → Reading
-afterMedium m = pushed (withLast m (turned (m .register) (m .last) % 2)) (turned (m .register) (m .last))
-
--- one of 4, at a place, gives 0 and the last bit again; after 0 that is a gap, and the first gap of a byte counts
+-- a gap that a cell gives at a place
 unfoldable pub gapAt : Reading → ℕ → Reading
 gapAt m at =
     record {
@@ -50,28 +49,19 @@ gapAt m at =
       done = m .done;
     }
 
+-- a cell of 4 units is a gap after 0, and the first gap of a byte counts
 unfoldable pub noted : Reading → ℕ → Reading
 noted m at = cond (eqb (m .last) 0) (cond (eqb (m .gap) 0) (gapAt m at) m) m
 
-unfoldable pub afterLong : Reading → ℕ → Reading
-afterLong m at = pushed (noted m at) (m .register * 4 + m .last)
-
--- one cell more, at a place
-abbrev pub stepped : Reading → Cell → ℕ → Reading
-stepped m Short at = afterShort m
-stepped m Medium at = afterMedium m
-stepped m Long at = afterLong m at
-
--- the register that a cell pushes, and the state in which it is pushed
-abbrev pub wordAfter : Reading → Cell → ℕ
-wordAfter m Short = m .register * 2 + m .last
-wordAfter m Medium = turned (m .register) (m .last)
-wordAfter m Long = m .register * 4 + m .last
-
+-- the state in which that register is pushed: with its last bit, and a gap noted
 abbrev pub readyFor : Reading → Cell → ℕ → Reading
 readyFor m Short at = m
 readyFor m Medium at = withLast m (turned (m .register) (m .last) % 2)
 readyFor m Long at = noted m at
+
+-- one cell more, at a place
+unfoldable pub stepped : Reading → Cell → ℕ → Reading
+stepped m c at = pushed (readyFor m c at) (wordAfter m c)
 
 -- the item that the last cell gave, if it closed a byte
 unfoldable pub itemsOf : Reading → List ℕ
