@@ -9,19 +9,14 @@ use Rattle.timing.specs.Profile.{profileRule}
 use Rattle.timing.specs.Class.{classesOf, edgeRule}
 use Rattle.timing.specs.declared.Profile.{Profile}
 use Rattle.timing.specs.declared.Class.{Class}
-use Rattle.timing.specs.declared.Class.the-variants.{Narrow, Two, Three, Four, Wide}
 use Rattle.symbols.specs.Strip.{stripRule, stripItems}
 use Rattle.symbols.specs.declared.Cell.{Cell}
-use Rattle.symbols.specs.declared.Cell.the-variants.{Short, Medium, Long}
+use Rattle.intervals.specs.Cells.{byClass}
 
 -- the cells of classes. A narrow or a wide interval is refused before its cell is asked for
 unfoldable pub cellsOfClasses : List Class → List Cell
 cellsOfClasses [] = []
-cellsOfClasses (Narrow ∷ cs) = cellsOfClasses cs
-cellsOfClasses (Two ∷ cs) = Short ∷ cellsOfClasses cs
-cellsOfClasses (Three ∷ cs) = Medium ∷ cellsOfClasses cs
-cellsOfClasses (Four ∷ cs) = Long ∷ cellsOfClasses cs
-cellsOfClasses (Wide ∷ cs) = cellsOfClasses cs
+cellsOfClasses (c ∷ cs) = byClass c (cellsOfClasses cs) (λ (x : Cell). x ∷ cellsOfClasses cs) (cellsOfClasses cs)
 
 -- the cells of a stream of intervals
 unfoldable pub cellsRead : Profile → List ℕ → List Cell
