@@ -2,6 +2,8 @@
  * The contract of ism.h in plain C, as a baseline for the benchmark: no proof, no heap, one pass to check and one to
  * write. Functions are named plain_c_..; PLAIN_PREFIX gives them another prefix.
  */
+#include <string.h>
+
 #include "ism.h"
 
 #ifndef PLAIN_PREFIX
@@ -373,6 +375,16 @@ ism_answer NAME(read_field)(ism_profile profile, const uint16_t *intervals, size
     if (room < bytes) return refused(ISM_FULL, 0);
     write_read_items(&profile, intervals, (size_t)bytes, out);
     ism_answer answer = {ISM_ACCEPTED, 0, bytes, used, s.crc == 0};
+    return answer;
+}
+
+/* The field reader's last step alone, for items that are ready: the items, and whether the register ends as zero. */
+ism_answer NAME(register)(const uint16_t *items, size_t n, uint64_t used, uint16_t *out, size_t room) {
+    if (room < n) return refused(ISM_FULL, 0);
+    struct crc_state s = {0xFFFF, 0};
+    memcpy(out, items, n * sizeof *items);
+    for (size_t i = 0; i < n; i++) crc_pass(&s, items[i] & 0xFF, items[i] >= ISM_MARK);
+    ism_answer answer = {ISM_ACCEPTED, 0, n, used, s.crc == 0};
     return answer;
 }
 

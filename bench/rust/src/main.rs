@@ -3,6 +3,7 @@
 //!     bench agree                 check that the three give the same answers on every task
 //!     bench list                  tasks, one a line: name, input, units, unit
 //!     bench repeat TASK WHO TIMES run a task so many times and print nothing
+//!     bench before TASK WHO TIMES the same for what of a run does not belong to the task
 //!     bench times                 nanoseconds for each task and implementation
 //!     bench stacks                bytes of stack for each task and implementation
 
@@ -24,14 +25,16 @@ fn main() {
     match arguments[..] {
         ["agree"] => agree(&implementations),
         ["list"] => tasks::all().iter().for_each(|t| println!("{}\t{}\t{}\t{}", t.name, t.input, t.units, t.unit)),
-        ["repeat", task, who, times] => repeat(task, who, times.parse().expect("a number of times"), &implementations),
+        [what @ ("repeat" | "before"), task, who, times] => {
+            repeat(what, task, who, times.parse().expect("a number of times"), &implementations)
+        }
         ["times"] => each("time", &implementations, time),
         ["stacks"] => each("stack", &implementations, |task, who| {
             let beyond_calling = stack::depth(|| task.run(who)).saturating_sub(stack::depth(stack::nothing));
             beyond_calling as f64
         }),
         _ => {
-            eprintln!("usage: bench agree | list | repeat TASK WHO TIMES | times | stacks");
+            eprintln!("usage: bench agree | list | repeat TASK WHO TIMES | before TASK WHO TIMES | times | stacks");
             exit(2);
         }
     }
@@ -39,7 +42,7 @@ fn main() {
 
 /// Prints one line for each task: name, then a number for each implementation.
 fn each(what: &str, implementations: &[Implementation], measure: impl Fn(&mut Task, &Implementation) -> f64) {
-    for mut task in tasks::all() {
+    for mut task in tasks::all().into_iter().filter(Task::is_whole) {
         let numbers: Vec<String> =
             implementations.iter().map(|who| format!("{:.2}", measure(&mut task, who))).collect();
         println!("{what}\t{}\t{}", task.name, numbers.join("\t"));
@@ -56,13 +59,16 @@ fn time(task: &mut Task, who: &Implementation) -> f64 {
     (0..300).map(|_| run()).fold(f64::INFINITY, f64::min)
 }
 
-fn repeat(name: &str, who: &str, times: usize, implementations: &[Implementation]) {
+fn repeat(what: &str, name: &str, who: &str, times: usize, implementations: &[Implementation]) {
     let task = tasks::all().into_iter().find(|task| task.name == name);
     let who = implementations.iter().find(|one| one.name == who);
     match (task, who) {
         (Some(mut task), Some(who)) => {
             for _ in 0..times {
-                black_box(task.run(who));
+                match what {
+                    "before" => drop(black_box(task.run_before(who))),
+                    _ => drop(black_box(task.run(who))),
+                }
             }
         }
         _ => {

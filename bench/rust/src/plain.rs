@@ -7,7 +7,7 @@ mod register;
 mod writer;
 
 pub use fifo::*;
-pub use reader::{plain_rust_find, plain_rust_read, plain_rust_read_field};
+pub use reader::{plain_rust_find, plain_rust_read, plain_rust_read_field, plain_rust_register};
 pub use writer::{plain_rust_make_sector, plain_rust_write};
 
 use ism::sys::{Answer, Profile};

@@ -1,9 +1,11 @@
 //! What is measured: each task is one call, or a short row of calls, on a fixed input.
 
-use bench::plain::plain_rust_write;
+use std::rc::Rc;
+
+use bench::plain::{plain_rust_read_field, plain_rust_write};
 use ism::sys::{Answer, Profile};
 
-use crate::implementations::Implementation;
+use crate::implementations::{Field, Implementation};
 
 /// The worked profile of the paper.
 pub const PROFILE: Profile =
@@ -23,16 +25,28 @@ pub struct Task {
     pub units: usize,
     pub unit: &'static str,
     run: Run,
+    /// what of the run does not belong to the task
+    before: Option<Run>,
     out: Vec<u16>,
 }
 
 impl Task {
     fn new(name: &str, size: usize, input: String, units: usize, unit: &'static str, room: usize, run: Run) -> Task {
-        Task { name: format!("{name}-{size}"), input, units, unit, run, out: vec![0; room] }
+        Task { name: format!("{name}-{size}"), input, units, unit, run, before: None, out: vec![0; room] }
     }
 
     pub fn run(&mut self, who: &Implementation) -> Answer {
         (self.run)(who, &mut self.out)
+    }
+
+    /// Whether the task is a whole call, and not the difference of two.
+    pub fn is_whole(&self) -> bool {
+        self.before.is_none()
+    }
+
+    /// Runs what does not belong to the task.
+    pub fn run_before(&mut self, who: &Implementation) -> Option<Answer> {
+        self.before.as_mut().map(|before| before(who, &mut self.out))
     }
 
     /// What the last run has left in the output, which is cleared.
@@ -53,6 +67,7 @@ pub fn all() -> Vec<Task> {
         [vec![PROFILE.t1; 64], vec![PROFILE.b23]].concat(),
     ));
     tasks.extend([512, 1_030].map(field_task));
+    tasks.push(register_task(1_030));
     tasks.extend([512, 1_024].map(sector_task));
     tasks
 }
@@ -104,15 +119,30 @@ fn find_task(name: &str, of: &str, repeated: Vec<u16>) -> Task {
 }
 
 /// Three marks, data and check bytes; the register is zero behind them.
+fn field(size: usize) -> Vec<u16> {
+    stream(&[vec![MARK_A1; 3], items(size - 5), vec![CHECK]].concat())
+}
+
 fn field_task(size: usize) -> Task {
-    let list = [vec![MARK_A1; 3], items(size - 5), vec![CHECK]].concat();
-    let intervals = stream(&list);
+    let intervals = field(size);
     let units = intervals.len();
     let run: Run = Box::new(move |who, out| (who.read_field)(PROFILE, &intervals, size as u64, out));
     Task::new("read_field", size, format!("{size} bytes"), units, "interval", size, run)
 }
 
-/// The check register has no entry of its own: it runs over a sector that is made and written.
+/// The check register over the items of a field, and the items to the output.
+fn register_task(size: usize) -> Task {
+    let (intervals, mut items) = (field(size), vec![0; size]);
+    let used = plain_rust_read_field(PROFILE, &intervals, size as u64, &mut items).used;
+    let field = Rc::new(Field { profile: PROFILE, intervals, used, items });
+    let same = Rc::clone(&field);
+    let run: Run = Box::new(move |who, out| (who.register)(&field, out));
+    let mut task = Task::new("register", size, format!("{size} bytes"), size, "byte", size, run);
+    task.before = Some(Box::new(move |who, out| (who.before_register)(&same, out)));
+    task
+}
+
+/// A sector that is made and written, check bytes included.
 fn sector_task(size: usize) -> Task {
     let code = (size / 128).ilog2() as u8;
     let data = bytes(size);

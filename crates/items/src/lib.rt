@@ -6,7 +6,9 @@ pub use list::Stored;
 pub use list::find_foreign;
 pub use list::write_bytes;
 pub use list::written_bytes;
+ghost use Prim.Native.Nat.{_≤_, _<_};
 ghost use mathlib.Core.Path.{_≡_};
+ghost use lib.ListN.{length, drop};
 ghost use Rattle.items.specs.Item.{isMark, isCheck, isItem, bytesOf};
 ghost use Rattle.items.specs.Register.{registerTable, highByte, lowByte};
 ghost use Rattle.items.specs.Written.{fresh, beforeMark, afterByte, afterBytes, afterCheck, afterItem};
@@ -91,6 +93,36 @@ impl Check {
         self.after_byte(table, n)
     }
 
+    // A run of bytes from a place on: data bytes, which need no test for marks, so that the loop stays short, and the
+    // number after them. Answers the state and the place after the run.
+    fn after_run(self, table: &[u16; 256], bytes: &[u16], from: usize) -> Stored
+        requires { ⌜ now table ≡ registerTable ⌝ }
+        requires { ⌜ from < length (now bytes) ⌝ }
+        ensures place { λ r. ⌜ (from < r .count) × (r .count ≤ length (now (bytes .entry))) ⌝ }
+        ensures state { λ r. ⌜
+            afterBytes (r .check) (drop (r .count) (now (bytes .entry)))
+            ≡ afterBytes self (drop from (now (bytes .entry))) ⌝ }
+    {
+        let mut check = self;
+        let mut k = from;
+        while k < bytes.len() {
+            let byte = bytes[k];
+            if 255 < byte {
+                check = check.after_byte(table, byte);
+                return Stored {
+                    check,
+                    count: k + 1,
+                };
+            }
+            check = Check {
+                register: table::feed(table, check.register, byte),
+                marked: false,
+            };
+            k += 1;
+        }
+        Stored { check, count: k }
+    }
+
     // The state after written bytes have passed through.
     pub fn after_bytes(self, bytes: &[u16]) -> Self
         ensures { λ r. ⌜ r ≡ afterBytes self (now (bytes .entry)) ⌝ }
@@ -99,8 +131,9 @@ impl Check {
         let mut check = self;
         let mut k: usize = 0;
         while k < bytes.len() {
-            check = check.after_byte(&table, bytes[k]);
-            k += 1;
+            let next = check.after_run(&table, bytes, k);
+            check = next.check;
+            k = next.count;
         }
         check
     }

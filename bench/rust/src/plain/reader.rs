@@ -180,3 +180,13 @@ fn read_field(p: &Profile, intervals: &[u16], bytes: u64, out: &mut [u16]) -> Re
     write_items(p, &intervals[..used], out);
     Ok(Answer { used: used as u64, holds: u32::from(register.value == 0), ..counted(bytes) })
 }
+
+/// The field reader's last step alone, for items that are ready: the items and whether the register is zero after them.
+#[inline(never)]
+pub fn plain_rust_register(items: &[u16], used: u64, out: &mut [u16]) -> Answer {
+    let Some(out) = out.get_mut(..items.len()) else { return refused(9, 0) };
+    out.copy_from_slice(items);
+    let mut register = Register::new();
+    items.iter().for_each(|item| register.pass(*item));
+    Answer { used, holds: u32::from(register.value == 0), ..counted(items.len() as u64) }
+}
