@@ -29,15 +29,22 @@ fn main() {
             repeat(what, task, who, times.parse().expect("a number of times"), &implementations)
         }
         ["times"] => each("time", &implementations, time),
-        ["stacks"] => each("stack", &implementations, |task, who| {
-            let beyond_calling = stack::depth(|| task.run(who)).saturating_sub(stack::depth(stack::nothing));
-            beyond_calling as f64
-        }),
+        ["stacks"] => {
+            each("stack", &implementations, |task, who| beyond_calling(|| task.run(who)));
+            for (name, call) in stack::other_entries() {
+                println!("stack\t{name}\t{:.2}\t-\t-", beyond_calling(call));
+            }
+        }
         _ => {
             eprintln!("usage: bench agree | list | repeat TASK WHO TIMES | before TASK WHO TIMES | times | stacks");
             exit(2);
         }
     }
+}
+
+/// Bytes of stack that a call takes, its own frame and what it calls.
+fn beyond_calling(call: impl FnMut() -> ism::sys::Answer) -> f64 {
+    stack::depth(call).saturating_sub(stack::depth(stack::nothing)) as f64
 }
 
 /// Prints one line for each task: name, then a number for each implementation.
