@@ -23,7 +23,7 @@ use Rattle.symbols.proofs.FormatLaws.{cells-of-zero-bytes, cells-of-mark-A1, ga
 use Rattle.intervals.proofs.CellLaws.{classOfCell}
 use Rattle.lengths.specs.Near.{classOfUnits}
 use Rattle.fields.proofs.GapLaws.{markA1, passes}
-use Rattle.unique.proofs.ClassCells.{classes-of-cells}
+use Rattle.demands.proofs.ClassCells.{classes-of-cells}
 use Rattle.readback.specs.SectorReads.{placeAfter}
 use Rattle.readback.proofs.WrittenSector.{A1, middleGap}
 

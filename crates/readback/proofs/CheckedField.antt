@@ -24,7 +24,7 @@ use Rattle.symbols.specs.declared.Cell.{Cell}
 use Rattle.intervals.proofs.CellLaws.{classOfCell}
 use Rattle.fields.specs.Field.{holdsAfter}
 use Rattle.fields.proofs.WrittenFieldLaws.{written-field-is-read, written-field-is-stored}
-use Rattle.unique.specs.Streams.{AcceptedProfile}
+use Rattle.demands.specs.Streams.{AcceptedProfile}
 use Rattle.readback.specs.SectorReads.{withCheck, ReadsField}
 
 module _ (ws : List ℕ) where

@@ -28,9 +28,9 @@ use Rattle.fields.proofs.GapLaws.{lock-after-run, lock-after-gap}
 use Rattle.fields.proofs.WrittenFieldLaws.{restOfCells, used-and-rest, rest-of-field-is-read}
 use Rattle.sectors.specs.Sector.{sectorSize, sectorItems}
 use Rattle.sectors.proofs.SectorCounts.{size-of-code, size-at-most-1024}
-use Rattle.unique.specs.Streams.{AcceptedProfile, Moved}
-use Rattle.unique.specs.Demand3.{stated}
-use Rattle.unique.proofs.Demand3.{moved-has-classes}
+use Rattle.demands.specs.Streams.{AcceptedProfile, Moved}
+use Rattle.demands.specs.Demand3.{stated}
+use Rattle.demands.proofs.Demand3.{moved-has-classes}
 use Rattle.readback.specs.SectorReads.{withCheck, ReadsField, Made, idField, dataField, idPlace, dataPlace}
 use Rattle.readback.specs.SectorReads.{SectorReads, MadeSectorsReadBack}
 use Rattle.readback.proofs.WrittenSector.{A1, middleGap, idBytes, dataBytes, id-bytes, data-bytes}

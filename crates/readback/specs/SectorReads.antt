@@ -19,8 +19,8 @@ use Rattle.fields.specs.Lock.{findRule}
 use Rattle.fields.specs.Field.{fieldUsed}
 use Rattle.fields.specs.FieldRule.{fieldReading, fieldOutput}
 use Rattle.sectors.specs.Sector.{sectorSize, sectorItems, isMisfit}
-use Rattle.unique.specs.Streams.{AcceptedProfile, Moved}
-use Rattle.unique.specs.Demand3.{stated}
+use Rattle.demands.specs.Streams.{AcceptedProfile, Moved}
+use Rattle.demands.specs.Demand3.{stated}
 
 -- the place of the first interval of what is written after bytes that end in two 0s: so many cells stand before it
 abbrev pub placeAfter : List ℕ → ℕ

@@ -16,7 +16,7 @@ use Rattle.items.specs.Written.{written}
 use Rattle.items.proofs.ItemLaws.{data-is-byte, bytes-are-items, bytes-have-no-check, items-but-no-check-are-bytes}
 use Rattle.items.proofs.WrittenLaws.{written-of-no-check, length-of-written}
 use Rattle.lengths.specs.Stream.{listRule}
-use Rattle.unique.specs.Streams.{AcceptedList}
+use Rattle.demands.specs.Streams.{AcceptedList}
 
 neither : (a b : Bool) → (a || b) ≡ false → a ≡ false
 neither true b h = absurd (true≢false h)

@@ -6,7 +6,7 @@ use lib.ListN.{length}
 use Rattle.timing.specs.declared.Profile.{Profile}
 use Rattle.lengths.specs.Stream.{streamOf}
 use Rattle.lengths.specs.Margin.{marginRule, IsMargin}
-use Rattle.unique.specs.Streams.{AcceptedProfile, AcceptedList, Moved, ReadsAs, OutputEnough, Misread}
+use Rattle.demands.specs.Streams.{AcceptedProfile, AcceptedList, Moved, ReadsAs, OutputEnough, Misread}
 
 -- the margin we state is the number that the margin operation answers
 abbrev pub stated : Profile → ℕ

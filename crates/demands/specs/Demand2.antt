@@ -13,7 +13,7 @@ use Rattle.lengths.specs.Lengths.{lengthsOf}
 use Rattle.lengths.specs.Stream.{listRule}
 use Rattle.codec.specs.Writer.{writeRule, writeOutput}
 use Rattle.codec.specs.Reader.{readRule}
-use Rattle.unique.specs.Streams.{AcceptedProfile, AcceptedList, ReadsAs}
+use Rattle.demands.specs.Streams.{AcceptedProfile, AcceptedList, ReadsAs}
 
 -- the cells of a list are the classes of the intervals
 abbrev pub CellsAreClasses : Profile → List ℕ → List ℕ → Type 0

@@ -28,13 +28,13 @@ use Rattle.lengths.proofs.NearLaws.{near-of-each, near-at, near-itself, near-st
 use Rattle.lengths.proofs.StreamLaws.{length-fits}
 use Rattle.lengths.proofs.PapersMargin.{margin-is-the-papers, one-byte-is-written}
 use Rattle.codec.specs.Reader.{readRule}
-use Rattle.unique.specs.Streams.{AcceptedProfile, AcceptedList, Moved, ReadsAs, Misread, refused}
-use Rattle.unique.specs.Streams.{another}
-use Rattle.unique.specs.Demand2.{CellsAreClasses}
-use Rattle.unique.specs.Demand3.{stated, Counterexample, Demand3}
-use Rattle.unique.proofs.ListLaws.{listed, one-byte-is-listed}
-use Rattle.unique.proofs.ClassCells.{number-of-units, class-numbers-injective}
-use Rattle.unique.proofs.Demand2.{read-only-lists, one-list, every-list-is-read}
+use Rattle.demands.specs.Streams.{AcceptedProfile, AcceptedList, Moved, ReadsAs, Misread, refused}
+use Rattle.demands.specs.Streams.{another}
+use Rattle.demands.specs.Demand2.{CellsAreClasses}
+use Rattle.demands.specs.Demand3.{stated, Counterexample, Demand3}
+use Rattle.demands.proofs.ListLaws.{listed, one-byte-is-listed}
+use Rattle.demands.proofs.ClassCells.{number-of-units, class-numbers-injective}
+use Rattle.demands.proofs.Demand2.{read-only-lists, one-list, every-list-is-read}
 
 stated-is-the-margin : (p : Profile) → AcceptedProfile p → stated p ≡ marginOf p
 unfolding marginRule

@@ -16,7 +16,7 @@ use Rattle.timing.specs.Class.{classesOf, edgeRule}
 use Rattle.timing.specs.declared.Profile.{Profile}
 use Rattle.symbols.specs.Strip.{stripRule}
 use Rattle.codec.specs.Reader.{cellsRead, itemsOfStream, readRule, readOutput}
-use Rattle.unique.specs.Streams.{ReadsAs}
+use Rattle.demands.specs.Streams.{ReadsAs}
 
 -- each test in its turn
 pub record Passed (p : Profile) (ds : List ℕ) (room : ℕ) : Type 0 where

@@ -10,7 +10,7 @@ use Rattle.timing.specs.Class.{classOf, classesOf}
 use Rattle.lengths.specs.Lengths.{point, symbolAfter, cellLength, lengthsFrom, lengthsOf}
 use Rattle.lengths.specs.Stream.{byteStream, streamOf}
 use Rattle.lengths.specs.Margin.{marginOf, marginRule}
-use Rattle.unique.specs.Settled.{SettledCases}
+use Rattle.demands.specs.Settled.{SettledCases}
 
 pub settled-cases : SettledCases
 unfolding isMark isCheck itemBytes writtenFrom written byteBits withGaps markBits writtenBits allBits bitsOf

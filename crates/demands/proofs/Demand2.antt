@@ -22,11 +22,11 @@ use Rattle.symbols.proofs.UnitLaws.{cells-at-most}
 use Rattle.lengths.specs.Stream.{byteStream, streamOf, listRule}
 use Rattle.codec.specs.Writer.{streamRule, writeRule, writeOutput}
 use Rattle.codec.specs.Reader.{cellsRead, itemsOfStream, readRule}
-use Rattle.unique.specs.Streams.{AcceptedProfile, AcceptedList, ReadsAs}
-use Rattle.unique.specs.Demand2.{CellsAreClasses, Demand2}
-use Rattle.unique.proofs.ListLaws.{listed, bytes-are-accepted}
-use Rattle.unique.proofs.ClassCells.{classes-are-cells, cells-are-classes}
-use Rattle.unique.proofs.ReadLaws.{Passed, passed-of-accepted, reads-as-its-list}
+use Rattle.demands.specs.Streams.{AcceptedProfile, AcceptedList, ReadsAs}
+use Rattle.demands.specs.Demand2.{CellsAreClasses, Demand2}
+use Rattle.demands.proofs.ListLaws.{listed, bytes-are-accepted}
+use Rattle.demands.proofs.ClassCells.{classes-are-cells, cells-are-classes}
+use Rattle.demands.proofs.ReadLaws.{Passed, passed-of-accepted, reads-as-its-list}
 
 -- ---- reading
 
