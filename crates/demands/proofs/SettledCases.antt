@@ -6,7 +6,7 @@ use Rattle.symbols.specs.Bits.{byteBits, withGaps, markBits, writtenBits, allBi
 use Rattle.symbols.specs.Cells.{pairSymbols, symbolsFrom, symbolsOf, writtenSymbols}
 use Rattle.lists.specs.Place.{anywhere, lowest}
 use Rattle.timing.specs.Profile.{unset, isTrue, profileRule}
-use Rattle.timing.specs.Class.{classOf, classesOf}
+use Rattle.timing.specs.Class.{atStart, classIn, cursorPast, classesFrom, classOf, classesOf}
 use Rattle.lengths.specs.Lengths.{point, symbolAfter, cellLength, lengthsFrom, lengthsOf}
 use Rattle.lengths.specs.Stream.{byteStream, streamOf}
 use Rattle.lengths.specs.Margin.{marginOf, marginRule}
@@ -14,7 +14,7 @@ use Rattle.demands.specs.Settled.{SettledCases}
 
 pub settled-cases : SettledCases
 unfolding isMark isCheck itemBytes writtenFrom written byteBits withGaps markBits writtenBits allBits bitsOf
-    pairSymbols symbolsFrom symbolsOf writtenSymbols anywhere lowest unset isTrue profileRule classOf classesOf point
+    pairSymbols symbolsFrom symbolsOf writtenSymbols anywhere lowest unset isTrue profileRule atStart classIn cursorPast classesFrom classOf classesOf point
     symbolAfter cellLength lengthsFrom lengthsOf byteStream streamOf marginOf marginRule
 settled-cases =
     record {

@@ -1,26 +1,19 @@
 -- Why one moved interval breaks a stream: its class is another one, so the stream's classes are other ones, though no
 -- interval is moved by more than n and all still fit 16 bits.
-use Prim.Native.Nat.{ℕ, zero, suc, _<_}
-use native.Mathlib.Omega.{arith}
-use mathlib.Core.Path.{_≡_, refl, sym, ap, _∙_}
+use Prim.Native.Nat.{ℕ}
+use mathlib.Core.Path.{_≡_, sym, ap, _∙_}
 use mathlib.Core.List.{List, [], _∷_}
-use lib.ListN.{length, getD, set}
+use lib.ListN.{getD, set}
 use lib.Seq.{getD-set-same, lt-length-set}
 use Rattle.timing.specs.Class.{classOf, classesOf}
 use Rattle.timing.specs.declared.Profile.{Profile}
 use Rattle.timing.specs.declared.Class.{Class}
 use Rattle.timing.specs.declared.Class.the-variants.{Narrow}
+use Rattle.timing.proofs.ClassLaws.{class-at}
 use Rattle.lengths.specs.Stream.{byteStream}
 use Rattle.lengths.specs.Near.{Near}
 use Rattle.lengths.proofs.NearLaws.{near-with-one-moved}
 use Rattle.lengths.proofs.MarginLaws.{Broken}
-
-class-at :
-    (p : Profile) (ds : List ℕ) (k : ℕ) → k < length ds → getD (classesOf p ds) k Narrow ≡ classOf p (getD ds k 0)
-unfolding classesOf
-class-at p [] k h = absurd (omega arith)
-class-at p (d ∷ ds) zero h = refl
-class-at p (d ∷ ds) (suc k) h = class-at p ds k (omega arith)
 
 module _ {p : Profile} {n : ℕ} (x : Broken p n) where
   -- the stream with that one interval moved

@@ -3,7 +3,7 @@
 -- the same edges.
 use Prim.Native.Nat.{ℕ, _+_, _*_, _≤_, _<_}
 use native.Mathlib.Omega.{arith}
-use mathlib.Core.Path.{_≡_, refl, ap₂}
+use mathlib.Core.Path.{_≡_, ap₂, _∙_}
 use mathlib.Core.List.{List, [], _∷_, map}
 use Rattle.timing.specs.Profile.{swing}
 use Rattle.timing.specs.Class.{classOf, classesOf}
@@ -14,6 +14,7 @@ use Rattle.lengths.specs.Stream.{byteStream}
 use Rattle.lengths.specs.Near.{Near, classOfUnits}
 use Rattle.timing.proofs.ProfileLaws.{Kept}
 use Rattle.timing.proofs.ClassLaws.{class-below-b23-is-two, class-below-b34-is-three, class-below-rpt-is-four}
+use Rattle.timing.proofs.ClassLaws.{classes-of-none, classes-of-cons}
 use Rattle.lengths.proofs.StreamLaws.{Window, two, three, four, Windows, stream-has-windows}
 
 -- m fits between every length and the edges of its class
@@ -38,14 +39,15 @@ module _ {p : Profile} {m : ℕ} (s : Spare p m) where
 
   near-lengths-have-classes :
       (us ls ds : List ℕ) → Windows p us ls → Near m ds ls → classesOf p ds ≡ map classOfUnits us
-  unfolding Windows Near classesOf
-  near-lengths-have-classes [] [] [] w n = refl
+  unfolding Windows Near
+  near-lengths-have-classes [] [] [] w n = classes-of-none p
   near-lengths-have-classes [] [] (d ∷ ds) w n = absurd n
   near-lengths-have-classes [] (l ∷ ls) ds w n = absurd w
   near-lengths-have-classes (u ∷ us) [] ds w n = absurd w
   near-lengths-have-classes (u ∷ us) (l ∷ ls) [] w n = absurd n
   near-lengths-have-classes (u ∷ us) (l ∷ ls) (d ∷ ds) w n =
-      ap₂ (λ (c : Class) (cs : List Class). c ∷ cs) (near-length-has-class d (w .0) (n .0) (n .1))
+      classes-of-cons p d ds
+      ∙ ap₂ (λ (c : Class) (cs : List Class). c ∷ cs) (near-length-has-class d (w .0) (n .0) (n .1))
       (near-lengths-have-classes us ls ds (w .1) (n .2))
 
   pub near-stream-has-classes :

@@ -1,4 +1,5 @@
--- Document 01, "Profile": the class of an interval, and of each interval of a stream. No lemmas here.
+-- Document 01, "Profile": the class of an interval, and of each interval of a list. No lemmas here. A list is classed
+-- from its first interval on, by a cursor that holds what the class of the next interval depends on.
 -- An interval that equals an edge belongs above it (house rule for ties).
 use Prim.Native.Nat.{ℕ, suc}
 use mathlib.Core.Bool.{cond}
@@ -8,21 +9,48 @@ use Rattle.refusal.specs.Answer.{Answer, accepted, refused, firstRefusal}
 use Rattle.timing.specs.Profile.{profileRule}
 use Rattle.timing.specs.declared.Profile.{Profile}
 use Rattle.timing.specs.declared.Class.{Class}
+use Rattle.timing.specs.declared.cursor.Cursor.{Cursor}
+use Rattle.timing.specs.declared.cursor.Classed.{Classed}
 use Rattle.timing.specs.declared.Class.the-variants.{Narrow, Two, Three, Four, Wide}
 
+-- before the first interval of a list
+unfoldable pub atStart : Profile → Cursor
+atStart p = record { min = p .min; b23 = p .b23; b34 = p .b34; rpt = p .rpt }
+
 -- below Min narrow; then below B23 class 2; below B34 class 3; below Rpt class 4; else wide
-unfoldable pub classOf : Profile → ℕ → Class
-classOf p d =
-    cond (ltb d (p .min .0)) Narrow
-    (cond (ltb d (p .b23 .0)) Two
-    (cond (ltb d (p .b34 .0)) Three
-    (cond (ltb d (p .rpt .0)) Four
+unfoldable pub classIn : Cursor → ℕ → Class
+classIn c d =
+    cond (ltb d (c .min .0)) Narrow
+    (cond (ltb d (c .b23 .0)) Two
+    (cond (ltb d (c .b34 .0)) Three
+    (cond (ltb d (c .rpt .0)) Four
     Wide)))
 
--- the class of each interval of a stream
+-- where the classing stands after an interval: the edges are the same for each
+unfoldable pub cursorPast : Cursor → ℕ → Cursor
+cursorPast c d = c
+
+-- one interval more
+abbrev pub classed : Cursor → ℕ → Classed
+classed c d = record { class = classIn c d; next = cursorPast c d }
+
+-- the class of each interval of a list, from where the classing stands on
+unfoldable pub classesFrom : Cursor → List ℕ → List Class
+classesFrom c [] = []
+classesFrom c (d ∷ ds) = classIn c d ∷ classesFrom (cursorPast c d) ds
+
+-- and where it stands after them
+unfoldable pub cursorAfter : Cursor → List ℕ → Cursor
+cursorAfter c [] = c
+cursorAfter c (d ∷ ds) = cursorAfter (cursorPast c d) ds
+
+-- the class of each interval of a list
 unfoldable pub classesOf : Profile → List ℕ → List Class
-classesOf p [] = []
-classesOf p (d ∷ ds) = classOf p d ∷ classesOf p ds
+classesOf p ds = classesFrom (atStart p) ds
+
+-- the class of one interval by itself
+unfoldable pub classOf : Profile → ℕ → Class
+classOf p d = classIn (atStart p) d
 
 -- the number of a class: 1 for narrow and 5 for wide, which the paper does not number
 abbrev pub classNumber : Class → ℕ

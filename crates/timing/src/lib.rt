@@ -4,6 +4,11 @@ ghost use Prim.Native.Nat.{_*_, _<_};
 ghost use Rattle.refusal.specs.Answer.{verdictAnswer, countedAnswer};
 ghost use Rattle.timing.specs.Profile.{firstOutside, lowestUnset, InRange, isTrue, profileRule};
 ghost use Rattle.timing.specs.Class.{classOf, classNumber, classRule};
+
+mod cursor;
+
+pub use cursor::Classed;
+pub use cursor::Cursor;
 use refusal::Counted;
 use refusal::Refusal;
 use refusal::Verdict;
@@ -118,23 +123,12 @@ pub enum Class {
     Wide,
 }
 
-// The class of an interval under a profile that the caller has checked, or does not care to.
+// The class of an interval by itself.
 pub fn classify(p: Profile, interval: u16) -> Class
     ensures { λ r. ⌜ r ≡ classOf p interval ⌝ }
 {
-    if interval < p.min.0 {
-        return Class::Narrow;
-    }
-    if interval < p.b23.0 {
-        return Class::Two;
-    }
-    if interval < p.b34.0 {
-        return Class::Three;
-    }
-    if interval < p.rpt.0 {
-        return Class::Four;
-    }
-    Class::Wide
+    let class = Cursor::start(p).step(interval).class;
+    class
 }
 
 impl Class {
@@ -158,6 +152,9 @@ pub fn class_number(p: Profile, interval: u16) -> Counted
 {
     match check(p) {
         Verdict::Refused(refusal) => Counted::Refused(refusal),
-        Verdict::Accepted => Counted::Count(classify(p, interval).number()),
+        Verdict::Accepted => {
+            let class = Cursor::start(p).step(interval).class;
+            Counted::Count(class.number())
+        }
     }
 }
