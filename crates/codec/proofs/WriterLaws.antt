@@ -2,19 +2,20 @@
 -- room decide. Rests on no axiom.
 use Prim.Native.Nat.{ℕ, _+_, _*_, _≤_}
 use mathlib.Core.Path.{_≡_, refl, sym, ap, _∙_}
-use mathlib.Core.Bool.{Bool, true, false, _||_, true≢false}
+use mathlib.Core.Bool.{true, false}
 use mathlib.Core.List.{List, [], _∷_, _++_}
-use lib.Dec.{ltb, leb}
+use lib.Dec.{leb}
 use native.Mathlib.Omega.{arith}
 use lib.ListN.{length, length-append, take}
 use lib.Seq.{sets, length-sets, length-take-le}
-use borrow.Author.Tests.{lt-ltb, le-ltb, ltb-false, leb-true, leb-false}
+use borrow.Author.Tests.{lt-ltb, le-ltb, leb-true, leb-false}
 use Rattle.lists.specs.Filled.{storedAt}
 use Rattle.lists.proofs.StoreLaws.{stored-after-stored, stored-at-front-fills}
 use Rattle.refusal.specs.Answer.{Answer, accepted, refused, settled}
-use Rattle.refusal.proofs.AnswerLaws.{first-refusal-passes, refuse-if-accepts}
+use Rattle.refusal.proofs.AnswerLaws.{first-refusal-passes}
 use Rattle.items.specs.Item.{writtenBytes}
 use Rattle.items.specs.Written.{writtenFrom, written}
+use Rattle.items.specs.Rule.{listRule}
 use Rattle.items.specs.declared.Check.{Check}
 use Rattle.items.proofs.ItemLaws.{written-bytes-bounds}
 use Rattle.items.proofs.WrittenLaws.{front-of-stored-bytes}
@@ -23,7 +24,7 @@ use Rattle.symbols.proofs.BytesLaws.{length-of-bits}
 use Rattle.timing.specs.Profile.{profileRule}
 use Rattle.timing.specs.declared.Profile.{Profile}
 use Rattle.lengths.specs.Pen.{inked, penAfter, freshPen}
-use Rattle.lengths.specs.Stream.{byteStream, streamOf, listRule}
+use Rattle.lengths.specs.Stream.{byteStream, streamOf}
 use Rattle.lengths.specs.declared.pen.Pen.{Pen}
 use Rattle.lengths.proofs.PenLaws.{pen-gives-the-stream, inked-append}
 use Rattle.codec.specs.Writer.{streamRule, writeRule, writeOutput}
@@ -91,18 +92,6 @@ module _ (p : Profile) (ws old : List ℕ) where
       let h = leb-true (length (byteStream p ws)) (length old) e in
       rw (le-ltb (length old) (length (byteStream p ws)) h)
       (ap accepted counted, stores ∙ stored-at-front-fills (byteStream p ws) old h)
-
--- an accepted list writes at most 6,400 bytes
-both-false : (a b : Bool) → (a || b) ≡ false → b ≡ false
-both-false true b h = absurd (true≢false h)
-both-false false b h = h
-
-pub few-bytes : (items : List ℕ) → listRule items .number ≡ 0 → writtenBytes items ≤ 6400
-unfolding listRule
-few-bytes items h =
-    let counts = refuse-if-accepts (ltb 6400 (length items) || ltb 6400 (writtenBytes items)) 3 0 _ h in
-    ltb-false 6400 (writtenBytes items)
-    (both-false (ltb 6400 (length items)) (ltb 6400 (writtenBytes items)) (counts .0))
 
 module _ (p : Profile) (items old : List ℕ) where
   pub rule-of-stream

@@ -7,7 +7,8 @@ use Rattle.refusal.specs.Answer.{Answer, accepted, refuseIf, firstRefusal, sett
 use Rattle.timing.specs.Profile.{profileRule}
 use Rattle.timing.specs.declared.Profile.{Profile}
 use Rattle.items.specs.Written.{written}
-use Rattle.lengths.specs.Stream.{byteStream, streamOf, listRule}
+use Rattle.items.specs.Rule.{listRule}
+use Rattle.lengths.specs.Stream.{byteStream, streamOf}
 
 -- 9, full: the stream of written bytes and an output of `room` places
 unfoldable pub streamRule : Profile → List ℕ → ℕ → Answer

@@ -4,13 +4,14 @@ ghost use mathlib.Core.Path.{_≡_};
 ghost use lib.Dec.{leb};
 ghost use lib.ListN.{length};
 ghost use Rattle.lists.specs.Filled.{storedAt};
-ghost use Rattle.refusal.specs.Answer.{verdictAnswer, countedAnswer};
+ghost use Rattle.refusal.specs.Answer.{countedAnswer};
 ghost use Rattle.items.specs.Item.{writtenBytes};
 ghost use Rattle.items.specs.Written.{afterBytes, writtenFrom, written};
 ghost use Rattle.symbols.specs.Bits.{allBits};
 ghost use Rattle.timing.specs.Profile.{profileRule};
 ghost use Rattle.lengths.specs.Pen.{Steady};
-ghost use Rattle.lengths.specs.Stream.{listRule, byteStream};
+ghost use Rattle.items.specs.Rule.{listRule};
+ghost use Rattle.lengths.specs.Stream.{byteStream};
 ghost use Rattle.codec.specs.Output.{freshTrack, Inks};
 ghost use Rattle.codec.specs.Writer.{writeRule, writeOutput};
 use crate::track::Track;
@@ -101,23 +102,6 @@ fn has_room(p: Profile, items: &[u16], room: usize) -> bool
     count <= room
 }
 
-// Whether the list may be written: 4, then 3.
-fn check_list(items: &[u16]) -> Verdict
-    ensures { λ r. ⌜ verdictAnswer r ≡ listRule (now (items .entry)) ⌝ }
-{
-    if 6400 < items.len() {
-        return Verdict::Refused(Refusal::TooLong);
-    }
-    if 6400 < items::written_bytes(items) {
-        return Verdict::Refused(Refusal::TooLong);
-    }
-    let k = items::find_foreign(items);
-    if k < items.len() {
-        return Verdict::Refused(Refusal::NotAnItem(k as u32));
-    }
-    Verdict::Accepted
-}
-
 // An accepted list under an accepted profile: 9, or its stream.
 fn write_list(p: Profile, items: &[u16], out: &mut [u16]) -> Counted
     requires { ⌜ profileRule p .number ≡ 0 ⌝ }
@@ -139,7 +123,7 @@ pub fn write(p: Profile, items: &[u16], out: &mut [u16]) -> Counted
 {
     match timing::check(p) {
         Verdict::Refused(refusal) => Counted::Refused(refusal),
-        Verdict::Accepted => match check_list(items) {
+        Verdict::Accepted => match items::check_list(items) {
             Verdict::Refused(refusal) => Counted::Refused(refusal),
             Verdict::Accepted => write_list(p, items, out),
         },

@@ -19,7 +19,8 @@ use Rattle.symbols.specs.Strip.{stripRule, stripItems}
 use Rattle.symbols.specs.declared.Cell.{Cell}
 use Rattle.symbols.proofs.RoundTripLaws.{cells-are-read, read-back, rule-of-write, cells-injective, write-of-read}
 use Rattle.symbols.proofs.UnitLaws.{cells-at-most}
-use Rattle.lengths.specs.Stream.{byteStream, streamOf, listRule}
+use Rattle.items.specs.Rule.{listRule}
+use Rattle.lengths.specs.Stream.{byteStream, streamOf}
 use Rattle.codec.specs.Writer.{streamRule, writeRule, writeOutput}
 use Rattle.codec.specs.Reader.{cellsRead, itemsOfStream, readRule}
 use Rattle.demands.specs.Streams.{AcceptedProfile, AcceptedList, ReadsAs}

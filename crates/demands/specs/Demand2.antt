@@ -6,11 +6,11 @@ use lib.ListN.{length}
 use Rattle.lists.specs.Filled.{filled}
 use Rattle.refusal.specs.Answer.{accepted}
 use Rattle.items.specs.Written.{written}
+use Rattle.items.specs.Rule.{listRule}
 use Rattle.timing.specs.Class.{classesOf, classNumber}
 use Rattle.timing.specs.declared.Profile.{Profile}
 use Rattle.symbols.specs.Cells.{writtenSymbols, writtenCells}
 use Rattle.lengths.specs.Lengths.{lengthsOf}
-use Rattle.lengths.specs.Stream.{listRule}
 use Rattle.codec.specs.Writer.{writeRule, writeOutput}
 use Rattle.codec.specs.Reader.{readRule}
 use Rattle.demands.specs.Streams.{AcceptedProfile, AcceptedList, ReadsAs}

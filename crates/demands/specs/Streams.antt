@@ -7,9 +7,9 @@ use lib.ListN.{length, getD, take}
 use Rattle.lists.specs.Place.{anywhere}
 use Rattle.refusal.specs.Answer.{accepted}
 use Rattle.items.specs.Item.{isCheck}
+use Rattle.items.specs.Rule.{listRule}
 use Rattle.timing.specs.Profile.{profileRule}
 use Rattle.timing.specs.declared.Profile.{Profile}
-use Rattle.lengths.specs.Stream.{listRule}
 use Rattle.codec.specs.Reader.{readRule, readOutput}
 
 -- a profile is accepted if neither 1 nor 2 turns it away

@@ -4,3 +4,4 @@ pub mod ItemLaws
 pub mod CheckLaws
 pub mod WrittenLaws
 pub mod CheckFacts
+pub mod RuleLaws

@@ -1,3 +1,4 @@
 pub mod Item
 pub mod Register
 pub mod Written
+pub mod Rule

@@ -1,11 +1,19 @@
-// Lists of items: how many bytes they write, which number is no item, and the bytes themselves.
+// Lists of items: how many bytes they write, which number is no item, whether they are accepted, and the bytes
+// themselves.
 use crate::Check;
 ghost use mathlib.Core.Path.{_≡_};
 ghost use lib.ListN.{set};
 ghost use lib.Seq.{sets};
 ghost use Rattle.lists.specs.Place.{lowest};
+ghost use Rattle.refusal.specs.Answer.{verdictAnswer};
 ghost use Rattle.items.specs.Item.{isForeign, writtenBytes};
 ghost use Rattle.items.specs.Written.{afterBytes, itemBytes, writtenFrom};
+ghost use Rattle.items.specs.Rule.{listRule};
+use refusal::Refusal;
+use refusal::Verdict;
+
+// The most items, and the most written bytes, that a list may have.
+const MAX_BYTES: usize = 6400;
 
 // How many bytes a list writes.
 pub fn written_bytes(items: &[u16]) -> usize
@@ -33,6 +41,23 @@ pub fn find_foreign(items: &[u16]) -> usize
         }
     }
     k
+}
+
+// Whether the list may be written: 4, then 3.
+pub fn check_list(items: &[u16]) -> Verdict
+    ensures { λ r. ⌜ verdictAnswer r ≡ listRule (now (items .entry)) ⌝ }
+{
+    if MAX_BYTES < items.len() {
+        return Verdict::Refused(Refusal::TooLong);
+    }
+    if MAX_BYTES < written_bytes(items) {
+        return Verdict::Refused(Refusal::TooLong);
+    }
+    let k = find_foreign(items);
+    if k < items.len() {
+        return Verdict::Refused(Refusal::NotAnItem(k as u32));
+    }
+    Verdict::Accepted
 }
 
 // Past the end nothing is stored.

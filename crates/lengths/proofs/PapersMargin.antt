@@ -11,11 +11,12 @@ use borrow.Author.Tests.{lt-ltb, ne-eqb}
 use Rattle.lists.specs.Place.{anywhere}
 use Rattle.items.specs.Item.{isByte, isItem, isCheck, isForeign, bytesOf, writtenBytes}
 use Rattle.items.specs.Written.{written}
+use Rattle.items.specs.Rule.{listRule}
 use Rattle.items.proofs.ItemLaws.{data-is-byte, byte-is-no-check}
 use Rattle.items.proofs.WrittenLaws.{written-of-no-check}
 use Rattle.timing.specs.declared.Profile.{Profile}
 use Rattle.symbols.specs.Cells.{writtenCells}
-use Rattle.lengths.specs.Stream.{byteStream, streamOf, listRule}
+use Rattle.lengths.specs.Stream.{byteStream, streamOf}
 use Rattle.lengths.specs.Margin.{Keeps, marginOf}
 use Rattle.lengths.specs.Claims.{MarginIsThePapers}
 use Rattle.timing.proofs.ProfileLaws.{Kept, kept}

@@ -9,7 +9,8 @@ use Rattle.refusal.specs.Answer.{Answer, accepted, firstRefusal}
 use Rattle.timing.specs.Profile.{swing, profileRule}
 use Rattle.timing.specs.Class.{classOf}
 use Rattle.timing.specs.declared.Profile.{Profile}
-use Rattle.lengths.specs.Stream.{streamOf, listRule}
+use Rattle.items.specs.Rule.{listRule}
+use Rattle.lengths.specs.Stream.{streamOf}
 
 -- all lengths that any accepted list can have, made longer or shorter by up to m, keep their class
 abbrev pub Keeps : Profile → ℕ → Type 0

@@ -12,12 +12,12 @@ use Rattle.lists.proofs.PlaceLaws.{anywhere-of-none, anywhere-of-failing, anywh
 use Rattle.lists.proofs.PlaceLaws.{everywhere-of-passing, everywhere-of-append, everywhere-of-replicate}
 use Rattle.items.specs.Item.{isByte, isMark, isCheck, isItem, isForeign, writtenBytes}
 use Rattle.items.specs.Written.{fresh, afterBytes, checkBytes, writtenFrom, written}
+use Rattle.items.specs.Rule.{listRule}
 use Rattle.items.specs.declared.Check.{Check}
 use Rattle.items.proofs.ItemLaws.{data-is-byte, bytes-are-items, bytes-have-no-check, item-is-not-foreign}
 use Rattle.items.proofs.CheckLaws.{unmarked-after-data, mark-starts-again}
 use Rattle.items.proofs.CheckFacts.{written-from-of-check-at-end}
 use Rattle.items.proofs.WrittenLaws.{written-from-of-append, written-from-of-no-check}
-use Rattle.lengths.specs.Stream.{listRule}
 use Rattle.sectors.specs.Sector.{opening, identity, sectorItems}
 use Rattle.sectors.proofs.SectorCounts.{size-at-most-1024, sector-counts}
 use Rattle.readback.specs.SectorReads.{withCheck, Made, idField, dataField}

@@ -12,9 +12,10 @@ use Rattle.timing.specs.Class.{classesOf}
 use Rattle.timing.specs.declared.Profile.{Profile}
 use Rattle.items.specs.Item.{isByte}
 use Rattle.items.specs.Written.{fresh, afterBytes, checkBytes}
+use Rattle.items.specs.Rule.{listRule}
 use Rattle.symbols.specs.Bits.{O, allBits}
 use Rattle.symbols.specs.Cells.{symbolsOf, cellsOf}
-use Rattle.lengths.specs.Stream.{streamOf, listRule}
+use Rattle.lengths.specs.Stream.{streamOf}
 use Rattle.fields.specs.Lock.{findRule}
 use Rattle.fields.specs.Field.{fieldUsed}
 use Rattle.fields.specs.FieldRule.{fieldReading, fieldOutput}

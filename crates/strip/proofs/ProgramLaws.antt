@@ -21,10 +21,11 @@ use Rattle.timing.specs.Profile.{profileRule}
 use Rattle.timing.specs.declared.Profile.{Profile}
 use Rattle.items.specs.Item.{writtenBytes}
 use Rattle.items.specs.Written.{written}
+use Rattle.items.specs.Rule.{listRule}
 use Rattle.items.proofs.ItemLaws.{written-bytes-bounds}
 use Rattle.items.proofs.WrittenLaws.{length-of-written}
 use Rattle.symbols.proofs.UnitLaws.{cells-at-most}
-use Rattle.lengths.specs.Stream.{byteStream, streamOf, listRule}
+use Rattle.lengths.specs.Stream.{byteStream, streamOf}
 use Rattle.lengths.specs.Margin.{marginOf, marginRule}
 use Rattle.lengths.proofs.StreamLaws.{stream-is-as-long-as-its-cells}
 use Rattle.codec.specs.Writer.{streamRule, writeRule, writeOutput}

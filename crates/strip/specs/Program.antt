@@ -8,7 +8,8 @@ use Rattle.refusal.specs.Answer.{Answer, accepted, refuseIf, firstRefusal}
 use Rattle.timing.specs.Profile.{profileRule}
 use Rattle.timing.specs.declared.Profile.{Profile}
 use Rattle.items.specs.Item.{writtenBytes}
-use Rattle.lengths.specs.Stream.{streamOf, listRule}
+use Rattle.items.specs.Rule.{listRule}
+use Rattle.lengths.specs.Stream.{streamOf}
 use Rattle.lengths.specs.Margin.{marginOf}
 use Rattle.script.specs.Input.{inputRule, profileIn, itemsIn}
 use Rattle.strip.specs.Output.{refusalText, reportText}

@@ -3,7 +3,8 @@
 use mathlib.Core.Path.{sym, _∙_}
 use denote.Ref.{now}
 use Rattle.items.specs.Written.{written}
-use Rattle.codec.proofs.WriterLaws.{few-bytes, too-short, long-enough, rule-of-stream, output-of-stream}
+use Rattle.items.proofs.RuleLaws.{listed}
+use Rattle.codec.proofs.WriterLaws.{too-short, long-enough, rule-of-stream, output-of-stream}
 use borrow.Author.Needs.{needs}
 use Rattle.codec.proofs.writer.write_list.Statement.{statement}
 use Rattle.codec.proofs.writer.write_list.Tie as tie
@@ -11,12 +12,12 @@ use Rattle.codec.proofs.writer.write_list.Tie as tie
 has-room-requires : tie.Need-has-room-requires
 has-room-requires c κs =
     let pre = c .before .before .pre in
-    (pre .0, few-bytes _ (pre .1))
+    (pre .0, listed _ (pre .1) .few-bytes)
 
 write-stream-requires : tie.Need-write-stream-requires
 write-stream-requires c κs =
     let pre = c .before .before .before .before .before .pre in
-    (pre .0, few-bytes _ (pre .1))
+    (pre .0, listed _ (pre .1) .few-bytes)
 
 same-length : tie.Need-same-length
 same-length c = search needs

@@ -1,16 +1,21 @@
--- The rule for a list by its tests: the counts first, then the lowest number that is no item. Rests on no axiom.
+-- The rule for a list by its tests: the counts first, then the lowest number that is no item; and what an accepted list
+-- is. Rests on no axiom.
 use Prim.Native.Nat.{ℕ, _≤_, _<_}
 use mathlib.Core.Path.{_≡_, refl, sym, ap, _∙_}
-use mathlib.Core.Bool.{Bool, true, false, cond, or-true}
+use mathlib.Core.Bool.{Bool, true, false, cond, _||_, or-true, true≢false}
 use mathlib.Core.List.{List}
 use native.Mathlib.Omega.{arith}
+use lib.Dec.{ltb}
 use lib.ListN.{length}
-use borrow.Author.Tests.{lt-ltb, le-ltb}
-use Rattle.lists.specs.Place.{anywhere, lowest}
+use borrow.Author.Tests.{lt-ltb, le-ltb, ltb-false}
+use Rattle.lists.specs.Place.{anywhere, everywhere, lowest}
 use Rattle.lists.proofs.PlaceLaws.{lowest-of-none, lowest-of-some}
 use Rattle.refusal.specs.Answer.{accepted, refused}
-use Rattle.items.specs.Item.{isForeign, writtenBytes}
-use Rattle.lengths.specs.Stream.{listRule}
+use Rattle.refusal.proofs.AnswerLaws.{refuse-if-accepts}
+use Rattle.items.specs.Item.{isByte, isForeign, writtenBytes}
+use Rattle.items.specs.Rule.{listRule}
+use Rattle.items.proofs.ItemLaws.{bytes-are-items, bytes-have-no-check}
+use Rattle.items.proofs.WrittenLaws.{written-of-no-check, length-of-written}
 
 module _ (ns : List ℕ) where
   pub rule-of-too-many : 6400 < length ns → refused 4 0 ≡ listRule ns
@@ -66,3 +71,34 @@ module _ (ns : List ℕ) where
       let none : anywhere isForeign ns ≡ false = not-found (anywhere isForeign ns) refl (rw (← place) h) in
       sym (ap (λ (t : Bool). cond t (refused 3 (lowest isForeign ns)) (accepted 0)) none)
       ∙ within-counts n k few e few-bytes
+
+-- ---- accepted lists
+
+neither : (a b : Bool) → (a || b) ≡ false → (a ≡ false) × (b ≡ false)
+neither true b h = absurd (true≢false h)
+neither false b h = (refl, h)
+
+pub record Listed (items : List ℕ) : Type 0 where
+  pub few-items : length items ≤ 6400
+  pub few-bytes : writtenBytes items ≤ 6400
+  pub none-foreign : anywhere isForeign items ≡ false
+
+pub listed : (items : List ℕ) → listRule items .number ≡ 0 → Listed items
+unfolding listRule
+listed items h =
+    let counts = refuse-if-accepts (ltb 6400 (length items) || ltb 6400 (writtenBytes items)) 3 0 _ h in
+    let few = neither (ltb 6400 (length items)) (ltb 6400 (writtenBytes items)) (counts .0) in
+    let foreign = refuse-if-accepts (anywhere isForeign items) 2 (lowest isForeign items) _ (counts .1) in
+    record {
+      few-items = ltb-false 6400 (length items) (few .0);
+      few-bytes = ltb-false 6400 (writtenBytes items) (few .1);
+      none-foreign = foreign .0;
+    }
+
+-- every list of at most 6,400 data and mark bytes is accepted
+pub bytes-are-listed : (ws : List ℕ) → everywhere isByte ws ≡ true → length ws ≤ 6400 → listRule ws ≡ accepted 0
+unfolding listRule
+bytes-are-listed ws bytes few =
+    let none = bytes-have-no-check ws bytes in
+    let count : writtenBytes ws ≡ length ws = sym (length-of-written ws) ∙ ap length (written-of-no-check ws none) in
+    rw (count, le-ltb 6400 (length ws) few, bytes-are-items ws bytes)

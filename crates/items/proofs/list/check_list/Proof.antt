@@ -1,8 +1,8 @@
--- Why `codec::writer::check_list` answers `listRule`: it makes the rule's tests in the rule's order. Rests on no axiom.
-use Rattle.codec.proofs.ListLaws.{rule-of-too-many, rule-of-too-many-bytes, rule-of-foreign, rule-of-accepted}
+-- Why `items::check_list` answers `listRule`: it makes the rule's tests in the rule's order. Rests on no axiom.
+use Rattle.items.proofs.RuleLaws.{rule-of-too-many, rule-of-too-many-bytes, rule-of-foreign, rule-of-accepted}
 use borrow.Author.Needs.{needs}
-use Rattle.codec.proofs.writer.check_list.Statement.{statement}
-use Rattle.codec.proofs.writer.check_list.Tie as tie
+use Rattle.items.proofs.list.check_list.Statement.{statement}
+use Rattle.items.proofs.list.check_list.Tie as tie
 
 returns : tie.Need-returns
 returns c = rule-of-too-many _ (c .if1 .taken)
