@@ -7,8 +7,12 @@
  *
  * Common to all functions
  *
+ *   Built for x86-64 processors (System V calling convention) alone, today.
+ *
  *   No state, no heap, no input or output. Every function is a plain function of its arguments, so calls on buffers of
- *   their own may run at the same time, also from an interrupt.
+ *   their own may run at the same time. From an interrupt handler too, if the handler keeps what the code uses as any
+ *   compiled code does: the SSE registers, and the 128 bytes below the stack pointer that the convention gives to the
+ *   code that was interrupted (the red zone). docs/BENCHMARKS.md gives the stack of each function, 3 KB at most.
  *
  *   Every argument value is answered. A refusal comes back in `number` and `place`, changes no buffer, and leaves
  *   `count`, `used` and `holds` 0. When several causes hold at once, the first in the order listed at the function is
