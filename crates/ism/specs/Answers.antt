@@ -1,26 +1,21 @@
 -- The C interface: a profile and an answer as they cross it. No lemmas here.
 use Prim.Native.Nat.{ℕ}
 use mathlib.Core.Bool.{Bool, true, false}
+use mathlib.Core.List.{List, [], _∷_}
 use Rattle.refusal.specs.Answer.{Answer}
 use Rattle.fields.specs.FieldRule.{FieldAnswer}
+use Rattle.timing.specs.Numbers.{fromNumbers}
 use Rattle.timing.specs.declared.Profile.{Profile}
 use Rattle.ism.specs.declared.IsmProfile.{IsmProfile}
 use Rattle.ism.specs.declared.IsmAnswer.{IsmAnswer}
 
--- the nine numbers, in document 01's order
+-- its numbers, in document 01's order
+abbrev pub numbersOf : IsmProfile → List ℕ
+numbersOf p =
+    p .t1 ∷ p .t0 ∷ p .early ∷ p .normal ∷ p .late ∷ p .min ∷ p .b23 ∷ p .b34 ∷ p .rpt ∷ []
+
 abbrev pub profileOf : IsmProfile → Profile
-profileOf p =
-    record {
-      t1 = record { 0 = p .t1 };
-      t0 = record { 0 = p .t0 };
-      early = record { 0 = p .early };
-      normal = record { 0 = p .normal };
-      late = record { 0 = p .late };
-      min = record { 0 = p .min };
-      b23 = record { 0 = p .b23 };
-      b34 = record { 0 = p .b34 };
-      rpt = record { 0 = p .rpt };
-    }
+profileOf p = fromNumbers (numbersOf p)
 
 -- number, place and count of document 01, the rest 0
 abbrev pub given : Answer → IsmAnswer

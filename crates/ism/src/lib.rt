@@ -9,8 +9,6 @@ ghost use Rattle.codec.specs.Writer.{writeRule, writeOutput};
 ghost use Rattle.codec.specs.Reader.{readRule, readOutput};
 ghost use Rattle.ism.specs.Answers.{profileOf, given};
 use refusal::Counted;
-use timing::Clocks;
-use timing::HalfClocks;
 use timing::Profile;
 
 pub mod disk;
@@ -42,17 +40,18 @@ pub struct IsmAnswer {
 fn profile(p: IsmProfile) -> Profile
     ensures { λ r. ⌜ r ≡ profileOf p ⌝ }
 {
-    Profile {
-        t1: HalfClocks(p.t1),
-        t0: HalfClocks(p.t0),
-        early: Clocks(p.early),
-        normal: Clocks(p.normal),
-        late: Clocks(p.late),
-        min: HalfClocks(p.min),
-        b23: HalfClocks(p.b23),
-        b34: HalfClocks(p.b34),
-        rpt: HalfClocks(p.rpt),
-    }
+    let numbers = [
+        p.t1,
+        p.t0,
+        p.early,
+        p.normal,
+        p.late,
+        p.min,
+        p.b23,
+        p.b34,
+        p.rpt,
+    ];
+    Profile::from_numbers(&numbers)
 }
 
 fn answer(counted: Counted) -> IsmAnswer

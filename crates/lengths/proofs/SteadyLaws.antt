@@ -29,7 +29,9 @@ module _ {p : Profile} {pen : Pen} (s : Steady p pen) where
   steady-has-few-zeros = few (pen .within) (pen .last) (pen .zeros) (s .few-zeros)
 
   pub steady-zeros-take-little : pen .zeros * p .t0 .0 ≤ 4 * 1023
-  steady-zeros-take-little = mul-le-mul steady-has-few-zeros (steady-is-kept .ranges .t0-high)
+  steady-zeros-take-little =
+      let t0 : p .t0 .0 ≤ 1023 = omega (arith, steady-is-kept) in
+      mul-le-mul steady-has-few-zeros t0
 
 pub point-is-in-range :
     {p : Profile}

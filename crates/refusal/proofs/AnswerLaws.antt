@@ -2,7 +2,7 @@
 -- is. Rests on no axiom.
 use Prim.Native.Nat.{ℕ, suc}
 use mathlib.Core.Path.{_≡_, refl, sym, ap, _∙_}
-use mathlib.Core.Bool.{Bool, true, false, cond}
+use mathlib.Core.Bool.{Bool, true, false, cond, false≢true}
 use mathlib.Core.List.{List}
 use native.Mathlib.Omega.{arith}
 use lib.Dec.{eqb}
@@ -99,3 +99,22 @@ refuse-if-passes t n p later h = rw h
 pub acceptance-fills-the-buffer
     : (rule : Answer) (result old : List ℕ) → rule .number ≡ 0 → settled rule result old ≡ filled result old
 acceptance-fills-the-buffer rule result old h = rw (eq-eqb _ 0 h)
+
+-- a refusal that came before an acceptance is the earlier answer
+pub refused-earlier : (r : Refusal) (rule : Answer) (n : ℕ)
+    → refused (numberOf r) (placeOf r) ≡ firstRefusal rule (accepted n)
+    → refused (numberOf r) (placeOf r) ≡ rule
+refused-earlier r rule n e = by-test (eqb (rule .number) 0) e
+  where
+    by-test : (t : Bool)
+        → refused (numberOf r) (placeOf r) ≡ cond t (accepted n) rule
+        → refused (numberOf r) (placeOf r) ≡ rule
+    by-test true q =
+        absurd (false≢true (sym (number-is-not-zero r) ∙ eq-eqb (numberOf r) 0 (ap (λ (a : Answer). a .number) q)))
+    by-test false q = q
+
+-- an acceptance after an earlier answer
+pub accepted-later : (rule : Answer) (m n : ℕ) → accepted m ≡ firstRefusal rule (accepted n) → (rule .number ≡ 0) × (m ≡ n)
+accepted-later rule m n e =
+    let both = first-refusal-accepts rule (accepted n) (sym (ap (λ (a : Answer). a .number) e)) in
+    (both .0, ap (λ (a : Answer). a .count) (e ∙ first-refusal-passes rule (accepted n) (both .0)))

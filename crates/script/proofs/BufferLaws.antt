@@ -1,63 +1,89 @@
--- A buffer whose first places hold a list, as far as it has room: what was cut off at the buffer's end stays cut off,
--- whatever comes after. Rests on no axiom.
-use Prim.Native.Nat.{ℕ, zero, suc, _+_, _≤_, _<_}
+-- Items stored in a buffer, one run after the other: two runs are one, and a run from the front fills it as far as it
+-- has room, since what is stored past the end changes nothing. Rests on no axiom.
+use Prim.Native.Nat.{ℕ, _+_, _≤_, _<_}
 use mathlib.Core.Path.{_≡_, refl, sym, _∙_, ap, subst}
 use mathlib.Core.Bool.{Bool, true, false}
-use mathlib.Core.List.{List, [], _∷_, _++_, append-assoc, append-nil}
-use native.Mathlib.Numerals.{add-one}
+use mathlib.Core.List.{List, [], _++_}
+use native.Mathlib.Nat.{add-zero, zero-add}
 use native.Mathlib.Omega.{arith}
-use lib.ListN.{length, take, set, length-set, length-append}
-use lib.Seq.{take-suc-set, take-all, take-at, length-take-le}
-use Rattle.script.specs.Read.{Holds, ItemsRead, joined}
+use lib.Dec.{ltb}
+use lib.ListN.{length, take, drop, length-append, take-append-drop}
+use lib.Seq.{length-take-le, take-all}
+use borrow.Author.Tests.{ltb-true, ltb-false}
+use Rattle.lists.specs.Filled.{filled, storedAt}
+use Rattle.lists.proofs.FilledLaws.{sets-past-end}
+use Rattle.lists.proofs.StoreLaws.{stored-after-stored, stored-at-front-fills, stored-length, stored-none}
+use Rattle.script.specs.Read.{ItemsRead, Stored, within}
 use Rattle.script.specs.declared.ItemLine.the-variants.{Items, Faulty}
 
-cut-of-cut : (k : ℕ) (a b : List ℕ) → take k (take k a ++ b) ≡ take k (a ++ b)
-cut-of-cut zero a b = refl
-cut-of-cut (suc k) [] b = refl
-cut-of-cut (suc k) (x ∷ a) b = ap (λ (l : List ℕ). x ∷ l) (cut-of-cut k a b)
+-- what is left to store comes out as all of it did at first
+abbrev pub Storing : List ℕ → ℕ → List ℕ → List ℕ → ℕ → List ℕ → Type 0
+Storing buffer n left buffer₀ n₀ items =
+    (n + length left ≡ n₀ + length items) × (storedAt buffer n left ≡ storedAt buffer₀ n₀ items)
 
--- one item more
-module _ (buffer : List ℕ) (n x : ℕ) where
-  pub pushed-with-room : n < length buffer → Holds (set buffer n x) (n + 1) (joined buffer n (x ∷ []))
-  pushed-with-room h =
-      record {
-        fits = simp length-set (omega arith);
-        front =
-            rw add-one
-            (take-suc-set buffer n x h
-            ∙ sym
-            (take-all (length buffer) (take n buffer ++ (x ∷ []))
-            (omega (arith, length-append (take n buffer) (x ∷ []), length-take-le n buffer (omega arith)))));
-      }
+pub all-is-left : (buffer : List ℕ) (n : ℕ) (items : List ℕ) → Storing buffer n items buffer n items
+all-is-left buffer n items = (refl, refl)
 
-  pub pushed-without-room : length buffer ≤ n → n ≤ length buffer → Holds buffer n (joined buffer n (x ∷ []))
-  pushed-without-room h k =
-      record {
-        fits = k;
-        front = sym (take-at (take n buffer) (x ∷ []) (length buffer) (length-take-le n buffer k ∙ omega arith));
-      }
+-- a run was stored, and the rest is left
+pub rest-is-left : (buffer after : List ℕ) (n m : ℕ) (run rest : List ℕ) (buffer₀ : List ℕ) (n₀ : ℕ) (items : List ℕ)
+    → Stored buffer n run m after
+    → Storing buffer n (run ++ rest) buffer₀ n₀ items
+    → Storing after m rest buffer₀ n₀ items
+rest-is-left buffer after n m run rest buffer₀ n₀ items s left = (
+  omega (arith, s .size, left .0, length-append run rest),
+  ap (λ (l : List ℕ). storedAt l m rest) (s .output) ∙ stored-after-stored run rest buffer n m (s .size) ∙ left .1,
+)
 
--- what a buffer holds, it holds with nothing after it
-pub joined-with-none : (buffer : List ℕ) (n : ℕ) → n ≤ length buffer → take n buffer ≡ joined buffer n []
-joined-with-none buffer n h =
-    rw append-nil (sym (take-all (length buffer) (take n buffer) (omega (arith, length-take-le n buffer h))))
+pub nothing-is-left : (buffer : List ℕ) (n : ℕ) (buffer₀ : List ℕ) (n₀ : ℕ) (items : List ℕ)
+    → Storing buffer n [] buffer₀ n₀ items
+    → Stored buffer₀ n₀ items n buffer
+nothing-is-left buffer n buffer₀ n₀ items left =
+    record { size = sym (add-zero n) ∙ left .0; output = sym (stored-none buffer n) ∙ left .1 }
 
--- a list after a list that was joined
-pub joined-again : (buffer after : List ℕ) (count n : ℕ) (a b : List ℕ)
-    → length after ≡ length buffer
-    → Holds after n (joined buffer count a)
-    → joined after n b ≡ joined buffer count (a ++ b)
-joined-again buffer after count n a b e h =
-    rw (e, h .front, cut-of-cut (length buffer) (take count buffer ++ a) b, append-assoc (take count buffer) a b)
+-- a run from the front
+past-end : (l : List ℕ) (i : ℕ) (vs : List ℕ) → length l ≤ i → storedAt l i vs ≡ l
+unfolding storedAt
+past-end l i vs h = sets-past-end l i vs h
+
+stored-beyond : (buffer items : List ℕ) → length buffer ≤ length items
+    → storedAt buffer 0 items ≡ filled (within buffer items) buffer
+stored-beyond buffer items h =
+    let room = length buffer in
+    let size : length (take room items) ≡ room = length-take-le room items h in
+    let front = storedAt buffer 0 (take room items) in
+    let same : length front ≡ room = stored-length buffer 0 (take room items) in
+    ap (storedAt buffer 0) (sym (take-append-drop room items))
+    ∙ sym (stored-after-stored (take room items) (drop room items) buffer 0 room (sym size ∙ sym (zero-add _)))
+    ∙ past-end front room (drop room items) (omega arith)
+    ∙ stored-at-front-fills (take room items) buffer (omega arith)
+
+pub stored-as-far-as-there-is-room : (buffer items : List ℕ)
+    → storedAt buffer 0 items ≡ filled (within buffer items) buffer
+stored-as-far-as-there-is-room buffer items =
+    by-test (ltb (length buffer) (length items)) (ltb-true _ _) (ltb-false _ _)
+  where
+    by-test : (t : Bool)
+        → (t ≡ true → length buffer < length items)
+        → (t ≡ false → length items ≤ length buffer)
+        → storedAt buffer 0 items ≡ filled (within buffer items) buffer
+    by-test true long short = stored-beyond buffer items (omega (arith, long refl))
+    by-test false long short =
+        stored-at-front-fills items buffer (short refl)
+        ∙ ap (λ (l : List ℕ). filled l buffer) (sym (take-all (length buffer) items (short refl)))
 
 -- a line that was read, and one that was not
-pub faulty-read : (good : Bool) (list after : List ℕ) → good ≡ false → ItemsRead good list Faulty after
-faulty-read good list after h =
-    record { verdict = sym h; held = λ n e. absurd (let q : _≡_ {A = ℕ} 0 1 = cc in omega arith) }
+pub faulty-read : (good : Bool) (items before : List ℕ) (place : ℕ) (after : List ℕ)
+    → good ≡ false
+    → ItemsRead good items before place Faulty after
+faulty-read good items before place after h =
+    record { verdict = sym h; stored = λ n e. absurd (let q : _≡_ {A = ℕ} 0 1 = cc in omega arith) }
 
-pub items-read : (good : Bool) (list after : List ℕ) (n : ℕ)
+pub items-read : (good : Bool) (items before : List ℕ) (place : ℕ) (after : List ℕ) (n : ℕ)
     → good ≡ true
-    → Holds after n list
-    → ItemsRead good list (Items n) after
-items-read good list after n h k =
-    record { verdict = sym h; held = λ m e. let q : n ≡ m = cc in subst (λ (i : ℕ). Holds after i list) q k }
+    → Stored before place items n after
+    → ItemsRead good items before place (Items n) after
+items-read good items before place after n h k =
+    record {
+      verdict = sym h;
+      stored = λ m e. let q : n ≡ m = cc in subst (λ (i : ℕ). Stored before place items i after) q k;
+    }

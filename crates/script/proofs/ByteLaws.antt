@@ -1,16 +1,18 @@
 -- The bytes of a line, one at a time: each field that is a byte leaves the test and the items of the fields after it,
--- so a scan that keeps each byte has kept them all. Rests on no axiom.
-use Prim.Native.Nat.{ℕ, _+_, _≤_, _<_}
-use mathlib.Core.Path.{_≡_, refl, sym, _∙_, ap}
-use mathlib.Core.Bool.{true, false}
+-- so a scan that stores each byte has stored them all. Rests on no axiom.
+use Prim.Native.Nat.{ℕ, suc, _+_, _≤_, _<_}
+use mathlib.Core.Path.{_≡_, refl, ap}
+use mathlib.Core.Bool.{Bool, true, false, cond}
 use mathlib.Core.List.{List, [], _∷_}
-use lib.ListN.{length, drop}
+use native.Mathlib.Omega.{arith}
+use lib.ListN.{length, drop, length-drop}
 use Rattle.lists.specs.Place.{everywhere}
 use Rattle.text.specs.Hex.{isHexByte, hexByte}
-use Rattle.script.specs.Line.{areBytes, raised}
-use Rattle.script.specs.Read.{Holds, joined, fieldsAfter}
-use Rattle.script.proofs.BufferLaws.{joined-with-none, joined-again}
-use Rattle.script.proofs.FieldLaws.{fields-next, fields-at-the-end}
+use Rattle.text.specs.Ascii.{ascii, tab, sameText}
+use Rattle.text.specs.Pieces.{piecesOf}
+use Rattle.script.specs.Line.{areBytes, raised, wordOf, argumentsOf, lineItems}
+use Rattle.script.specs.Read.{fieldsAfter}
+use Rattle.script.proofs.FieldLaws.{fields-next, fields-at-the-end, few-pieces, few-fields}
 
 module _ (field : List ℕ) (fields : List (List ℕ)) where
   pub bytes-of-no-byte : isHexByte field ≡ false → everywhere isHexByte (field ∷ fields) ≡ false
@@ -22,15 +24,9 @@ module _ (field : List ℕ) (fields : List (List ℕ)) where
   bytes-after-byte h = rw h
 
   -- the first byte is kept, and the others come after it
-  pub byte-kept : (base b n m : ℕ) (buffer after : List ℕ)
-      → hexByte field ≡ b
-      → length after ≡ length buffer
-      → Holds after m (joined buffer n ((base + b) ∷ []))
-      → joined after m (raised base fields) ≡ joined buffer n (raised base (field ∷ fields))
+  pub byte-is-first : (base b : ℕ) → hexByte field ≡ b → raised base (field ∷ fields) ≡ (base + b) ∷ raised base fields
   unfolding raised
-  byte-kept base b n m buffer after e size h =
-      joined-again buffer after n m ((base + b) ∷ []) (raised base fields) size h
-      ∙ ap (λ (v : ℕ). joined buffer n ((base + v) ∷ raised base fields)) (sym e)
+  byte-is-first base b e = ap (λ (v : ℕ). (base + v) ∷ raised base fields) e
 
 some-are-bytes : (field : List ℕ) (fields : List (List ℕ))
     → areBytes (field ∷ fields) ≡ everywhere isHexByte (field ∷ fields)
@@ -55,12 +51,38 @@ pub bytes-at-the-end : (line : List ℕ) (from : ℕ)
 unfolding everywhere
 bytes-at-the-end line from h = rw (fields-at-the-end line from h)
 
--- where no field is left, the buffer holds all
-pub all-bytes-kept : (line : List ℕ) (from base n : ℕ) (buffer list : List ℕ)
+pub no-bytes-are-left : (line : List ℕ) (from base : ℕ)
     → length line ≤ from
-    → n ≤ length buffer
-    → joined buffer n (raised base (fieldsAfter (drop from line))) ≡ list
-    → Holds buffer n list
+    → raised base (fieldsAfter (drop from line)) ≡ []
 unfolding raised
-all-bytes-kept line from base n buffer list k h e =
-    record { fits = h; front = joined-with-none buffer n h ∙ rw (fields-at-the-end line from k) at e }
+no-bytes-are-left line from base h = rw (fields-at-the-end line from h)
+
+-- a line has at most one item more than it has bytes
+
+length-of-raised : (base : ℕ) (fields : List (List ℕ)) → length (raised base fields) ≡ length fields
+unfolding raised
+length-of-raised base [] = refl
+length-of-raised base (field ∷ fields) = ap suc (length-of-raised base fields)
+
+pub few-bytes : (line : List ℕ) (from base : ℕ) → length (raised base (fieldsAfter (drop from line))) ≤ length line
+few-bytes line from base =
+    rw (length-of-raised base (fieldsAfter (drop from line)))
+    (omega (arith, few-fields (drop from line), length-drop from line))
+
+pub few-items : (line : List ℕ) → length (lineItems line) ≤ suc (length line)
+unfolding lineItems argumentsOf
+few-items line = by-tests (sameText line (ascii "crc")) (sameText (wordOf line) (ascii "data"))
+  where
+    few : (base : ℕ) → length (raised base (drop 1 (piecesOf tab line))) ≤ suc (length line)
+    few base =
+        rw (length-of-raised base (drop 1 (piecesOf tab line)))
+        (omega (arith, few-pieces line, length-drop 1 (piecesOf tab line)))
+
+    by-tests : (is-crc is-data : Bool)
+        → length
+        (cond is-crc (512 ∷ [])
+        (cond is-data (raised 0 (drop 1 (piecesOf tab line))) (raised 256 (drop 1 (piecesOf tab line)))))
+        ≤ suc (length line)
+    by-tests true is-data = omega arith
+    by-tests false true = few 0
+    by-tests false false = few 256

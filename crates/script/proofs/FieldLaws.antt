@@ -1,16 +1,16 @@
 -- The fields of a line, one at a time: a field ends at the next tab or with the line. Rests on no axiom.
-use Prim.Native.Nat.{ℕ, _+_, _-_, _≤_, _<_}
+use Prim.Native.Nat.{ℕ, suc, _+_, _-_, _≤_, _<_}
 use mathlib.Core.Path.{_≡_, refl, sym, _∙_, ap}
-use mathlib.Core.Bool.{Bool, true, false}
+use mathlib.Core.Bool.{Bool, true, false, cond}
 use mathlib.Core.List.{List, [], _∷_}
 use native.Mathlib.Numerals.{add-one}
 use native.Mathlib.Omega.{arith}
-use lib.Dec.{ltb}
+use lib.Dec.{ltb, eqb}
 use lib.ListN.{length, take, drop, length-drop, drop-of-length-le}
 use lib.Seq.{drop-cons, drop-drop, take-all}
 use borrow.Author.Tests.{ltb-true, ltb-false}
 use Rattle.text.specs.Ascii.{tab}
-use Rattle.text.specs.Pieces.{piecesOf, upTo}
+use Rattle.text.specs.Pieces.{before, piecesOf, upTo}
 use Rattle.text.proofs.PieceLaws.{up-to-length, up-to-front, pieces-first, pieces-last}
 use Rattle.script.specs.Read.{fieldsAfter}
 
@@ -56,3 +56,21 @@ module _ (line : List ℕ) (at end : ℕ) (h : at < length line) (e : end ≡ at
 pub fields-at-the-end : (line : List ℕ) (at : ℕ) → length line ≤ at → fieldsAfter (drop at line) ≡ []
 unfolding fieldsAfter
 fields-at-the-end line at h = ap fieldsAfter (drop-of-length-le line h)
+
+-- there is at most one field more than there are bytes
+pub few-pieces : (s : List ℕ) → length (piecesOf tab s) ≤ suc (length s)
+unfolding piecesOf
+few-pieces [] = omega arith
+few-pieces (b ∷ bs) = by-test (eqb b tab) (piecesOf tab bs) (few-pieces bs)
+  where
+    by-test : (t : Bool) (pieces : List (List ℕ))
+        → length pieces ≤ suc (length bs)
+        → length (cond t ([] ∷ pieces) (before b pieces)) ≤ suc (suc (length bs))
+    by-test true pieces h = omega arith
+    by-test false [] h = omega arith
+    by-test false (piece ∷ pieces) h = omega arith
+
+pub few-fields : (s : List ℕ) → length (fieldsAfter s) ≤ length s
+unfolding fieldsAfter
+few-fields [] = omega arith
+few-fields (b ∷ s) = few-pieces s

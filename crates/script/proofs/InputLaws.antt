@@ -1,23 +1,29 @@
 -- The lines of the input, one at a time: a line ends at the next line feed, and what stands after the last is faulty
 -- unless it is nothing. Rests on no axiom.
 use Prim.Native.Nat.{ℕ, suc, _+_, _-_, _≤_, _<_}
-use mathlib.Core.Path.{_≡_, sym, _∙_, ap, subst}
+use mathlib.Core.Path.{_≡_, sym, _∙_, ap}
 use mathlib.Core.Bool.{true, false, not}
 use mathlib.Core.List.{List, [], _∷_, _++_}
+use native.Mathlib.Nat.{zero-add}
 use native.Mathlib.Omega.{arith}
 use lib.ListN.{length, take, drop, length-drop, drop-of-length-le}
-use lib.Seq.{drop-drop, length-take-le}
+use lib.Seq.{drop-drop, length-take-le, take-all}
 use borrow.Author.Tests.{lt-ltb}
-use Rattle.refusal.specs.Answer.{accepted, refused, refuseIf}
+use Rattle.refusal.specs.Answer.{accepted, refused, refuseIf, firstRefusal}
+use Rattle.refusal.specs.Table.{numberOf, placeOf}
+use Rattle.refusal.specs.declared.Refusal.{Refusal}
 use Rattle.refusal.specs.declared.Refusal.the-variants.{MalformedInput}
 use Rattle.refusal.specs.declared.Counted.the-variants.{Count, Refused}
+use Rattle.refusal.proofs.AnswerLaws.{refusal-decides, refusal-keeps-the-buffer, first-refusal-passes}
+use Rattle.refusal.proofs.AnswerLaws.{acceptance-fills-the-buffer, refused-earlier, accepted-later}
+use Rattle.lists.specs.Filled.{storedAt}
 use Rattle.text.specs.Ascii.{lineFeed}
 use Rattle.text.specs.Pieces.{piecesOf, upTo}
 use Rattle.text.proofs.PieceLaws.{up-to-length, up-to-front, pieces-first, pieces-last, pieces-some}
 use Rattle.script.specs.Line.{isItemLine, lineItems}
 use Rattle.script.specs.Input.{garbledFrom, itemsOf}
-use Rattle.script.specs.Read.{Holds, LinesRead, within, joined}
-use Rattle.script.proofs.BufferLaws.{joined-with-none}
+use Rattle.script.specs.Read.{LinesRead, LinesStored, Stored, within}
+use Rattle.script.proofs.BufferLaws.{stored-as-far-as-there-is-room}
 
 -- the line that starts at a place of the text, where its end was looked for
 module _ (text : List ℕ) (at end : ℕ) (h : at ≤ length text) (e : end ≡ at + length (upTo lineFeed (drop at text)))
@@ -81,29 +87,58 @@ unfolding itemsOf piecesOf
 items-at-the-end text at h = rw (drop-of-length-le text h)
 
 -- lines that were read, and lines of which one is faulty
-pub lines-refused : (lines : List (List ℕ)) (buffer after : List ℕ) (n : ℕ)
+pub lines-refused : (lines : List (List ℕ)) (before after : List ℕ) (n : ℕ)
     → garbledFrom 2 lines ≡ refused 14 n
-    → LinesRead lines buffer (Refused (MalformedInput n)) after
-lines-refused lines buffer after n e =
-    record { answer = rw e; held = λ m q. absurd (let z : _≡_ {A = ℕ} 0 1 = cc in omega arith) }
-
-pub lines-read : (lines : List (List ℕ)) (buffer after : List ℕ) (n : ℕ)
-    → garbledFrom 2 lines ≡ accepted 0
-    → Holds after n (within buffer (itemsOf lines))
-    → LinesRead lines buffer (Count n) after
-lines-read lines buffer after n e h =
-    let size : n ≡ length (within buffer (itemsOf lines)) =
-    sym (length-take-le n after (h .fits)) ∙ ap length (h .front) in
+    → LinesRead lines before (Refused (MalformedInput n)) after
+lines-refused lines before after n e =
     record {
-      answer = rw e (ap accepted size);
-      held = λ m q. let z : n ≡ m = cc in subst (λ (i : ℕ). Holds after i (within buffer (itemsOf lines))) z h;
+      answer = rw e;
+      output = λ h. absurd (let q : _≡_ {A = ℕ} 14 0 = rw e at h in omega arith);
     }
 
--- where no line is left, the buffer holds all
-pub all-items-kept : (text : List ℕ) (at n : ℕ) (buffer list : List ℕ)
-    → length text ≤ at
-    → n ≤ length buffer
-    → joined buffer n (itemsOf (piecesOf lineFeed (drop at text))) ≡ list
-    → Holds buffer n list
-all-items-kept text at n buffer list k h e =
-    record { fits = h; front = joined-with-none buffer n h ∙ rw (items-at-the-end text at k) at e }
+pub lines-read : (lines : List (List ℕ)) (before after : List ℕ) (n : ℕ)
+    → garbledFrom 2 lines ≡ accepted 0
+    → Stored before 0 (itemsOf lines) n after
+    → LinesRead lines before (Count n) after
+lines-read lines before after n e s =
+    record { answer = rw e (ap accepted (s .size ∙ zero-add (length (itemsOf lines)))); output = λ h. s .output }
+
+-- lines that were first read with no room for any item, and then with a buffer
+pub lines-not-stored : (lines : List (List ℕ)) (before : List ℕ) (r : Refusal)
+    → refused (numberOf r) (placeOf r) ≡ firstRefusal (garbledFrom 2 lines) (accepted (length (itemsOf lines)))
+    → LinesStored lines before (Refused r) before
+lines-not-stored lines before r first =
+    let garbled = refused-earlier r (garbledFrom 2 lines) _ first in
+    record {
+      answer = refusal-decides r (garbledFrom 2 lines) _ garbled;
+      output = refusal-keeps-the-buffer r (garbledFrom 2 lines) _ before garbled;
+    }
+
+module _
+    (lines : List (List ℕ)) (before after : List ℕ) (count : ℕ)
+    (first : accepted count ≡ firstRefusal (garbledFrom 2 lines) (accepted (length (itemsOf lines))))
+    (second : garbledFrom 2 lines .number ≡ 0 → after ≡ storedAt before 0 (itemsOf lines))
+  where
+    counted : (garbledFrom 2 lines .number ≡ 0) × (count ≡ length (itemsOf lines))
+    counted = accepted-later (garbledFrom 2 lines) count _ first
+
+    stored-lines : (n : ℕ) → n ≡ length (within before (itemsOf lines)) → LinesStored lines before (Count n) after
+    stored-lines n size =
+        record {
+          answer = ap accepted size ∙ sym (first-refusal-passes (garbledFrom 2 lines) _ (counted .0));
+          output =
+              second (counted .0)
+              ∙ stored-as-far-as-there-is-room before (itemsOf lines)
+              ∙ sym (acceptance-fills-the-buffer (garbledFrom 2 lines) _ before (counted .0));
+        }
+
+    module _ (room : ℕ) (same : room ≡ length before) where
+      pub more-lines-than-room : room < count → LinesStored lines before (Count room) after
+      more-lines-than-room h =
+          stored-lines room
+          (same ∙ sym (length-take-le (length before) (itemsOf lines) (omega (arith, counted .1))))
+
+      pub room-for-all-lines : count ≤ room → LinesStored lines before (Count count) after
+      room-for-all-lines h =
+          stored-lines count
+          (counted .1 ∙ ap length (sym (take-all (length before) (itemsOf lines) (omega (arith, counted .1)))))

@@ -12,6 +12,7 @@ use Rattle.text.specs.Pieces.{upTo}
 use Rattle.text.proofs.PieceLaws.{up-to-length, up-to-front}
 use Rattle.text.specs.Decimal.{isDecimal}
 use Rattle.lists.specs.Place.{everywhere}
+use Rattle.timing.specs.Numbers.{profileNumbers}
 use Rattle.script.specs.declared.ProfileLine.the-variants.{Given, Faulty}
 use Rattle.script.specs.Line.{isProfileLine, profileOf, profileRead, wordOf, argumentsOf, areBytes, isItemLine}
 use Rattle.script.specs.Line.{raised, lineItems}
@@ -71,13 +72,13 @@ module _ (line : List ℕ) (no-crc : sameText line (ascii "crc") ≡ false)
 -- the first line, by its word and by the fields after it
 module _ (line : List ℕ) where
   pub profile-is-read : sameText (wordOf line) (ascii "profile") ≡ true
-      → (eqb (length (argumentsOf line)) 9 && everywhere isDecimal (argumentsOf line)) ≡ true
+      → (eqb (length (argumentsOf line)) profileNumbers && everywhere isDecimal (argumentsOf line)) ≡ true
       → profileRead line ≡ Given (profileOf line)
   unfolding profileRead isProfileLine
   profile-is-read h k = rw (h, k)
 
   pub other-numbers-are-faulty : sameText (wordOf line) (ascii "profile") ≡ true
-      → (eqb (length (argumentsOf line)) 9 && everywhere isDecimal (argumentsOf line)) ≡ false
+      → (eqb (length (argumentsOf line)) profileNumbers && everywhere isDecimal (argumentsOf line)) ≡ false
       → profileRead line ≡ Faulty
   unfolding profileRead isProfileLine
   other-numbers-are-faulty h k = rw (h, k)

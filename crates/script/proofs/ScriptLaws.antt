@@ -1,26 +1,30 @@
 -- The input as a whole, its length, its first line and the lines after it: the definition tests them in this order,
 -- and each test that fails is its refusal. Rests on no axiom.
 use Prim.Native.Nat.{ℕ, suc, _+_, _≤_, _<_}
-use mathlib.Core.Path.{_≡_, refl, sym, _∙_, ap, subst}
+use mathlib.Core.Path.{_≡_, refl, sym, _∙_, ap}
 use mathlib.Core.Bool.{Bool, true, false, cond}
 use mathlib.Core.List.{List, _∷_}
 use native.Mathlib.Omega.{arith}
-use lib.ListN.{length, take, drop}
+use lib.ListN.{length, take, drop, length-append}
 use borrow.Author.Tests.{lt-ltb, le-ltb}
-use Rattle.refusal.specs.Answer.{accepted, refused, firstRefusal, countedAnswer}
+use Rattle.refusal.specs.Answer.{accepted, refused, firstRefusal, countedAnswer, settled}
 use Rattle.refusal.specs.Table.{numberOf, placeOf}
 use Rattle.refusal.specs.declared.Refusal.{Refusal}
 use Rattle.refusal.specs.declared.Counted.{Counted}
 use Rattle.refusal.specs.declared.Counted.the-variants.{Count, Refused as NotCounted}
-use Rattle.refusal.proofs.AnswerLaws.{refusal-decides}
+use Rattle.refusal.proofs.AnswerLaws.{refusal-decides, refusal-keeps-the-buffer, accepted-later}
+use Rattle.refusal.proofs.AnswerLaws.{acceptance-fills-the-buffer}
+use Rattle.lists.specs.Filled.{filled}
+use Rattle.lists.proofs.FilledLaws.{front-of-filled}
 use Rattle.timing.specs.declared.Profile.{Profile}
 use Rattle.text.specs.Ascii.{lineFeed}
 use Rattle.text.specs.Pieces.{piecesOf, upTo}
 use Rattle.text.proofs.PieceLaws.{up-to-length, up-to-front, pieces-first, pieces-last, pieces-some}
 use Rattle.script.specs.Line.{isProfileLine, profileOf, profileRead}
 use Rattle.script.specs.Input.{garbledFrom, garbledLines, inputRule, profileIn, itemsOf, itemsIn}
-use Rattle.script.specs.Read.{Holds, LinesRead, ScriptRead, within}
+use Rattle.script.specs.Read.{LinesStored, ScriptRead, scriptAnswer, within}
 use Rattle.script.specs.declared.ProfileLine.the-variants.{Given as Profiled, Faulty}
+use Rattle.script.specs.declared.Script.{Script}
 use Rattle.script.specs.declared.Script.the-variants.{Given, Refused}
 
 cond-faulty : (t : Bool) (p : Profile) → cond t (Profiled p) Faulty ≡ Faulty → t ≡ false
@@ -91,41 +95,64 @@ module _ (text : List ℕ) (end : ℕ) (h : length text ≤ 16384) (e : end ≡ 
   profile-of-the-input = ap profileOf first-line-is-a-part
 
 -- an input that is garbled before its items are read
-pub script-refused : (text buffer after : List ℕ) (r : Refusal)
+pub script-refused : (text before : List ℕ) (r : Refusal)
     → inputRule text ≡ refused (numberOf r) (placeOf r)
-    → ScriptRead text buffer (Refused r) after
-script-refused text buffer after r e =
+    → ScriptRead text before (Refused r) before
+script-refused text before r e =
     record {
       answer = refusal-decides r (inputRule text) _ (sym e);
       profile = λ p n q. absurd (let z : _≡_ {A = ℕ} 0 1 = cc in omega arith);
-      held = λ p n q. absurd (let z : _≡_ {A = ℕ} 0 1 = cc in omega arith);
+      output = refusal-keeps-the-buffer r (inputRule text) _ before (sym e);
     }
 
 -- an input whose lines were read
 module _
-    (text buffer after : List ℕ) (lines : List (List ℕ)) (c : Counted)
+    (text before after : List ℕ) (lines : List (List ℕ)) (c : Counted)
     (rule : inputRule text ≡ garbledFrom 2 lines) (items : itemsIn text ≡ itemsOf lines)
-    (read : LinesRead lines buffer c after)
+    (read : LinesStored lines before c after)
   where
-    same-answer : countedAnswer c ≡ firstRefusal (inputRule text) (accepted (length (within buffer (itemsIn text))))
+    same-answer : countedAnswer c ≡ firstRefusal (inputRule text) (accepted (length (within before (itemsIn text))))
     same-answer = rw (rule, items) (read .answer)
 
-    pub lines-refuse-the-script : (r : Refusal) → c ≡ NotCounted r → ScriptRead text buffer (Refused r) after
+    same-output : after ≡ settled (inputRule text) (within before (itemsIn text)) before
+    same-output = rw (rule, items) (read .output)
+
+    pub lines-refuse-the-script : (r : Refusal) → c ≡ NotCounted r → ScriptRead text before (Refused r) after
     lines-refuse-the-script r e =
         record {
           answer = sym (ap countedAnswer e) ∙ same-answer;
           profile = λ p n q. absurd (let z : _≡_ {A = ℕ} 0 1 = cc in omega arith);
-          held = λ p n q. absurd (let z : _≡_ {A = ℕ} 0 1 = cc in omega arith);
+          output = same-output;
         }
 
     pub lines-give-the-script : (p : Profile) (n : ℕ)
         → p ≡ profileIn text
         → c ≡ Count n
-        → ScriptRead text buffer (Given p n) after
+        → ScriptRead text before (Given p n) after
     lines-give-the-script p n own e =
-        let front : Holds after n (within buffer (itemsIn text)) = rw items (read .held n e) in
         record {
           answer = sym (ap countedAnswer e) ∙ same-answer;
           profile = λ o m q. let z : p ≡ o = cc in sym z ∙ own;
-          held = λ o m q. let z : n ≡ m = cc in subst (λ (i : ℕ). Holds after i (within buffer (itemsIn text))) z front;
+          output = same-output;
         }
+
+-- where an input was read, its items stand at the buffer's front
+module _ (text before after : List ℕ) (r : Script) (p : Profile) (n : ℕ)
+    (read : ScriptRead text before r after) (given : r ≡ Given p n) where
+  accepts : (inputRule text .number ≡ 0) × (n ≡ length (within before (itemsIn text)))
+  accepts = accepted-later (inputRule text) n _ (sym (ap scriptAnswer given) ∙ read .answer)
+
+  is-filled : after ≡ filled (within before (itemsIn text)) before
+  is-filled = read .output ∙ acceptance-fills-the-buffer (inputRule text) _ before (accepts .0)
+
+  pub items-fit : n ≤ length after
+  unfolding filled
+  items-fit =
+      let items = within before (itemsIn text) in
+      rw is-filled (omega (arith, accepts .1, length-append items (drop (length items) before)))
+
+  pub items-stand-in-front : take n after ≡ within before (itemsIn text)
+  items-stand-in-front =
+      ap (take n) is-filled
+      ∙ ap (λ (k : ℕ). take k (filled (within before (itemsIn text)) before)) (accepts .1)
+      ∙ front-of-filled (within before (itemsIn text)) before

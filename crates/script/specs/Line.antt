@@ -4,12 +4,13 @@ use Prim.Native.Nat.{ℕ, _+_}
 use mathlib.Core.Bool.{Bool, true, false, cond, _&&_, _||_}
 use mathlib.Core.List.{List, [], _∷_, map}
 use lib.Dec.{eqb}
-use lib.ListN.{length, drop, getD}
+use lib.ListN.{length, drop}
 use Rattle.lists.specs.Place.{everywhere}
 use Rattle.text.specs.Ascii.{ascii, tab, sameText}
 use Rattle.text.specs.Pieces.{piecesOf, upTo}
 use Rattle.text.specs.Decimal.{isDecimal, valueOf}
 use Rattle.text.specs.Hex.{isHexByte, hexByte}
+use Rattle.timing.specs.Numbers.{profileNumbers, fromNumbers}
 use Rattle.timing.specs.declared.Profile.{Profile}
 use Rattle.script.specs.declared.ProfileLine.{ProfileLine}
 use Rattle.script.specs.declared.ProfileLine.the-variants.{Given, Faulty}
@@ -22,29 +23,15 @@ wordOf line = upTo tab line
 unfoldable pub argumentsOf : List ℕ → List (List ℕ)
 argumentsOf line = drop 1 (piecesOf tab line)
 
--- first `profile` and nine decimals
+-- first `profile` and nine decimals, in the order of the profile
 unfoldable pub isProfileLine : List ℕ → Bool
 isProfileLine line =
     sameText (wordOf line) (ascii "profile") &&
-    (eqb (length (argumentsOf line)) 9 && everywhere isDecimal (argumentsOf line))
+    (eqb (length (argumentsOf line)) profileNumbers && everywhere isDecimal (argumentsOf line))
 
--- nine numbers, in the order of the profile
-abbrev pub profileFrom : List ℕ → Profile
-profileFrom ns =
-    record {
-      t1 = record { 0 = getD ns 0 0 };
-      t0 = record { 0 = getD ns 1 0 };
-      early = record { 0 = getD ns 2 0 };
-      normal = record { 0 = getD ns 3 0 };
-      late = record { 0 = getD ns 4 0 };
-      min = record { 0 = getD ns 5 0 };
-      b23 = record { 0 = getD ns 6 0 };
-      b34 = record { 0 = getD ns 7 0 };
-      rpt = record { 0 = getD ns 8 0 };
-    }
-
+-- the profile of these decimals
 unfoldable pub profileOf : List ℕ → Profile
-profileOf line = profileFrom (map valueOf (argumentsOf line))
+profileOf line = fromNumbers (map valueOf (argumentsOf line))
 
 unfoldable pub profileRead : List ℕ → ProfileLine
 profileRead line = cond (isProfileLine line) (Given (profileOf line)) Faulty

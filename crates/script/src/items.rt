@@ -4,28 +4,17 @@ use refusal::Counted;
 use refusal::Refusal;
 use text::Byte;
 ghost use Prim.Native.Nat.{_+_, _≤_, _<_};
-ghost use mathlib.Core.List.{[], _∷_};
 ghost use lib.ListN.{length, drop};
 ghost use Rattle.text.specs.Ascii.{lineFeed};
 ghost use Rattle.text.specs.Pieces.{piecesOf};
-ghost use Rattle.script.specs.Read.{Holds, BytesRead, LineRead, LinesRead, joined, fieldsAfter};
+ghost use Rattle.script.specs.Read.{BytesRead, LineRead, LinesRead, LinesStored, fieldsAfter};
 
-// One item more, where the buffer has room. Items beyond it need not be kept, as long as the buffer is longer than
-// any list that is accepted.
-fn push(buffer: &mut [u16], count: usize, item: u16) -> usize
-    requires { ⌜ count ≤ length (now buffer) ⌝ }
-    ensures { λ r. ⌜ Holds (now (buffer .exit)) r (joined (now (buffer .entry)) count (item ∷ [])) ⌝ }
-{
-    if count < buffer.len() {
-        buffer[count] = item;
-        return count + 1;
-    }
-    count
-}
+// The item that orders the check bytes.
+const CHECK_ORDER: u16 = 512;
 
-// The bytes that stand from a tab on, each with a number added.
+// The bytes that stand from a tab on, each with a number added, stored from place `count` on.
 fn read_bytes(line: &[u8], from: usize, base: u16, buffer: &mut [u16], count: usize) -> ItemLine
-    requires { ⌜ (base ≤ 256) × (count ≤ length (now buffer)) ⌝ }
+    requires { ⌜ (base ≤ 256) × (count + length (now line) < 65536) ⌝ }
     ensures { λ r. ⌜ BytesRead (fieldsAfter (drop from (now (line .entry)))) base (now (buffer .entry)) count r
         (now (buffer .exit)) ⌝ }
 {
@@ -39,20 +28,20 @@ fn read_bytes(line: &[u8], from: usize, base: u16, buffer: &mut [u16], count: us
         let end = text::find(line, start, b'\t');
         match text::parse_byte(&line[start..end]) {
             Byte::Malformed => return ItemLine::Faulty,
-            Byte::Value(b) => n = push(buffer, n, base + b as u16),
+            Byte::Value(b) => n = lists::put(buffer, n, true, base + b as u16),
         }
         at = end;
     }
     ItemLine::Items(n)
 }
 
-// The items of one line.
+// The items of one line, stored from place `count` on.
 fn read_item_line(line: &[u8], buffer: &mut [u16], count: usize) -> ItemLine
-    requires { ⌜ count ≤ length (now buffer) ⌝ }
+    requires { ⌜ count + length (now line) < 65536 ⌝ }
     ensures { λ r. ⌜ LineRead (now (line .entry)) (now (buffer .entry)) count r (now (buffer .exit)) ⌝ }
 {
     if text::same(line, b"crc") {
-        return ItemLine::Items(push(buffer, count, 512));
+        return ItemLine::Items(lists::put(buffer, count, true, CHECK_ORDER));
     }
     let end = text::find(line, 0, b'\t');
     if text::same(&line[..end], b"data") {
@@ -64,8 +53,9 @@ fn read_item_line(line: &[u8], buffer: &mut [u16], count: usize) -> ItemLine
     ItemLine::Faulty
 }
 
-// The items of all lines from the second on, which starts at `from`.
-pub fn read_items(text: &[u8], from: usize, buffer: &mut [u16]) -> Counted
+// How many items the lines from the second on have, which starts at `from`. As many as the buffer has room for are
+// stored, up to the first fault.
+fn read_items(text: &[u8], from: usize, buffer: &mut [u16]) -> Counted
     requires { ⌜ (from ≤ length (now text)) × (length (now text) ≤ 16384) ⌝ }
     ensures { λ r. ⌜ LinesRead (piecesOf lineFeed (drop from (now (text .entry)))) (now (buffer .entry)) r
         (now (buffer .exit)) ⌝ }
@@ -86,4 +76,24 @@ pub fn read_items(text: &[u8], from: usize, buffer: &mut [u16]) -> Counted
         line += 1;
     }
     Counted::Count(count)
+}
+
+// The items of the lines from the second on, as many as the buffer has room for. The lines are first read with no room
+// for any, so that a refusal leaves the buffer as it was lent.
+pub fn store_items(text: &[u8], from: usize, buffer: &mut [u16]) -> Counted
+    requires { ⌜ (from ≤ length (now text)) × (length (now text) ≤ 16384) ⌝ }
+    ensures { λ r. ⌜ LinesStored (piecesOf lineFeed (drop from (now (text .entry)))) (now (buffer .entry)) r
+        (now (buffer .exit)) ⌝ }
+{
+    let mut no_room = [0u16; 0];
+    match read_items(text, from, &mut no_room) {
+        Counted::Refused(refusal) => Counted::Refused(refusal),
+        Counted::Count(count) => {
+            read_items(text, from, buffer);
+            if count > buffer.len() {
+                return Counted::Count(buffer.len());
+            }
+            Counted::Count(count)
+        }
+    }
 }

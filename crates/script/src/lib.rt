@@ -2,12 +2,15 @@
 mod items;
 mod profile;
 
-use items::read_items;
+use items::store_items;
 use profile::read_profile;
 use refusal::Counted;
 use refusal::Refusal;
 use timing::Profile;
 ghost use Rattle.script.specs.Read.{ScriptRead};
+
+// The longest input that is read.
+pub const INPUT_BYTES: usize = 16384;
 
 // What the first line of the input is.
 pub enum ProfileLine {
@@ -15,7 +18,7 @@ pub enum ProfileLine {
     Faulty,
 }
 
-// How many items stand in the buffer after a line of items was read, as far as it has room.
+// The place after a line's items.
 pub enum ItemLine {
     Items(usize),
     Faulty,
@@ -27,11 +30,11 @@ pub enum Script {
     Refused(Refusal),
 }
 
-// The input's profile, and its items in the buffer, as many as it has room for.
+// The input's profile, and its items in the buffer, as many as it has room for. A refusal stores nothing.
 pub fn read(text: &[u8], buffer: &mut [u16]) -> Script
     ensures { λ r. ⌜ ScriptRead (now (text .entry)) (now (buffer .entry)) r (now (buffer .exit)) ⌝ }
 {
-    if text.len() > 16384 {
+    if text.len() > INPUT_BYTES {
         return Script::Refused(Refusal::MalformedInput(0));
     }
     let end = text::find(text, 0, b'\n');
@@ -40,7 +43,7 @@ pub fn read(text: &[u8], buffer: &mut [u16]) -> Script
     }
     match read_profile(&text[..end]) {
         ProfileLine::Faulty => Script::Refused(Refusal::MalformedInput(1)),
-        ProfileLine::Given(profile) => match read_items(text, end + 1, buffer) {
+        ProfileLine::Given(profile) => match store_items(text, end + 1, buffer) {
             Counted::Refused(refusal) => Script::Refused(refusal),
             Counted::Count(count) => Script::Given(profile, count),
         },

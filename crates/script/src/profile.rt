@@ -1,12 +1,11 @@
 // The first line: `profile` and nine decimals.
 use crate::ProfileLine;
 use text::Decimal;
-use timing::Clocks;
-use timing::HalfClocks;
+use timing::PROFILE_NUMBERS;
 use timing::Profile;
 ghost use mathlib.Core.Path.{_≡_};
 ghost use lib.ListN.{length, drop};
-ghost use Rattle.script.specs.Line.{profileFrom, profileRead};
+ghost use Rattle.script.specs.Line.{profileRead};
 ghost use Rattle.script.specs.Read.{NumbersRead, fieldsAfter};
 
 // The decimals that stand from a tab on, if they are as many as the buffer has places.
@@ -32,32 +31,15 @@ fn read_numbers(line: &[u8], from: usize, numbers: &mut [u16]) -> bool
     k == numbers.len()
 }
 
-// Nine numbers in the profile's order.
-fn profile_of(numbers: &[u16; 9]) -> Profile
-    ensures { λ r. ⌜ r ≡ profileFrom (now (numbers .entry)) ⌝ }
-{
-    Profile {
-        t1: HalfClocks(numbers[0]),
-        t0: HalfClocks(numbers[1]),
-        early: Clocks(numbers[2]),
-        normal: Clocks(numbers[3]),
-        late: Clocks(numbers[4]),
-        min: HalfClocks(numbers[5]),
-        b23: HalfClocks(numbers[6]),
-        b34: HalfClocks(numbers[7]),
-        rpt: HalfClocks(numbers[8]),
-    }
-}
-
 // The profile of a line.
 pub fn read_profile(line: &[u8]) -> ProfileLine
     ensures { λ r. ⌜ r ≡ profileRead (now (line .entry)) ⌝ }
 {
     let end = text::find(line, 0, b'\t');
     if text::same(&line[..end], b"profile") {
-        let mut numbers = [0u16; 9];
+        let mut numbers = [0u16; PROFILE_NUMBERS];
         if read_numbers(line, end, &mut numbers) {
-            return ProfileLine::Given(profile_of(&numbers));
+            return ProfileLine::Given(Profile::from_numbers(&numbers));
         }
     }
     ProfileLine::Faulty

@@ -15,6 +15,7 @@ use Rattle.refusal.specs.Answer.{Answer, accepted, refused, firstRefusal}
 use Rattle.refusal.specs.Table.{numberOf, placeOf}
 use Rattle.refusal.specs.declared.Refusal.{Refusal}
 use Rattle.refusal.proofs.AnswerLaws.{number-is-not-zero, refusal-decides, first-refusal-accepts}
+use Rattle.refusal.proofs.AnswerLaws.{refused-earlier, accepted-later}
 use Rattle.refusal.proofs.AnswerLaws.{first-refusal-passes, refuse-if-accepts, refuse-if-passes}
 use Rattle.refusal.proofs.AnswerLaws.{acceptance-fills-the-buffer}
 use Rattle.timing.specs.Profile.{profileRule}
@@ -32,25 +33,6 @@ use Rattle.codec.specs.Writer.{streamRule, writeRule, writeOutput}
 use Rattle.script.specs.Input.{inputRule, profileIn, itemsIn}
 use Rattle.strip.specs.Output.{refusalText, reportText}
 use Rattle.strip.specs.Program.{scriptRule, scriptText, programRule, programText}
-
--- a refusal that came before an acceptance is the earlier answer
-refused-earlier : (r : Refusal) (rule : Answer) (n : ℕ)
-    → refused (numberOf r) (placeOf r) ≡ firstRefusal rule (accepted n)
-    → refused (numberOf r) (placeOf r) ≡ rule
-refused-earlier r rule n e = by-test (eqb (rule .number) 0) e
-  where
-    by-test : (t : Bool)
-        → refused (numberOf r) (placeOf r) ≡ cond t (accepted n) rule
-        → refused (numberOf r) (placeOf r) ≡ rule
-    by-test true q =
-        absurd (false≢true (sym (number-is-not-zero r) ∙ eq-eqb (numberOf r) 0 (ap (λ (a : Answer). a .number) q)))
-    by-test false q = q
-
--- an acceptance after an earlier answer
-accepted-later : (rule : Answer) (m n : ℕ) → accepted m ≡ firstRefusal rule (accepted n) → (rule .number ≡ 0) × (m ≡ n)
-accepted-later rule m n e =
-    let both = first-refusal-accepts rule (accepted n) (sym (ap (λ (a : Answer). a .number) e)) in
-    (both .0, ap (λ (a : Answer). a .count) (e ∙ first-refusal-passes rule (accepted n) (both .0)))
 
 -- what the margin operation's answer says of the profile
 pub margin-refused : (p : Profile) (r : Refusal)

@@ -1,17 +1,18 @@
 -- What the profile's rule means: where it accepts, every number is in range and every window holds its lengths, since
 -- each test of the definition gave the answer that let the next be asked. Rests on no axiom.
 use Prim.Native.Nat.{ℕ, suc, _+_, _*_, _≤_, _<_}
-use mathlib.Core.Path.{_≡_, refl, ap, _∙_}
-use mathlib.Core.Bool.{Bool, true, false, cond, not, _&&_, _||_, true≢false, false≢true}
-use mathlib.Core.List.{List, [], _∷_}
+use mathlib.Core.Path.{_≡_, refl, ap}
+use mathlib.Core.Bool.{Bool, true, false, cond, not, _&&_, false≢true}
 use native.Mathlib.Omega.{arith}
-use native.Mathlib.Nat.{zero-add, add-suc, suc-add}
-use lib.Dec.{leb, ltb, eqb, eqb·suc-zero}
-use borrow.Author.Tests.{ltb-false, ltb-true, leb-true}
+use native.Mathlib.Nat.{zero-add}
+use lib.Dec.{leb, ltb}
+use borrow.Author.Tests.{ltb-true, leb-true}
 use Rattle.lists.specs.Place.{anywhere, lowest, passed}
 use Rattle.refusal.specs.Answer.{accepted, refused, refuseIf}
-use Rattle.timing.specs.Profile.{outside, unset, swing, isTrue, profileRule, firstOutside, lowestUnset, InRange}
+use Rattle.timing.specs.Numbers.{ranges, numbersOf}
+use Rattle.timing.specs.Profile.{unset, swing, isTrue, profileRule, lowestUnset, InRange}
 use Rattle.timing.specs.declared.Profile.{Profile}
+use Rattle.timing.proofs.RangeLaws.{none-outside-all-inside, unsetFrom}
 
 -- all that an accepted profile means
 pub record Kept (p : Profile) : Type 0 where
@@ -25,15 +26,7 @@ pub record Kept (p : Profile) : Type 0 where
   pub four-from : p .b34 .0 ≤ p .t1 .0 + 2 * p .t0 .0
   pub four-below : p .t1 .0 + 2 * p .t0 .0 + swing p < p .rpt .0
 
--- ---- a test that failed, and eight tests that all held
-
-or-false-left : (a b : Bool) → (a || b) ≡ false → a ≡ false
-or-false-left true b h = absurd (true≢false h)
-or-false-left false b h = refl
-
-or-false-right : (a b : Bool) → (a || b) ≡ false → b ≡ false
-or-false-right true b h = absurd (true≢false h)
-or-false-right false b h = h
+-- ---- eight tests that all held
 
 abbrev Holds : Bool → Type 0
 Holds t = t ≡ true
@@ -54,58 +47,9 @@ all-of-eight true true true true true true true false q = absurd (false≢true q
 
 -- ---- ranges
 
-inside : (low high x : ℕ) → outside low high x ≡ false → (low ≤ x) × (x ≤ high)
-inside low high x e = (
-  ltb-false x low (or-false-left (ltb x low) (ltb high x) e),
-  ltb-false high x (or-false-right (ltb x low) (ltb high x) e),
-)
-
--- the first of some tests failed, and the rest
-first-failed : (t : Bool) (ts : List Bool) → anywhere passed (t ∷ ts) ≡ false → t ≡ false
-unfolding anywhere
-first-failed t ts e = or-false-left t (anywhere passed ts) e
-
-rest-failed : (t : Bool) (ts : List Bool) → anywhere passed (t ∷ ts) ≡ false → anywhere passed ts ≡ false
-unfolding anywhere
-rest-failed t ts e = or-false-right t (anywhere passed ts) e
-
 pub none-unset-in-range : (p : Profile) → anywhere passed (unset p) ≡ false → InRange p
 unfolding unset
-none-unset-in-range p e₁ =
-    let e₂ = rest-failed _ _ e₁ in
-    let e₃ = rest-failed _ _ e₂ in
-    let e₄ = rest-failed _ _ e₃ in
-    let e₅ = rest-failed _ _ e₄ in
-    let e₆ = rest-failed _ _ e₅ in
-    let e₇ = rest-failed _ _ e₆ in
-    let e₈ = rest-failed _ _ e₇ in
-    let e₉ = rest-failed _ _ e₈ in
-    let t1 = inside 1 1023 (p .t1 .0) (first-failed _ _ e₁) in
-    let t0 = inside 1 1023 (p .t0 .0) (first-failed _ _ e₂) in
-    let early = inside 0 15 (p .early .0) (first-failed _ _ e₃) in
-    let normal = inside 0 15 (p .normal .0) (first-failed _ _ e₄) in
-    let late = inside 0 15 (p .late .0) (first-failed _ _ e₅) in
-    let min = inside 1 4095 (p .min .0) (first-failed _ _ e₆) in
-    let b23 = inside 1 4095 (p .b23 .0) (first-failed _ _ e₇) in
-    let b34 = inside 1 4095 (p .b34 .0) (first-failed _ _ e₈) in
-    let rpt = inside 1 4095 (p .rpt .0) (first-failed _ _ e₉) in
-    record {
-      t1-low = t1 .0;
-      t1-high = t1 .1;
-      t0-low = t0 .0;
-      t0-high = t0 .1;
-      early-high = early .1;
-      normal-high = normal .1;
-      late-high = late .1;
-      min-low = min .0;
-      min-high = min .1;
-      b23-low = b23 .0;
-      b23-high = b23 .1;
-      b34-low = b34 .0;
-      b34-high = b34 .1;
-      rpt-low = rpt .0;
-      rpt-high = rpt .1;
-    }
+none-unset-in-range p e = none-outside-all-inside ranges (numbersOf p) e
 
 -- ---- the rule, by its tests
 
@@ -178,43 +122,8 @@ pub in-range : (p : Profile) → lowestUnset p ≡ 0 → InRange p
 unfolding lowestUnset
 in-range p e = none-unset-in-range p (none-found (anywhere passed (unset p)) (lowest passed (unset p)) e)
 
--- ---- the tests made one after the other find the lowest place
+-- ---- a scan of the numbers finds the lowest that is unset
 
--- the tests of a list, the first at place k, after a place was found or not
-abbrev searched : ℕ → ℕ → List Bool → ℕ
-searched found k [] = found
-searched found k (t ∷ ts) = searched (cond (eqb found 0) (cond t k 0) found) (suc k) ts
-
-searched-found : (s k : ℕ) (ts : List Bool) → searched (suc s) k ts ≡ suc s
-searched-found s k [] = refl
-searched-found s k (t ∷ ts) = rw (eqb·suc-zero s) (searched-found s (suc k) ts)
-
-searched-finds-lowest
-    : (k : ℕ) (ts : List Bool) → searched 0 (suc k) ts ≡ cond (anywhere passed ts) (suc (k + lowest passed ts)) 0
-unfolding anywhere lowest
-searched-finds-lowest k [] = refl
-searched-finds-lowest k (true ∷ ts) = searched-found k (suc (suc k)) ts ∙ ap suc (omega arith)
-searched-finds-lowest k (false ∷ ts) = searched-finds-lowest (suc k) ts ∙ rw (suc-add, add-suc)
-
-pub nine-tests-find-lowest
-    : (p : Profile)
-    → firstOutside
-    (firstOutside
-    (firstOutside
-    (firstOutside
-    (firstOutside
-    (firstOutside
-    (firstOutside
-    (firstOutside
-    (firstOutside 0 1 1023 (p .t1 .0) 1)
-    1 1023 (p .t0 .0) 2)
-    0 15 (p .early .0) 3)
-    0 15 (p .normal .0) 4)
-    0 15 (p .late .0) 5)
-    1 4095 (p .min .0) 6)
-    1 4095 (p .b23 .0) 7)
-    1 4095 (p .b34 .0) 8)
-    1 4095 (p .rpt .0) 9
-    ≡ lowestUnset p
-unfolding lowestUnset firstOutside unset
-nine-tests-find-lowest p = searched-finds-lowest 0 (unset p) ∙ rw zero-add
+pub scan-finds-lowest : (p : Profile) → unsetFrom ranges (numbersOf p) 0 ≡ lowestUnset p
+unfolding lowestUnset unset
+scan-finds-lowest p = rw zero-add

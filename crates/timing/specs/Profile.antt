@@ -1,31 +1,26 @@
--- Document 01, "Profile": the nine numbers, their ranges, and when a profile is true. No lemmas here.
--- Compare points are whole clocks; every length is in half clocks.
+-- Document 01, "Profile": when a profile's numbers are in range, and when it is true. No lemmas here.
 use Prim.Native.Nat.{ℕ, suc, _+_, _-_, _*_, _≤_}
 use mathlib.Core.Bool.{Bool, cond, not, _&&_, _||_}
 use mathlib.Core.List.{List, [], _∷_}
-use lib.Dec.{leb, ltb, eqb}
+use lib.Dec.{leb, ltb}
 use Rattle.lists.specs.Place.{anywhere, lowest, passed}
 use Rattle.refusal.specs.Answer.{Answer, accepted, refuseIf}
+use Rattle.timing.specs.Numbers.{ranges, numbersOf}
 use Rattle.timing.specs.declared.Profile.{Profile}
+use Rattle.timing.specs.declared.Range.{Range}
 
 -- x is not one of low to high
 abbrev pub outside : ℕ → ℕ → ℕ → Bool
 outside low high x = ltb x low || ltb high x
 
--- T1, T0 (1 to 1,023), Early, Normal, Late (0 to 15), Min, B23, B34, Rpt (1 to 4,095): at each place, whether the
--- number is out of range
+-- at each place, whether the number is out of its range
+abbrev pub outsideOf : List Range → List ℕ → List Bool
+outsideOf [] ns = []
+outsideOf (range ∷ rs) [] = []
+outsideOf (range ∷ rs) (n ∷ ns) = outside (range .low) (range .high) n ∷ outsideOf rs ns
+
 unfoldable pub unset : Profile → List Bool
-unset p =
-    outside 1 1023 (p .t1 .0)
-    ∷ outside 1 1023 (p .t0 .0)
-    ∷ outside 0 15 (p .early .0)
-    ∷ outside 0 15 (p .normal .0)
-    ∷ outside 0 15 (p .late .0)
-    ∷ outside 1 4095 (p .min .0)
-    ∷ outside 1 4095 (p .b23 .0)
-    ∷ outside 1 4095 (p .b34 .0)
-    ∷ outside 1 4095 (p .rpt .0)
-    ∷ []
+unset p = outsideOf ranges (numbersOf p)
 
 -- D is 2 × (Late − Early)
 abbrev pub swing : Profile → ℕ
@@ -52,29 +47,15 @@ profileRule p =
     (refuseIf (not (isTrue p)) 2 0
     (accepted 0))
 
--- the nine tests one after the other, as the code makes them: the place found before, else this number's where it is
--- out of range, else 0
-unfoldable pub firstOutside : ℕ → ℕ → ℕ → ℕ → ℕ → ℕ
-firstOutside found low high x place = cond (eqb found 0) (cond (outside low high x) place 0) found
-
 -- the lowest place of a number out of range, or 0
 unfoldable pub lowestUnset : Profile → ℕ
 lowestUnset p = cond (anywhere passed (unset p)) (suc (lowest passed (unset p))) 0
 
--- all nine numbers are in range
-pub record InRange (p : Profile) : Type 0 where
-  pub t1-low : 1 ≤ p .t1 .0
-  pub t1-high : p .t1 .0 ≤ 1023
-  pub t0-low : 1 ≤ p .t0 .0
-  pub t0-high : p .t0 .0 ≤ 1023
-  pub early-high : p .early .0 ≤ 15
-  pub normal-high : p .normal .0 ≤ 15
-  pub late-high : p .late .0 ≤ 15
-  pub min-low : 1 ≤ p .min .0
-  pub min-high : p .min .0 ≤ 4095
-  pub b23-low : 1 ≤ p .b23 .0
-  pub b23-high : p .b23 .0 ≤ 4095
-  pub b34-low : 1 ≤ p .b34 .0
-  pub b34-high : p .b34 .0 ≤ 4095
-  pub rpt-low : 1 ≤ p .rpt .0
-  pub rpt-high : p .rpt .0 ≤ 4095
+-- each number is in its range
+abbrev pub Inside : List Range → List ℕ → Type 0
+Inside [] ns = Unit {0}
+Inside (range ∷ rs) [] = Unit {0}
+Inside (range ∷ rs) (n ∷ ns) = (range .low ≤ n) × (n ≤ range .high) × Inside rs ns
+
+abbrev pub InRange : Profile → Type 0
+InRange p = Inside ranges (numbersOf p)

@@ -25,7 +25,7 @@ line-found c =
     )
 
 returns : tie.Need-returns
-returns c = script-refused _ _ _ _ (long-input-is-refused _ (c .if1 .taken))
+returns c = script-refused _ _ _ (long-input-is-refused _ (c .if1 .taken))
 
 find-requires : tie.Need-find-requires
 find-requires c κs = search needs
@@ -33,7 +33,7 @@ find-requires c κs = search needs
 returns-2 : tie.Need-returns-2
 returns-2 c =
     let text = c .before .before .before .before .before .args .text .now in
-    script-refused _ _ _ _
+    script-refused _ _ _
     (no-line-feed-is-refused text (c .before .find .result) (c .before .before .if1 .left) (c .before .find .ensures)
     (c .if2 .taken))
 
@@ -55,11 +55,11 @@ enum-told c = search needs
 enum-known-profile : tie.Need-enum-known-profile
 enum-known-profile c = search needs
 
-add-read-items : tie.Need-add-read-items
-add-read-items c = omega (arith, line-found (c .before .before .before .before .before))
+add-store-items : tie.Need-add-store-items
+add-store-items c = omega (arith, line-found (c .before .before .before .before .before))
 
-read-items-requires : tie.Need-read-items-requires
-read-items-requires c κs =
+store-items-requires : tie.Need-store-items-requires
+store-items-requires c κs =
     let found = c .before .before .before .before .before .before in
     omega (arith, line-found found, found .before .before .if1 .left)
 
@@ -75,7 +75,7 @@ returns-3 c =
     let text = found .before .before .before .before .before .args .text .now in
     let faulty =
     faulty-is-no-profile-line _ (sym (c .before .before .read-profile .ensures) ∙ c .enum-told .given .1) in
-    script-refused _ _ _ _
+    script-refused _ _ _
     (no-profile-is-refused text (found .before .find .result) (found .before .before .if1 .left)
     (found .before .find .ensures) (line-found found) faulty)
 
@@ -94,7 +94,7 @@ returns-4 c =
     given-is-profile-line _ _ (sym (profile .before .before .read-profile .ensures) ∙ profile .profile .given .1) in
     let rule = profile-leaves-the-lines text end short (found .before .find .ensures) (line-found found) (first .0) in
     let items = items-of-the-lines text end short (found .before .find .ensures) (line-found found) in
-    lines-refuse-the-script text _ _ _ _ rule items (call .read-items .ensures) _ (c .before .refusal .given .1)
+    lines-refuse-the-script text _ _ _ _ rule items (call .store-items .ensures) _ (c .before .refusal .given .1)
 
 same-length-2 : tie.Need-same-length-2
 same-length-2 c = search needs
@@ -112,7 +112,7 @@ returns-5 c =
     let rule = profile-leaves-the-lines text end short (found .before .find .ensures) (line-found found) (first .0) in
     let items = items-of-the-lines text end short (found .before .find .ensures) (line-found found) in
     let own = sym (first .1) ∙ profile-of-the-input text end short (found .before .find .ensures) in
-    lines-give-the-script text _ _ _ _ rule items (call .read-items .ensures) _ _ own (c .before .count .given .1)
+    lines-give-the-script text _ _ _ _ rule items (call .store-items .ensures) _ _ own (c .before .count .given .1)
 
 pub read-spec : {M : Type 1} → statement M
 read-spec =
@@ -125,8 +125,8 @@ read-spec =
     read-profile-requires
     enum-told
     enum-known-profile
-    add-read-items
-    read-items-requires
+    add-store-items
+    store-items-requires
     enum-known-refusal
     enum-known-count
     returns-3

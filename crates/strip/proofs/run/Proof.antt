@@ -1,13 +1,14 @@
 -- Why `strip::run` prints the program's text: what the input is garbled with comes first, and a list longer than its
 -- first 513 items is refused for them alone. Rests on no axiom.
-use Prim.Native.Nat.{ℕ}
-use mathlib.Core.Path.{sym, _∙_, ap, subst}
+use Prim.Native.Nat.{ℕ, _≤_}
+use mathlib.Core.Path.{_≡_, sym, _∙_, ap, subst}
 use mathlib.Core.List.{List}
-use lib.ListN.{take}
+use lib.ListN.{length, take}
 use lib.Seq.{length-take-le}
 use Rattle.timing.specs.declared.Profile.{Profile}
 use Rattle.script.specs.Input.{itemsIn, profileIn}
-use Rattle.script.specs.Read.{Holds, scriptAnswer}
+use Rattle.script.specs.Read.{scriptAnswer}
+use Rattle.script.proofs.ScriptLaws.{items-fit, items-stand-in-front}
 use Rattle.strip.specs.Program.{scriptText}
 use Rattle.strip.specs.Printed.{Printed}
 use Rattle.strip.proofs.OutputLaws.{printed-is-front}
@@ -17,10 +18,13 @@ use Rattle.strip.proofs.run.Statement.{statement}
 use Rattle.strip.proofs.run.Tie as tie
 
 -- where the input is read, the first items stand in the buffer
-held : (c : tie.After-profile)
-    → Holds (c .before .before .before .read .last .1 .0) (c .profile .given .0 .1 .0)
-    (take 513 (itemsIn (c .before .before .before .before .before .before .args .input .now)))
-held c = c .before .before .before .read .ensures .held _ _ (c .profile .given .1)
+fits : (c : tie.After-profile) → c .profile .given .0 .1 .0 ≤ length (c .before .before .before .read .last .1 .0)
+fits c = items-fit _ _ _ _ _ _ (c .before .before .before .read .ensures) (c .profile .given .1)
+
+front : (c : tie.After-profile)
+    → take (c .profile .given .0 .1 .0) (c .before .before .before .read .last .1 .0)
+    ≡ take 513 (itemsIn (c .before .before .before .before .before .before .args .input .now))
+front c = items-stand-in-front _ _ _ _ _ _ (c .before .before .before .read .ensures) (c .profile .given .1)
 
 slice-aggregate-read : tie.Need-slice-aggregate-read
 slice-aggregate-read c = search needs
@@ -38,14 +42,13 @@ enum-known-profile : tie.Need-enum-known-profile
 enum-known-profile c = search needs
 
 array-share-prefix-items : tie.Need-array-share-prefix-items
-array-share-prefix-items c = held (c .before) .fits
+array-share-prefix-items c = fits (c .before)
 
 slice-aggregate-print-script : tie.Need-slice-aggregate-print-script
 slice-aggregate-print-script c =
     let given = c .before .before in
     sym
-    (length-take-le (given .profile .given .0 .1 .0) (given .before .before .before .read .last .1 .0)
-    (held given .fits))
+    (length-take-le (given .profile .given .0 .1 .0) (given .before .before .before .read .last .1 .0) (fits given))
 
 print-script-requires : tie.Need-print-script-requires
 print-script-requires c κs = search needs
@@ -72,7 +75,7 @@ returns-2 c =
     let rule = sym (ap scriptAnswer (given .profile .given .1)) ∙ read .read .ensures .answer in
     let own = read .read .ensures .profile _ _ (given .profile .given .1) in
     let same =
-    ap (scriptText p) (held given .front)
+    ap (scriptText p) (front given)
     ∙ ap (λ (q : Profile). scriptText q (take 513 (itemsIn text))) own
     ∙ first-items-decide (profileIn text) (itemsIn text)
     ∙ sym (read-input-text text _ _ rule) in

@@ -1,5 +1,5 @@
--- Why `script::read_bytes` keeps the bytes of a line: the fields that are left are bytes where those from the first
--- on are, and they come after the items that the buffer holds. Rests on no axiom.
+-- Why `script::read_bytes` stores the bytes of a line: the fields that are left are bytes where those from the first
+-- on are, and storing them after those before comes out as storing all. Rests on no axiom.
 use Prim.Native.Nat.{ℕ, _+_, _-_, _≤_}
 use mathlib.Core.Path.{_≡_, refl, sym, _∙_, ap}
 use mathlib.Core.List.{List, _∷_}
@@ -9,11 +9,12 @@ use lib.ListN.{length, take, drop}
 use Rattle.lists.specs.Place.{everywhere}
 use Rattle.text.specs.Hex.{isHexByte}
 use Rattle.script.specs.Line.{raised}
-use Rattle.script.specs.Read.{joined, fieldsAfter}
+use Rattle.script.specs.Read.{fieldsAfter}
 use Rattle.script.proofs.FieldLaws.{field-ends-in-line, fields-next}
-use Rattle.script.proofs.ByteLaws.{bytes-of-no-byte, bytes-after-byte, byte-kept, bytes-from-tab}
-use Rattle.script.proofs.ByteLaws.{no-bytes-at-the-end, bytes-at-the-end, all-bytes-kept}
+use Rattle.script.proofs.ByteLaws.{bytes-of-no-byte, bytes-after-byte, byte-is-first, bytes-from-tab}
+use Rattle.script.proofs.ByteLaws.{no-bytes-at-the-end, bytes-at-the-end, no-bytes-are-left, few-bytes}
 use Rattle.text.proofs.HexLaws.{malformed-is-no-byte, value-is-byte}
+use Rattle.script.proofs.BufferLaws.{Storing, all-is-left, rest-is-left, nothing-is-left}
 use Rattle.script.proofs.BufferLaws.{faulty-read, items-read}
 use Rattle.script.proofs.items.read_bytes.Statement.{statement}
 use Rattle.script.proofs.items.read_bytes.Tie as tie
@@ -22,11 +23,9 @@ abbrev Inv-loop : tie.InvT-loop
 Inv-loop line from base buffer₀ count at₀ n₀ buffer at n =
     (at ≤ length line)
     × (length buffer ≡ length buffer₀)
-    × (n ≤ length buffer)
     × (everywhere isHexByte (fieldsAfter (drop at line)) ≡ everywhere isHexByte (fieldsAfter (drop from line)))
-    ×
-    (joined buffer n (raised base (fieldsAfter (drop at line)))
-    ≡ joined buffer₀ count (raised base (fieldsAfter (drop from line))))
+    × Storing buffer n (raised base (fieldsAfter (drop at line))) buffer₀ count
+    (raised base (fieldsAfter (drop from line)))
 
 abbrev μ-loop : tie.MeasureT-loop
 μ-loop line from base buffer₀ count at₀ n₀ buffer at n = length line - at
@@ -44,10 +43,10 @@ next c =
     (c .find .ensures)
 
 returns : tie.Need-returns Inv-loop μ-loop
-returns c = faulty-read _ _ _ (no-bytes-at-the-end _ _ (c .if1 .taken))
+returns c = faulty-read _ _ _ _ _ (no-bytes-at-the-end _ _ (c .if1 .taken))
 
 loop-holds : tie.Need-loop-holds Inv-loop μ-loop
-loop-holds c = (omega arith, refl, omega arith, refl, refl)
+loop-holds c = (omega arith, refl, refl, all-is-left _ _ _)
 
 add-start : tie.Need-add-start Inv-loop μ-loop
 add-start c = omega arith
@@ -82,23 +81,31 @@ returns-2 c =
     let start = at .before .before .before in
     let args = start .before .args in
     let no-byte = malformed-is-no-byte _ (sym (c .before .before .parse-byte .ensures) ∙ c .enum-told .given .1) in
-    faulty-read _ _ _
+    faulty-read _ _ _ _ _
     (bytes-from-tab (args .line .now) (args .from) (at .before .if1 .left)
-    ∙ sym (at .loop .inv .3)
+    ∙ sym (at .loop .inv .2)
     ∙ ap (everywhere isHexByte) (next found)
     ∙ bytes-of-no-byte _ _ no-byte)
 
 enum-known-b : tie.Need-enum-known-b Inv-loop μ-loop
 enum-known-b c = search needs
 
-cast-push : tie.Need-cast-push Inv-loop μ-loop
-cast-push c = search needs
+cast-put : tie.Need-cast-put Inv-loop μ-loop
+cast-put c = search needs
 
-add-push : tie.Need-add-push Inv-loop μ-loop
-add-push c = search needs
+add-put : tie.Need-add-put Inv-loop μ-loop
+add-put c = search needs
 
-push-requires : tie.Need-push-requires Inv-loop μ-loop
-push-requires c κs = omega arith
+put-requires : tie.Need-put-requires Inv-loop μ-loop
+put-requires c κs =
+    let at = c .before .before .before .before .before .before .before .before in
+    let args = at .before .before .before .before .args in
+    omega (
+      arith,
+      at .loop .inv .3 .0,
+      few-bytes (args .line .now) (args .from) (args .base),
+      at .before .before .before .before .pre .1,
+    )
 
 loop-less : tie.Need-loop-less Inv-loop μ-loop
 loop-less c =
@@ -111,17 +118,17 @@ loop-again c =
     let found = parsed .before .before .before .before in
     let at = found .before .before in
     let args = at .before .before .before .before .args in
-    let push = c .before .before .push in
-    let byte = value-is-byte _ _ (sym (parsed .before .before .parse-byte .ensures) ∙ parsed .b .given .1) in (
+    let put = c .before .before .put in
+    let byte = value-is-byte _ _ (sym (parsed .before .before .parse-byte .ensures) ∙ parsed .b .given .1) in
+    let rest = fieldsAfter (drop (found .find .result) (args .line .now)) in
+    let first = ap (raised (args .base)) (next found) ∙ byte-is-first _ rest (args .base) _ (byte .1) in (
       field-ends-in-line (args .line .now) (at .loop .at) (found .find .result) (found .before .loop-test .taken)
           (found .find .ensures),
-      push .kept .0 ∙ at .loop .inv .1,
-      push .ensures .fits,
-      sym (bytes-after-byte _ _ (byte .0)) ∙ sym (ap (everywhere isHexByte) (next found)) ∙ at .loop .inv .3,
-      byte-kept _ _ (args .base) _ (at .loop .n) _ (at .loop .buffer) _ (byte .1) (push .kept .0) (push .ensures)
-          ∙ ap (λ (fields : List (List ℕ)). joined (at .loop .buffer) (at .loop .n) (raised (args .base) fields))
-          (sym (next found))
-          ∙ at .loop .inv .4,
+      put .kept .0 ∙ at .loop .inv .1,
+      sym (bytes-after-byte _ _ (byte .0)) ∙ sym (ap (everywhere isHexByte) (next found)) ∙ at .loop .inv .2,
+      rest-is-left (at .loop .buffer) _ (at .loop .n) _ _ (raised (args .base) rest) _ _ _
+          record { size = put .ensures .0; output = put .ensures .1 }
+          (rw first at (at .loop .inv .3)),
     )
 
 same-length-2 : tie.Need-same-length-2 Inv-loop μ-loop
@@ -131,12 +138,12 @@ returns-3 : tie.Need-returns-3 Inv-loop μ-loop
 returns-3 c =
     let at = c .before in
     let args = at .before .before .before .before .args in
-    items-read _ _ _ _
+    items-read _ _ _ _ _ _
     (bytes-from-tab (args .line .now) (args .from) (at .before .if1 .left)
-    ∙ sym (at .loop .inv .3)
+    ∙ sym (at .loop .inv .2)
     ∙ bytes-at-the-end (args .line .now) (at .loop .at) (c .loop-test .left))
-    (all-bytes-kept (args .line .now) (at .loop .at) (args .base) _ _ _ (c .loop-test .left) (at .loop .inv .2)
-    (at .loop .inv .4))
+    (nothing-is-left _ _ _ _ _
+    (rw (no-bytes-are-left (args .line .now) (at .loop .at) (args .base) (c .loop-test .left)) at (at .loop .inv .3)))
 
 pub read-bytes-spec : {M : Type 1} → statement M
 read-bytes-spec =
@@ -156,9 +163,9 @@ read-bytes-spec =
     same-length
     returns-2
     enum-known-b
-    cast-push
-    add-push
-    push-requires
+    cast-put
+    add-put
+    put-requires
     loop-less
     loop-again
     same-length-2

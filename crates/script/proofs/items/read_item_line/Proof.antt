@@ -1,5 +1,5 @@
--- Why `script::read_item_line` keeps the items of a line: the word says which, and the fields after it are those that
--- `read_bytes` keeps. Rests on no axiom.
+-- Why `script::read_item_line` stores the items of a line: the word says which, and the fields after it are those that
+-- `read_bytes` stores. Rests on no axiom.
 use mathlib.Core.Path.{_≡_, sym, _∙_}
 use mathlib.Core.Bool.{false}
 use lib.ListN.{take}
@@ -40,8 +40,8 @@ slice-aggregate-same c = search needs
 same-requires : tie.Need-same-requires
 same-requires c κs = search needs
 
-push-requires : tie.Need-push-requires
-push-requires c κs = search needs
+put-requires : tie.Need-put-requires
+put-requires c κs = search needs
 
 same-length : tie.Need-same-length
 same-length c = search needs
@@ -52,7 +52,10 @@ returns c =
     sym (c .before .before .before .before .before .same .ensures)
     ∙ c .before .before .before .before .if1 .taken in
     let line = c .before .before .before .before .before .before .before .before .before .args .line .now in
-    rw (crc-is-a-check line crc) (items-read _ _ _ _ (crc-is-an-item-line line crc) (c .before .before .push .ensures))
+    let put = c .before .before .put in
+    rw (crc-is-a-check line crc)
+    (items-read _ _ _ _ _ _ (crc-is-an-item-line line crc)
+    record { size = put .ensures .0; output = put .ensures .1 })
 
 find-requires : tie.Need-find-requires
 find-requires c κs = search needs
@@ -132,7 +135,7 @@ returns-4 c =
     let found = no .before .before .before .before in
     let line = found .before .before .before .before .before .before .args .line .now in
     let no-mark = rw (the-word found) at (sym (c .before .same3 .ensures) ∙ c .if3 .left) in
-    faulty-read _ _ _ (other-word-is-faulty line (no-crc found) (no-data no) no-mark)
+    faulty-read _ _ _ _ _ (other-word-is-faulty line (no-crc found) (no-data no) no-mark)
 
 pub read-item-line-spec : {M : Type 1} → statement M
 read-item-line-spec =
@@ -140,7 +143,7 @@ read-item-line-spec =
     (tie.spec
     slice-aggregate-same
     same-requires
-    push-requires
+    put-requires
     same-length
     returns
     find-requires

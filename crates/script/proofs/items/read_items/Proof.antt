@@ -1,21 +1,22 @@
--- Why `script::read_items` keeps the items of all lines: the answer is that of the lines left, counted on, and their
--- items come after those that the buffer holds. Rests on no axiom.
+-- Why `script::read_items` stores the items of all lines: the answer is that of the lines left, counted on, and storing
+-- their items after those before comes out as storing all. Rests on no axiom.
 use Prim.Native.Nat.{_+_, _-_, _≤_, _<_}
 use mathlib.Core.Path.{_≡_, refl, sym, _∙_, ap}
 use mathlib.Core.List.{_∷_}
 use native.Mathlib.Numerals.{add-one}
 use native.Mathlib.Omega.{arith}
 use borrow.Author.Needs.{needs}
-use lib.ListN.{length, take, drop, length-drop}
+use lib.ListN.{length, take, drop, length-take, length-drop}
 use Rattle.text.specs.Ascii.{lineFeed}
 use Rattle.text.specs.Pieces.{piecesOf}
 use Rattle.script.specs.Line.{lineItems}
 use Rattle.script.specs.Input.{garbledFrom, itemsOf}
-use Rattle.script.specs.Read.{within, joined, isRead}
-use Rattle.script.proofs.BufferLaws.{joined-again}
+use Rattle.script.specs.Read.{isRead}
+use Rattle.script.proofs.BufferLaws.{Storing, all-is-left, rest-is-left, nothing-is-left}
+use Rattle.script.proofs.ByteLaws.{few-items}
 use Rattle.script.proofs.InputLaws.{line-ends-in-text, lines-next, no-line-feed, garbled-at-faulty}
 use Rattle.script.proofs.InputLaws.{garbled-after-good, items-next, garbled-rest, garbled-at-the-end}
-use Rattle.script.proofs.InputLaws.{lines-refused, lines-read, all-items-kept}
+use Rattle.script.proofs.InputLaws.{lines-refused, lines-read, items-at-the-end}
 use Rattle.script.proofs.items.read_items.Statement.{statement}
 use Rattle.script.proofs.items.read_items.Tie as tie
 
@@ -23,12 +24,11 @@ abbrev Inv-loop : tie.InvT-loop
 Inv-loop text from buffer₀ at₀ line₀ count₀ buffer at line count =
     (at ≤ length text)
     × (length buffer ≡ length buffer₀)
-    × (count ≤ length buffer)
+    × (count ≤ at)
     × (line ≤ at + 2)
     × (garbledFrom line (piecesOf lineFeed (drop at text)) ≡ garbledFrom 2 (piecesOf lineFeed (drop from text)))
-    ×
-    (joined buffer count (itemsOf (piecesOf lineFeed (drop at text)))
-    ≡ within buffer₀ (itemsOf (piecesOf lineFeed (drop from text))))
+    × Storing buffer count (itemsOf (piecesOf lineFeed (drop at text))) buffer₀ 0
+    (itemsOf (piecesOf lineFeed (drop from text)))
 
 abbrev μ-loop : tie.MeasureT-loop
 μ-loop text from buffer₀ at₀ line₀ count₀ buffer at line count = length text - at
@@ -57,7 +57,7 @@ next c =
     (line-found c)
 
 loop-holds : tie.Need-loop-holds Inv-loop μ-loop
-loop-holds c = (omega arith, refl, omega arith, omega arith, refl, refl)
+loop-holds c = (omega arith, refl, omega arith, omega arith, refl, all-is-left _ _ _)
 
 find-requires : tie.Need-find-requires Inv-loop μ-loop
 find-requires c κs = tt
@@ -91,7 +91,11 @@ part-read-item-line-end c =
     (c .before .before .before .loop .at) (c .before .find .result) (omega arith) (c .before .find .ensures)
 
 read-item-line-requires : tie.Need-read-item-line-requires Inv-loop μ-loop
-read-item-line-requires c κs = omega arith
+read-item-line-requires c κs =
+    let at = c .before .before .before .before .before in
+    let text = at .before .before .before .args .text .now in
+    let size = length-take (c .before .before .before .find .result - at .loop .at) (drop (at .loop .at) text) in
+    omega (arith, length-drop (at .loop .at) text, at .loop .inv, at .before .before .before .pre)
 
 enum-told : tie.Need-enum-told Inv-loop μ-loop
 enum-told c = search needs
@@ -139,18 +143,20 @@ loop-again c =
     let args = at .before .before .before .args in
     let good = sym (call .read-item-line .ensures .verdict) ∙ ap isRead (c .before .n .given .1) in
     let line = take (found .before .find .result - at .loop .at) (drop (at .loop .at) (args .text .now)) in
-    let held = call .read-item-line .ensures .held _ (c .before .n .given .1) in (
+    let size = length-take (found .before .find .result - at .loop .at) (drop (at .loop .at) (args .text .now)) in
+    let stored = call .read-item-line .ensures .stored _ (c .before .n .given .1) in
+    let rest = piecesOf lineFeed (drop (found .before .find .result + 1) (args .text .now)) in
+    let items = ap itemsOf (next found) ∙ items-next _ _ in (
       omega (arith, line-found found),
       call .read-item-line .kept .1 .0 ∙ at .loop .inv .1,
-      held .fits,
+      omega (arith, stored .size, few-items line, size, at .loop .inv .2, found .before .find .ensures),
       omega (arith, at .loop .inv .3, found .before .find .ensures),
       rw (add-one (at .loop .line))
           (sym (garbled-after-good _ _ (at .loop .line) good)
           ∙ sym (ap (garbledFrom (at .loop .line)) (next found))
           ∙ at .loop .inv .4),
-      joined-again (at .loop .buffer) _ (at .loop .count) _ (lineItems line) _ (call .read-item-line .kept .1 .0) held
-          ∙ ap (joined (at .loop .buffer) (at .loop .count)) (sym (items-next _ _) ∙ sym (ap itemsOf (next found)))
-          ∙ at .loop .inv .5,
+      rest-is-left (at .loop .buffer) _ (at .loop .count) _ (lineItems line) (itemsOf rest) _ _ _ stored
+          (rw items at (at .loop .inv .5)),
     )
 
 same-length-3 : tie.Need-same-length-3 Inv-loop μ-loop
@@ -162,7 +168,7 @@ returns-3 c =
     let text = at .before .before .before .args .text .now in
     lines-read _ _ _ _
     (sym (at .loop .inv .4) ∙ garbled-at-the-end (at .loop .line) text (at .loop .at) (c .loop-test .left))
-    (all-items-kept text (at .loop .at) _ _ _ (c .loop-test .left) (at .loop .inv .2) (at .loop .inv .5))
+    (nothing-is-left _ _ _ _ _ (rw (items-at-the-end text (at .loop .at) (c .loop-test .left)) at (at .loop .inv .5)))
 
 pub read-items-spec : {M : Type 1} → statement M
 read-items-spec =

@@ -4,9 +4,10 @@ use mathlib.Core.Path.{_≡_, sym, _∙_, ap}
 use mathlib.Core.List.{map}
 use lib.ListN.{take}
 use lib.Seq.{length-take-le}
-use Rattle.script.specs.Line.{wordOf, profileFrom, profileOf}
+use Rattle.script.specs.Line.{wordOf, profileOf}
 use Rattle.script.specs.declared.ProfileLine.the-variants.{Given}
 use Rattle.text.specs.Decimal.{valueOf}
+use Rattle.timing.specs.Numbers.{fromNumbers}
 use Rattle.script.proofs.LineLaws.{word-ends-in-line, word-is-a-part, arguments-after-word, profile-is-read}
 use Rattle.script.proofs.LineLaws.{other-numbers-are-faulty, no-profile-is-faulty}
 use borrow.Author.Needs.{needs}
@@ -40,8 +41,8 @@ slice-aggregate-read-numbers c = search needs
 read-numbers-requires : tie.Need-read-numbers-requires
 read-numbers-requires c κs = search needs
 
-profile-of-requires : tie.Need-profile-of-requires
-profile-of-requires c κs = search needs
+from-numbers-requires : tie.Need-from-numbers-requires
+from-numbers-requires c κs = search needs
 
 returns : tie.Need-returns
 unfolding profileOf
@@ -54,8 +55,8 @@ returns c =
     let arguments = arguments-after-word line (found .find .result) (found .find .ensures) in
     let nine = rw arguments at (sym (read .read-numbers .ensures .verdict) ∙ c .before .before .if2 .taken) in
     ap Given
-    (c .profile-of .ensures
-    ∙ ap profileFrom
+    (c .from-numbers .ensures
+    ∙ ap fromNumbers
     (read .read-numbers .ensures .numbers (c .before .before .if2 .taken) ∙ ap (map valueOf) arguments))
     ∙ sym (profile-is-read line word nine)
 
@@ -86,7 +87,7 @@ read-profile-spec =
     same-requires
     slice-aggregate-read-numbers
     read-numbers-requires
-    profile-of-requires
+    from-numbers-requires
     returns
     returns-2
     returns-3)

@@ -5,8 +5,8 @@ use mathlib.Core.Bool.{Bool, cond}
 use borrow.Author.Needs.{needs}
 use Rattle.refusal.specs.Answer.{accepted, refused}
 use Rattle.timing.proofs.ProfileLaws.{rule-of-unset, rule-of-windows, in-range}
-use Rattle.timing.proofs.check.Statement.{statement}
-use Rattle.timing.proofs.check.Tie as tie
+use Rattle.timing.proofs.rule.check.Statement.{statement}
+use Rattle.timing.proofs.rule.check.Tie as tie
 
 lowest-unset-requires : tie.Need-lowest-unset-requires
 lowest-unset-requires c κs = search needs

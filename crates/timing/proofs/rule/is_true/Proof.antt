@@ -3,8 +3,8 @@
 use native.Mathlib.Omega.{arith}
 use Rattle.timing.specs.Profile.{isTrue}
 use borrow.Author.Needs.{needs}
-use Rattle.timing.proofs.is_true.Statement.{statement}
-use Rattle.timing.proofs.is_true.Tie as tie
+use Rattle.timing.proofs.rule.is_true.Statement.{statement}
+use Rattle.timing.proofs.rule.is_true.Tie as tie
 
 swing-requires : tie.Need-swing-requires
 swing-requires c κs = search needs
@@ -19,7 +19,7 @@ add-four : tie.Need-add-four
 add-four c = search needs
 
 add-result : tie.Need-add-result
-add-result c = search needs
+add-result c = omega (arith, c .before .before .before .before .before .before .before)
 
 add-result-2 : tie.Need-add-result-2
 add-result-2 c = omega (arith, c .before .before .before .before .before .before .before .before .before)

@@ -1,0 +1,82 @@
+-- Laws of the ranges, for any number of them: where no number is out of its range, each is inside; and a scan from the
+-- first number on finds the lowest that is out, since a number that is inside moves the scan on by one. Rests on no
+-- axiom.
+use Prim.Native.Nat.{ℕ, suc, _+_, _≤_, _<_}
+use mathlib.Core.Path.{_≡_, refl, ap, ap₂, _∙_}
+use mathlib.Core.Bool.{Bool, true, false, cond, _||_, true≢false}
+use mathlib.Core.List.{List, [], _∷_}
+use native.Mathlib.Nat.{add-suc, suc-add, add-zero}
+use native.Mathlib.Omega.{arith}
+use lib.Dec.{ltb}
+use lib.ListN.{length, getD, drop, drop-of-length-le}
+use lib.Seq.{drop-cons}
+use borrow.Author.Tests.{ltb-false}
+use Rattle.lists.specs.Place.{anywhere, lowest, passed}
+use Rattle.lists.proofs.PlaceLaws.{nowhere-fails-at-first, nowhere-in-rest}
+use Rattle.timing.specs.Numbers.{fromNumbers, numbersOf, profileNumbers}
+use Rattle.timing.specs.Profile.{outside, outsideOf, Inside}
+use Rattle.timing.specs.declared.Profile.{Profile}
+use Rattle.timing.specs.declared.Range.{Range}
+
+-- ---- numbers and profile
+
+pub from-numbers-of-numbers : (p : Profile) → fromNumbers (numbersOf p) ≡ p
+from-numbers-of-numbers p = refl
+
+pub numbers-have-ranges : (p : Profile) → length (numbersOf p) ≡ profileNumbers
+numbers-have-ranges p = refl
+
+-- ---- no test passed
+
+or-false-left : (a b : Bool) → (a || b) ≡ false → a ≡ false
+or-false-left true b h = absurd (true≢false h)
+or-false-left false b h = refl
+
+or-false-right : (a b : Bool) → (a || b) ≡ false → b ≡ false
+or-false-right true b h = absurd (true≢false h)
+or-false-right false b h = h
+
+pub none-outside-all-inside : (rs : List Range) (ns : List ℕ) → anywhere passed (outsideOf rs ns) ≡ false → Inside rs ns
+none-outside-all-inside [] ns e = tt
+none-outside-all-inside (range ∷ rs) [] e = tt
+none-outside-all-inside (range ∷ rs) (n ∷ ns) e =
+    let here = nowhere-fails-at-first passed (outside (range .low) (range .high) n) (outsideOf rs ns) e in
+    let later = nowhere-in-rest passed (outside (range .low) (range .high) n) (outsideOf rs ns) e in (
+      ltb-false n (range .low) (or-false-left (ltb n (range .low)) (ltb (range .high) n) here),
+      ltb-false (range .high) n (or-false-right (ltb n (range .low)) (ltb (range .high) n) here),
+      none-outside-all-inside rs ns later,
+    )
+
+-- ---- a scan
+
+-- where the first of some tests passes, counted from 1, the first of them having place k; 0 for none
+abbrev pub placeFrom : ℕ → List Bool → ℕ
+placeFrom k ts = cond (anywhere passed ts) (suc (k + lowest passed ts)) 0
+
+-- what a scan that has passed k numbers is still to find
+abbrev pub unsetFrom : List Range → List ℕ → ℕ → ℕ
+unsetFrom rs ns k = placeFrom k (outsideOf (drop k rs) (drop k ns))
+
+place-of-passing : (k : ℕ) (ts : List Bool) → placeFrom k (true ∷ ts) ≡ suc k
+unfolding anywhere lowest
+place-of-passing k ts = ap suc (add-zero k)
+
+place-of-failing : (k : ℕ) (ts : List Bool) → placeFrom k (false ∷ ts) ≡ placeFrom (suc k) ts
+unfolding anywhere lowest
+place-of-failing k ts = rw (add-suc, suc-add)
+
+module _ (rs : List Range) (ns : List ℕ) (d : Range) (k : ℕ) (hr : k < length rs) (hn : k < length ns) where
+  tests-from : outsideOf (drop k rs) (drop k ns)
+      ≡ outside (getD rs k d .low) (getD rs k d .high) (getD ns k 0) ∷ outsideOf (drop (suc k) rs) (drop (suc k) ns)
+  tests-from = ap₂ outsideOf (drop-cons rs k d hr) (drop-cons ns k 0 hn)
+
+  pub scan-ends-here : outside (getD rs k d .low) (getD rs k d .high) (getD ns k 0) ≡ true → unsetFrom rs ns k ≡ suc k
+  scan-ends-here e = ap (placeFrom k) tests-from ∙ rw e (place-of-passing k _)
+
+  pub scan-goes-on : outside (getD rs k d .low) (getD rs k d .high) (getD ns k 0) ≡ false
+      → unsetFrom rs ns k ≡ unsetFrom rs ns (suc k)
+  scan-goes-on e = ap (placeFrom k) tests-from ∙ rw e (place-of-failing k _)
+
+pub scan-finds-none : (rs : List Range) (ns : List ℕ) (k : ℕ) → length rs ≤ k → unsetFrom rs ns k ≡ 0
+unfolding anywhere
+scan-finds-none rs ns k h = rw (drop-of-length-le rs h)
