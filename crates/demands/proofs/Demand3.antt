@@ -27,13 +27,14 @@ use Rattle.lengths.proofs.BrokenLaws.{brokenStream, broken-stream-is-near, brok
 use Rattle.lengths.proofs.NearLaws.{near-of-each, near-at, near-itself, near-streams-are-equally-long}
 use Rattle.lengths.proofs.StreamLaws.{length-fits}
 use Rattle.lengths.proofs.PapersMargin.{margin-is-the-papers, one-byte-is-written}
-use Rattle.codec.specs.Reader.{readRule}
+use Rattle.codec.specs.Reader.{itemsOfStream, readRule}
 use Rattle.demands.specs.Streams.{AcceptedProfile, AcceptedList, Moved, ReadsAs, Misread, refused}
 use Rattle.demands.specs.Streams.{another}
 use Rattle.demands.specs.Demand2.{CellsAreClasses}
 use Rattle.demands.specs.Demand3.{stated, Counterexample, Demand3}
-use Rattle.demands.proofs.ListLaws.{listed, one-byte-is-listed}
+use Rattle.demands.proofs.ListLaws.{listed, one-byte-is-listed, written-is-listed, stream-of-written}
 use Rattle.demands.proofs.ClassCells.{number-of-units, class-numbers-injective}
+use Rattle.demands.proofs.Demand1.{room-for-its-list-is-enough}
 use Rattle.demands.proofs.Demand2.{read-only-lists, one-list, every-list-is-read}
 
 stated-is-the-margin : (p : Profile) → AcceptedProfile p → stated p ≡ marginOf p
@@ -159,6 +160,8 @@ module _ (p : Profile) (accepts : AcceptedProfile p) where
         accepted = one-byte-is-listed (x .byte) (x .is-byte);
         changed = brokenStream x;
         moved = moved-beyond n x;
+        room = length (itemsOfStream p (brokenStream x));
+        enough = λ output room. room-for-its-list-is-enough p (brokenStream x) (length output) room;
         misread =
             λ output enough.
             misread (x .byte) (brokenStream x) output (broken-stream-has-other-classes x)
@@ -169,6 +172,7 @@ module _ (p : Profile) (accepts : AcceptedProfile p) where
 pub demand-3 : Demand3
 demand-3 p accepts =
     record {
+      check-orders-turned = λ items h. (written-is-listed items h, stream-of-written p items h);
       never-equal = never-equal p accepts;
       reads-back = reads-back p accepts;
       largest = largest p accepts;

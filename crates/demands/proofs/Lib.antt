@@ -1,3 +1,8 @@
+pub mod OrderLaws
+pub mod UnreadLaws
+pub mod StopLaws
+pub mod LentLaws
+pub mod Demand1
 pub mod SettledCases
 pub mod ListLaws
 pub mod ClassCells

@@ -12,8 +12,11 @@ use Rattle.refusal.specs.Answer.{Answer}
 use Rattle.items.specs.Item.{isByte}
 use Rattle.items.specs.Written.{written}
 use Rattle.items.proofs.ItemLaws.{data-is-byte, bytes-have-no-check, items-but-no-check-are-bytes}
-use Rattle.items.proofs.WrittenLaws.{written-of-no-check}
+use Rattle.items.proofs.WrittenLaws.{written-of-no-check, length-of-written, written-are-bytes}
 use Rattle.items.proofs.RuleLaws.{listed as list-passes, bytes-are-listed}
+use Rattle.items.specs.Rule.{listRule}
+use Rattle.timing.specs.declared.Profile.{Profile}
+use Rattle.lengths.specs.Stream.{byteStream, streamOf}
 use Rattle.demands.specs.Streams.{AcceptedList}
 
 pub record Listed (ws : List ℕ) : Type 0 where
@@ -43,3 +46,16 @@ one-byte-is-listed b h =
     bytes-are-accepted (b ∷ [])
     (everywhere-of-passing isByte b [] (data-is-byte b h) ∙ everywhere-of-none isByte)
     (omega arith)
+
+-- ---- a list with its check orders turned into bytes
+
+pub written-is-listed : (items : List ℕ) → listRule items .number ≡ 0 → AcceptedList (written items)
+written-is-listed items h =
+    let l = list-passes items h in
+    bytes-are-accepted (written items) (written-are-bytes items (l .none-foreign))
+    (rw (length-of-written items) (l .few-bytes))
+
+pub stream-of-written
+    : (p : Profile) (items : List ℕ) → listRule items .number ≡ 0 → streamOf p (written items) ≡ streamOf p items
+unfolding streamOf
+stream-of-written p items h = ap (byteStream p) (listed (written-is-listed items h) .as-written)

@@ -4,6 +4,8 @@ use mathlib.Core.Path.{_≡_}
 use mathlib.Core.List.{List, [], _∷_}
 use lib.ListN.{length}
 use Rattle.timing.specs.declared.Profile.{Profile}
+use Rattle.items.specs.Written.{written}
+use Rattle.items.specs.Rule.{listRule}
 use Rattle.lengths.specs.Stream.{streamOf}
 use Rattle.lengths.specs.Margin.{marginRule, IsMargin}
 use Rattle.demands.specs.Streams.{AcceptedProfile, AcceptedList, Moved, ReadsAs, OutputEnough, Misread}
@@ -13,16 +15,24 @@ abbrev pub stated : Profile → ℕ
 stated p = marginRule p .count
 
 -- a one-byte list and a change of its stream where no interval is moved by more than n and the changed stream, given
--- output enough, is refused or read as another list
+-- output enough, is refused or read as another list. Every output of `room` places or more is enough
 pub record Counterexample (p : Profile) (n : ℕ) : Type 0 where
   pub byte : ℕ
   pub accepted : AcceptedList (byte ∷ [])
   pub changed : List ℕ
   pub moved : Moved n (streamOf p (byte ∷ [])) changed
+  pub room : ℕ
+  pub enough : (output : List ℕ) → room ≤ length output → OutputEnough p changed output
   pub misread : (output : List ℕ) → OutputEnough p changed output → Misread p changed output (byte ∷ [])
 
 -- under one accepted profile
 pub record Unmistaken (p : Profile) : Type 0 where
+  -- check orders already turned into bytes: the written bytes of every accepted list are a list of which the sentences
+  -- below speak, and they have its stream
+  pub check-orders-turned
+      : (items : List ℕ)
+      → listRule items .number ≡ 0
+      → AcceptedList (written items) × (streamOf p (written items) ≡ streamOf p items)
   -- for every two different lists: whatever the drives do to the intervals of the two streams, each moved by at most
   -- the profile's margin, the streams are never equal
   pub never-equal

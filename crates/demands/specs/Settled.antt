@@ -1,5 +1,5 @@
 -- Document 01, "Settled by this profile": the starred cases, gathered under one claim. No lemmas here.
-use Prim.Native.Nat.{ℕ, _+_}
+use Prim.Native.Nat.{ℕ, _+_, _≤_}
 use mathlib.Core.Path.{_≡_}
 use mathlib.Core.Bool.{true, false}
 use mathlib.Core.List.{List, [], _∷_, map}
@@ -10,7 +10,8 @@ use Rattle.timing.specs.declared.Profile.{Profile}
 use Rattle.timing.specs.declared.Class.the-variants.{Narrow, Two, Three, Four, Wide}
 use Rattle.lengths.specs.Lengths.{lengthsOf}
 use Rattle.lengths.specs.Stream.{streamOf}
-use Rattle.lengths.specs.Margin.{marginRule}
+use Rattle.lengths.specs.Margin.{IsMargin, marginRule}
+use Rattle.codec.specs.Writer.{writeRule}
 
 -- a profile with another T0
 abbrev pub profileWith : ℕ → Profile
@@ -40,9 +41,14 @@ pub record SettledCases : Type 0 where
   pub data-00 : streamOf worked (0x00 ∷ []) ≡ replicate 10 58
   pub data-ff : streamOf worked (0xff ∷ []) ≡ 95 ∷ 54 ∷ 58 ∷ 58 ∷ 58 ∷ 58 ∷ 58 ∷ 54 ∷ 95 ∷ []
   pub mark-a1 : streamOf worked ((256 + 0xa1) ∷ []) ≡ 91 ∷ 116 ∷ 87 ∷ 116 ∷ 87 ∷ 91 ∷ []
+  -- as in the strip program's output: the classes of its cells, and their number
+  pub mark-a1-classes : writtenClasses ((256 + 0xa1) ∷ []) ≡ 3 ∷ 4 ∷ 3 ∷ 4 ∷ 3 ∷ 3 ∷ []
+  pub mark-a1-count : (room : ℕ) → 6 ≤ room → writeRule worked ((256 + 0xa1) ∷ []) room ≡ accepted 6
   pub data-a1 : writtenClasses (0xa1 ∷ []) ≡ 3 ∷ 4 ∷ 3 ∷ 2 ∷ 2 ∷ 3 ∷ 3 ∷ []
   pub mark-c2 : writtenClasses ((256 + 0xc2) ∷ []) ≡ 3 ∷ 2 ∷ 3 ∷ 4 ∷ 3 ∷ 3 ∷ 2 ∷ []
+  -- the number that the operation answers, and the margin defined under "Profile"
   pub margin-10 : marginRule worked ≡ accepted 10
+  pub papers-margin-10 : IsMargin worked 10
   pub narrow-35 : classOf worked 35 ≡ Narrow
   pub two-36 : classOf worked 36 ≡ Two
   pub two-72 : classOf worked 72 ≡ Two

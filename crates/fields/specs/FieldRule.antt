@@ -1,5 +1,5 @@
 -- Document 01, "Turned-away numbers", field: 1, 2, 12, then 5, 6 or 11 as first met, 8, 9. No lemmas here.
-use Prim.Native.Nat.{ℕ}
+use Prim.Native.Nat.{ℕ, _+_, _*_}
 use mathlib.Core.Path.{_≡_}
 use mathlib.Core.Bool.{Bool, false, cond}
 use mathlib.Core.List.{List}
@@ -87,3 +87,7 @@ fieldOutput p ds n old = settled (fieldRule p ds n (length old)) (fieldItems (cl
 -- the rest of the caller's list, from the first unused interval; on a refusal, the whole list
 unfoldable pub fieldRest : Profile → List ℕ → ℕ → ℕ → List ℕ
 fieldRest p ds n room = drop (fieldReading p ds n room .used) ds
+
+-- of the caller's own list: it stands in the same block of memory, two bytes on for each interval used
+abbrev pub restPlace : Profile → List ℕ → ℕ → ℕ → ℕ × ℕ → ℕ × ℕ
+restPlace p ds n room start = (start .0, start .1 + fieldReading p ds n room .used * 2)

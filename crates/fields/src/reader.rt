@@ -7,7 +7,8 @@ ghost use Rattle.refusal.specs.Answer.{countedAnswer};
 ghost use Rattle.timing.specs.Class.{classesOf};
 ghost use Rattle.fields.specs.Field.{holdsAfter};
 ghost use Rattle.fields.specs.FieldRule.{gatherRule, GathersItems, deliverReading, deliverOutput, fieldAnswer};
-ghost use Rattle.fields.specs.FieldRule.{checkedReading, checkedOutput, fieldReading, fieldOutput, fieldRest};
+ghost use Rattle.fields.specs.FieldRule.{checkedReading, checkedOutput, fieldReading, fieldOutput};
+ghost use Rattle.fields.specs.FieldRule.{fieldRest, restPlace};
 use intervals::Taken;
 use items::Check;
 use refusal::Counted;
@@ -41,8 +42,7 @@ fn front(intervals: &[u16], most: usize) -> &[u16]
 fn gather(p: Profile, intervals: &[u16], n: u32, out: &mut [u16]) -> Counted
     requires { ⌜ (length (now intervals) ≤ 8241) × (n ≤ 1030) ⌝ }
     ensures answer { λ r. ⌜ countedAnswer r ≡ gatherRule (classesOf p (now (intervals .entry))) n ⌝ }
-    ensures items { λ _. ⌜
-        GathersItems (classesOf p (now (intervals .entry))) n (now (out .entry)) (now (out .exit)) ⌝ }
+    ensures fill { λ _. ⌜ GathersItems (classesOf p (now (intervals .entry))) n (now (out .entry)) (now (out .exit)) ⌝ }
 {
     let mut m = Reading::new();
     let mut count: usize = 0;
@@ -132,8 +132,10 @@ pub fn read_field(p: Profile, intervals: &[u16], n: usize, out: &mut [u16]) -> F
     }
 }
 
-// Reads alike, and answers the rest of the caller's list, from the first unused interval; on a refusal, the whole list.
+// Reads alike, and answers the rest of the caller's own list, from the first unused interval; on a refusal, all of it.
 pub fn read_rest<'a>(p: Profile, intervals: &'a [u16], n: usize, out: &mut [u16]) -> &'a [u16]
+    ensures place { λ r. ⌜
+        r .ptr ≡ restPlace p (now (intervals .entry)) n (length (now (out .entry))) (intervals .entry .ptr) ⌝ }
     ensures rest { λ r. ⌜ now r ≡ fieldRest p (now (intervals .entry)) n (length (now (out .entry))) ⌝ }
     ensures output { λ _. ⌜ now (out .exit) ≡ fieldOutput p (now (intervals .entry)) n (now (out .entry)) ⌝ }
 {

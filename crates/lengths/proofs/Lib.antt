@@ -11,3 +11,4 @@ pub mod SteadyLaws
 pub mod PlaceLaws
 pub mod BrokenLaws
 pub mod PapersMargin
+pub mod PositiveLengths

@@ -26,6 +26,10 @@ difference-from-enough : (a s : ℕ) → s ≤ a → pos a -ℤ pos s ≡ pos (a
 difference-from-enough a zero h = ap pos (omega arith)
 difference-from-enough a (suc s) h = rw (le-ltb a (suc s) h)
 
+-- a shift that takes away no more than there is
+pub signed-sum : (n s e : ℕ) → s ≤ n + e → pos n +ℤ (pos e -ℤ pos s) ≡ pos (n + e - s)
+signed-sum n s e enough = sym (+ℤ-assoc (pos n) (pos e) (negℤ (pos s))) ∙ difference-from-enough (n + e) s enough
+
 module _ (n s e : ℕ) (enough : s ≤ n + e) (small : n + e < 65536) where
   pub shift-fits : SFits w32 (toZ w32 e -ℤ toZ w32 s)
   shift-fits =
@@ -37,8 +41,7 @@ module _ (n s e : ℕ) (enough : s ≤ n + e) (small : n + e < 65536) where
       ap₂ (λ (x y : ℤ). x +ℤ y) (toZ-pos w32 {n = n} (omega arith))
       (toZ-ofZ shift-fits
       ∙ ap₂ (λ (x y : ℤ). x -ℤ y) (toZ-pos w32 {n = e} (omega arith)) (toZ-pos w32 {n = s} (omega arith)))
-      ∙ sym (+ℤ-assoc (pos n) (pos e) (negℤ (pos s)))
-      ∙ difference-from-enough (n + e) s enough
+      ∙ signed-sum n s e enough
 
   pub shifted-fits : SFits w32 (toZ w32 n +ℤ toZ w32 (ofZ w32 (toZ w32 e -ℤ toZ w32 s)))
   shifted-fits = subst (SFits w32) (sym shifted-length) (record { sfits = omega arith })

@@ -120,11 +120,6 @@ window-at (u ∷ us) [] w k h = absurd w
 window-at (u ∷ us) (l ∷ ls) w zero h = w .0
 window-at (u ∷ us) (l ∷ ls) w (suc k) h = window-at us ls (w .1) k (omega arith)
 
-window-is-positive : {p : Profile} → Kept p → {l u : ℕ} → Window p l u → 0 < l
-window-is-positive k (two low high) = omega (arith, k)
-window-is-positive k (three low high) = omega (arith, k)
-window-is-positive k (four low high) = omega (arith, k)
-
 window-fits : {p : Profile} → Kept p → {l u : ℕ} → Window p l u → l < 65536
 window-fits k (two low high) = omega (arith, k)
 window-fits k (three low high) = omega (arith, k)
@@ -133,9 +128,6 @@ window-fits k (four low high) = omega (arith, k)
 module _ {p : Profile} (k : Kept p) (ws : List ℕ) (i : ℕ) (h : i < length (byteStream p ws)) where
   window-of-length : Window p (getD (byteStream p ws) i 0) (getD (writtenCells ws) i 0)
   window-of-length = window-at (writtenCells ws) (byteStream p ws) (stream-has-windows k ws) i h
-
-  pub length-is-positive : 0 < getD (byteStream p ws) i 0
-  length-is-positive = window-is-positive k window-of-length
 
   pub length-fits : getD (byteStream p ws) i 0 < 65536
   length-fits = window-fits k window-of-length

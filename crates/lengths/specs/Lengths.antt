@@ -20,7 +20,7 @@ symbolAfter (s ∷ ss) = s
 
 -- T1 + (zeros × T0) + 2 × (compare point at its end − compare point at its start). The compare points double, since
 -- they are whole clocks. Their difference can be below zero, so what is taken away is taken from the whole; under a
--- true profile nothing is cut off
+-- true profile nothing is cut off (`Claims`: `LengthsArePositive`)
 unfoldable pub cellLength : Profile → ℕ → ℕ → ℕ → ℕ
 cellLength p zeros start end = p .t1 .0 + zeros * p .t0 .0 + 2 * end - 2 * start
 

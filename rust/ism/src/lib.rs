@@ -130,6 +130,12 @@ pub fn read_field(profile: Profile, intervals: &[u16], bytes: u64, out: &mut [u1
     Ok(Field { items: answer.count as usize, used: answer.used as usize, holds: answer.holds != 0 })
 }
 
+/// Reads as [`read_field`] does, and gives the rest of `intervals` from the first unused one; on a refusal, all of them.
+pub fn read_rest<'a>(profile: Profile, intervals: &'a [u16], bytes: u64, out: &mut [u16]) -> &'a [u16] {
+    let used = read_field(profile, intervals, bytes, out).map_or(0, |field| field.used);
+    &intervals[used..]
+}
+
 /// Makes the items of one sector at the front of `out` and gives their count, `data.len() + SECTOR_OVERHEAD`.
 ///
 /// Refusals in order: sector size mismatch, output too short.

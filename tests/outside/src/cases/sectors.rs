@@ -73,5 +73,9 @@ fn reads_next(compare: &mut Compare, nine: &Nine, track: &[u16], start: usize, f
     let mut out = vec![0; field.len()];
     let read = ism::read_field(profile(nine), &track[place..], bytes, &mut out).expect("a whole field");
     compare.claim("the sector's next field reads back", out == field && read.holds);
+    let rest = ism::read_rest(profile(nine), &track[place..], bytes, &mut out);
+    compare.claim("the rest of the track is the caller's own", std::ptr::eq(rest, &track[place + read.used..]));
+    let all = ism::read_rest(profile(nine), &track[place..], 0, &mut out);
+    compare.claim("on a refusal the rest is the whole track", std::ptr::eq(all, &track[place..]));
     place + read.used
 }

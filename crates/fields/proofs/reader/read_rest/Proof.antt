@@ -1,13 +1,13 @@
--- Why `fields::reader::read_rest` answers `fieldRest`: it drops as many intervals as the reading used, which a refusal
--- puts at 0. Rests on no axiom.
-use Prim.Native.Nat.{ℕ, _-_, _≤_}
-use mathlib.Core.Path.{_≡_, sym, ap, _∙_}
+-- Why `fields::reader::read_rest` answers `fieldRest` at its place: it drops as many intervals of the caller's list as
+-- the reading used, which a refusal puts at 0. Rests on no axiom.
+use Prim.Native.Nat.{ℕ, _+_, _-_, _*_, _≤_}
+use mathlib.Core.Path.{_≡_, refl, sym, ap, _∙_}
 use mathlib.Core.List.{List}
 use native.Mathlib.Omega.{arith}
 use lib.ListN.{length, take, drop, length-drop}
 use lib.Seq.{take-all}
 use Rattle.timing.specs.declared.Profile.{Profile}
-use Rattle.fields.specs.FieldRule.{FieldAnswer, fieldAnswer, fieldReading, fieldRest}
+use Rattle.fields.specs.FieldRule.{FieldAnswer, fieldAnswer, fieldReading, fieldRest, restPlace}
 use Rattle.fields.specs.declared.reader.FieldRead.{FieldRead}
 use Rattle.fields.proofs.ReaderLaws.{used-is-within}
 use borrow.Author.Needs.{needs}
@@ -27,6 +27,16 @@ module _ (p : Profile) (ds : List ℕ) (n room used : ℕ) (e : used ≡ fieldRe
 
   part-is : take (length ds - used) (drop used ds) ≡ fieldRest p ds n room
   part-is = take-all (length ds - used) (drop used ds) (rw (length-drop used ds) (omega arith)) ∙ rest-is
+
+  -- where it stands: a list that starts at a place of a block, after the used intervals and, with none used, whole
+  abbrev StandsAt : ℕ → ℕ → ℕ → Type 0
+  StandsAt block at place = _≡_ {A = ℕ × ℕ} (block, place) (restPlace p ds n room (block, at))
+
+  rest-stands : (block at : ℕ) → StandsAt block at (used * 2 + at)
+  rest-stands block at = ap (λ (o : ℕ). (block, o)) (omega (arith, e))
+
+  whole-stands : (block at : ℕ) → used ≡ 0 → StandsAt block at at
+  whole-stands block at none = ap (λ (o : ℕ). (block, o)) (omega (arith, e))
 
 -- what the reading used, where it was accepted
 used-is
@@ -76,7 +86,7 @@ returns c =
     let read = c .before .before .before .before in
     let none =
     sym (ap used-of (c .enum-told .given .1)) ∙ ap (λ (a : FieldAnswer). a .used) (read .read-field .ensures .0) in
-    (rest-is _ _ _ _ 0 none, read .read-field .ensures .1)
+    (whole-stands _ _ _ _ 0 none _ _ refl, (rest-is _ _ _ _ 0 none, read .read-field .ensures .1))
 
 same-length-2 : tie.Need-same-length-2
 same-length-2 c = search needs
@@ -84,7 +94,8 @@ same-length-2 c = search needs
 returns-2 : tie.Need-returns-2
 returns-2 c =
     let read = c .before .before .before .before .before .before in
-    (part-is _ _ _ _ _ (used-is (c .before)), read .read-field .ensures .1)
+    let used = used-is (c .before) in
+    (rest-stands _ _ _ _ _ used _ _, (part-is _ _ _ _ _ used, read .read-field .ensures .1))
 
 pub read-rest-spec : {M : Type 1} → statement M
 read-rest-spec =

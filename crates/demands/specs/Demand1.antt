@@ -1,0 +1,45 @@
+-- Demand 1: refused first, each cause by its number, its place and its turn; a refusal alters nothing that was lent;
+-- accepted then, every other input. That no duty is laid on the caller is in the contracts: no entry has a `requires`.
+-- No lemmas here.
+use Prim.Native.Nat.{ℕ}
+use mathlib.Core.List.{List}
+use lib.ListN.{length}
+use Rattle.timing.specs.Class.{classesOf, classRule}
+use Rattle.timing.specs.declared.Profile.{Profile}
+use Rattle.lengths.specs.Stream.{streamOf}
+use Rattle.lengths.specs.Margin.{marginRule}
+use Rattle.codec.specs.Writer.{writeRule, writeOutput}
+use Rattle.codec.specs.Reader.{itemsOfStream, readRule, readOutput}
+use Rattle.fields.specs.Lock.{findRule}
+use Rattle.fields.specs.Field.{fieldItems}
+use Rattle.fields.specs.FieldRule.{fieldRule, fieldOutput}
+use Rattle.sectors.specs.Sector.{sectorItems, sectorRule, sectorOutput}
+use Rattle.demands.specs.Order.{accept, Answers, Lent}
+use Rattle.demands.specs.Causes.{profileOrder, writerOrder, stripOrder, finderOrder, fieldOrder, makerOrder}
+
+pub record Demand1 : Type 0 where
+  -- refused first, and accepted then: every operation by its order
+  pub margin : (p : Profile) → Answers (profileOrder p accept) (marginRule p)
+  pub class : (p : Profile) (d : ℕ) → Answers (profileOrder p accept) (classRule p d)
+  pub writer : (p : Profile) (items : List ℕ) (room : ℕ) → Answers (writerOrder p items room) (writeRule p items room)
+  pub strip-reader : (p : Profile) (ds : List ℕ) (room : ℕ) → Answers (stripOrder p ds room) (readRule p ds room)
+  pub finder : (p : Profile) (ds : List ℕ) (start : ℕ) → Answers (finderOrder p ds start) (findRule p ds start)
+  pub field-reader
+      : (p : Profile) (ds : List ℕ) (n room : ℕ) → Answers (fieldOrder p ds n room) (fieldRule p ds n room)
+  pub maker
+      : (track side sector code : ℕ) (bytes : List ℕ) (room : ℕ)
+      → Answers (makerOrder track side sector code bytes room) (sectorRule track side sector code bytes room)
+  -- a refusal alters nothing the caller lent: every operation that lends a buffer
+  pub writer-output
+      : (p : Profile) (items old : List ℕ)
+      → Lent (writeRule p items (length old)) (streamOf p items) old (writeOutput p items old)
+  pub strip-output
+      : (p : Profile) (ds old : List ℕ)
+      → Lent (readRule p ds (length old)) (itemsOfStream p ds) old (readOutput p ds old)
+  pub field-output
+      : (p : Profile) (ds : List ℕ) (n : ℕ) (old : List ℕ)
+      → Lent (fieldRule p ds n (length old)) (fieldItems (classesOf p ds) n) old (fieldOutput p ds n old)
+  pub maker-output
+      : (track side sector code : ℕ) (bytes old : List ℕ)
+      → Lent (sectorRule track side sector code bytes (length old)) (sectorItems track side sector code bytes) old
+      (sectorOutput track side sector code bytes old)

@@ -1,0 +1,60 @@
+-- Why every length is positive and nothing of it is cut off: compare points lie between Early and Late, so a shift
+-- takes away D at most, and T1 is longer than D by Min or more. Rests on no axiom.
+use Prim.Native.Nat.{ℕ, suc, _+_, _-_, _*_, _≤_, _<_}
+use native.Mathlib.Omega.{arith}
+use mathlib.Core.Path.{sym}
+use mathlib.Core.Bool.{Bool, true, false}
+use mathlib.Core.List.{List, [], _∷_}
+use Rattle.items.specs.Written.{written}
+use Rattle.symbols.specs.Cells.{writtenSymbols}
+use Rattle.timing.specs.declared.Profile.{Profile}
+use Rattle.timing.proofs.ProfileLaws.{Kept, kept}
+use Rattle.lengths.specs.Lengths.{point, symbolAfter, cellLength, lengthsFrom, lengthsOf}
+use Rattle.lengths.specs.Stream.{byteStream, streamOf}
+use Rattle.lengths.specs.Claims.{signedLength, SignedLengths, LengthsArePositive}
+use Rattle.lengths.proofs.ShiftLaws.{signed-sum}
+use Rattle.lengths.proofs.SteadyLaws.{point-is-in-range}
+
+-- D is less than T1, and so than every nominal length
+shift-is-less
+    : (t1 more start end early late least : ℕ)
+    → start ≤ late
+    → early ≤ end
+    → 1 ≤ least
+    → least + 2 * (late - early) ≤ t1
+    → 2 * start < t1 + more + 2 * end
+shift-is-less t1 more start end early late least h₁ h₂ h₃ h₄ = omega arith
+
+module _ {p : Profile} (k : Kept p) where
+  cell-takes-less
+      : (zeros start end : ℕ)
+      → start ≤ p .late .0
+      → p .early .0 ≤ end
+      → 2 * start < p .t1 .0 + zeros * p .t0 .0 + 2 * end
+  cell-takes-less zeros start end not-late not-early =
+      shift-is-less (p .t1 .0) (zeros * p .t0 .0) start end (p .early .0) (p .late .0) (p .min .0) not-late not-early
+      (k .ranges .min-low)
+      (k .two-from)
+
+  lengths-are-signed
+      : (ss : List Bool) (start zeros : ℕ) (before : Bool)
+      → start ≤ p .late .0
+      → SignedLengths p start zeros before ss (lengthsFrom p start zeros before ss)
+  unfolding SignedLengths lengthsFrom cellLength signedLength
+  lengths-are-signed [] start zeros before h = tt
+  lengths-are-signed (false ∷ ss) start zeros before h = lengths-are-signed ss start (suc zeros) false h
+  lengths-are-signed (true ∷ ss) start zeros before h =
+      let end = point p before (symbolAfter ss) in
+      let range = point-is-in-range k before (symbolAfter ss) in
+      let less = cell-takes-less zeros start end h (range .0) in (
+        omega arith,
+        sym (signed-sum (p .t1 .0 + zeros * p .t0 .0) (2 * start) (2 * end) (omega arith)),
+        lengths-are-signed ss end 0 true (range .1),
+      )
+
+pub lengths-are-positive : LengthsArePositive
+unfolding streamOf byteStream lengthsOf
+lengths-are-positive p accepts items listed =
+    let ss = writtenSymbols (written items) in
+    let k = kept p accepts in
+    lengths-are-signed k ss (point p true (symbolAfter ss)) 0 true (point-is-in-range k true (symbolAfter ss) .1)
