@@ -65,7 +65,7 @@ field-output p ds n old =
     let after-8 = first-refusal-accepts (gatherRule cs n) _ (after-12 .1) in
     let after-11 = first-refusal-accepts (fieldStop cs n) _ (after-8 .0) in
     let after-9 = refuse-if-accepts (ltb room n) 8 0 (accepted n) (after-8 .1) in
-    let few : n ≤ 1030 = ltb-false 1030 n (or-eq-false-eq-eq-false-and-eq-false (ltb n 1) (ltb 1030 n) .to (after-12 .0) .1) in
+    let few : n ≤ 1030 = ltb-false 1030 n (or-eq-false-eq-eq-false-and-eq-false (ltb n 1) (ltb 1030 n) .0 (after-12 .0) .1) in
     let items = field-items-count cs n (after-11 .0) few in
     let count =
     first-refusal-passes (profileRule p) _ (after-2 .0)

@@ -7,60 +7,66 @@ use mathlib.Core.List.{List}
 use mathlib.Core.Logic.{⊎-elim}
 use native.Mathlib.Omega.{arith}
 use native.Mathlib.Nat.{eq-zero-or-pos}
-use borrow.Author.Tests.{le-leb}
-use lib.ListN.{length, getD, drop, List·getD-eq-default}
-use lib.Seq.{getD-drop}
+use borrow.Author.Tests.{le-leb, lt-leb}
+use lib.ListN.{length, getD, drop, drop-of-length-le}
+use lib.Seq.{getD-drop, drop-cons}
 use Rattle.refusal.specs.Answer.{accepted, refused}
 use Rattle.timing.specs.declared.Class.{Class}
 use Rattle.timing.specs.declared.Class.the-variants.{Narrow, Two}
-use Rattle.fields.specs.Lock.{lockAt, firstLock, lockFrom, mayStand}
-use Rattle.fields.proofs.LockLaws.{run-ahead, run-broken, mark-ahead, mark-broken, narrow-in-no-mark}
-use Rattle.fields.proofs.LockLaws.{two-begins-no-mark}
+use Rattle.fields.specs.Lock.{markAhead, lockAt, firstLock, lockFrom}
+use Rattle.fields.proofs.LockLaws.{run-ahead, run-broken, no-mark-of-none, two-begins-no-mark}
 
-module _ (cs : List Class) where
+-- the intervals from a place up to another are of class 2
+abbrev pub Twos : List Class → ℕ → ℕ → Type 0
+Twos cs low high = (j : ℕ) → low ≤ j → j < high → getD cs j Narrow ≡ Two
+
+module _ (cs : List Class) (k : ℕ) where
   -- ---- where a lock stands
 
-  -- the run that ends 64 places on from b
-  sync : (b : ℕ) → b + 64 - 64 ≡ b
-  sync b = omega arith
-
-  pub lock-stands
-      : (b : ℕ)
-      → ((j : ℕ) → b ≤ j → j < b + 64 → getD cs j Narrow ≡ Two)
-      → ((j : ℕ) → j < 5 → mayStand j (getD cs (b + 64 + j) Narrow) ≡ true)
-      → lockAt cs (b + 64) ≡ true
+  pub lock-stands : 64 ≤ k → Twos cs (k - 64) k → markAhead (drop k cs) ≡ true → lockAt cs k ≡ true
   unfolding lockAt
-  lock-stands b run mark =
+  lock-stands far run mark =
       rw (
-        le-leb 64 (b + 64) (omega arith),
-        sync b,
-        run-ahead 64 (drop b cs) (λ j h. getD-drop b cs j Narrow ∙ run (b + j) (omega arith) (omega arith)),
+        le-leb 64 k far,
+        run-ahead 64 (drop (k - 64) cs)
+            (λ j h. getD-drop (k - 64) cs j Narrow ∙ run (k - 64 + j) (omega arith) (omega arith)),
       )
-      (mark-ahead (drop (b + 64) cs) (λ j h. rw (getD-drop (b + 64) cs j Narrow) (mark j h)))
+      mark
 
-  pub broken-run-has-no-lock
-      : (b j : ℕ) → b ≤ j → j < b + 64 → (getD cs j Narrow ≡ Two → ⊥) → lockAt cs (b + 64) ≡ false
+  -- ---- where none stands
+
+  no-lock-below-64 : k < 64 → lockAt cs k ≡ false
   unfolding lockAt
-  broken-run-has-no-lock b j low high broken =
-      let there : getD (drop b cs) (j - b) Narrow ≡ getD cs j Narrow =
-      getD-drop b cs (j - b) Narrow ∙ ap (λ (i : ℕ). getD cs i Narrow) (omega arith) in
-      rw (sync b, run-broken 64 (drop b cs) (j - b) (omega arith) (λ e. broken (sym there ∙ e)), and-false)
+  no-lock-below-64 h = rw (lt-leb 64 k h)
 
-  pub broken-mark-has-no-lock
-      : (k j : ℕ) → j < 5 → mayStand j (getD cs (k + j) Narrow) ≡ false → lockAt cs k ≡ false
+  broken-run-has-no-lock : 64 ≤ k → (j : ℕ) → j < k → k ≤ j + 64 → (getD cs j Narrow ≡ Two → ⊥) → lockAt cs k ≡ false
   unfolding lockAt
-  broken-mark-has-no-lock k j h e =
-      rw (mark-broken (drop k cs) j h (rw (getD-drop k cs j Narrow) e), and-false)
+  broken-run-has-no-lock far j low high broken =
+      let there : getD (drop (k - 64) cs) (j - (k - 64)) Narrow ≡ getD cs j Narrow =
+      getD-drop (k - 64) cs (j - (k - 64)) Narrow ∙ ap (λ (i : ℕ). getD cs i Narrow) (omega arith) in
+      rw (
+        run-broken 64 (drop (k - 64) cs) (j - (k - 64)) (omega arith) (λ e. broken (sym there ∙ e)),
+        and-false,
+      )
 
-  pub lock-is-within : (k : ℕ) → lockAt cs k ≡ true → k < length cs
-  lock-is-within k e =
-      let none-past-end : length cs - k ≡ 0 → ⊥ =
-      λ z.
-      let past : getD cs (k + 0) Narrow ≡ Narrow = List·getD-eq-default cs Narrow (omega arith) in
-      true≢false
-      (sym e ∙ broken-mark-has-no-lock k 0 (omega arith) (ap (mayStand 0) past ∙ narrow-in-no-mark)) in
-      ⊎-elim (λ z. absurd (none-past-end z)) (λ h. omega arith) (eq-zero-or-pos (length cs - k))
+  pub no-lock-without-mark : markAhead (drop k cs) ≡ false → lockAt cs k ≡ false
+  unfolding lockAt
+  no-lock-without-mark e = rw (e, and-false)
 
+  no-lock-at-two : k < length cs → getD cs k Narrow ≡ Two → lockAt cs k ≡ false
+  no-lock-at-two h two = no-lock-without-mark (rw (drop-cons cs k Narrow h, two) (two-begins-no-mark _))
+
+  pub no-lock-past-end : length cs ≤ k → lockAt cs k ≡ false
+  no-lock-past-end h = no-lock-without-mark (rw (drop-of-length-le cs h) no-mark-of-none)
+
+  pub lock-is-within : lockAt cs k ≡ true → k < length cs
+  lock-is-within e =
+      ⊎-elim
+      (λ past. absurd (true≢false (sym e ∙ no-lock-past-end (omega arith))))
+      (λ inside. omega arith)
+      (eq-zero-or-pos (length cs - k))
+
+module _ (cs : List Class) where
   -- ---- the search
 
   skips : (k places : ℕ) → lockAt cs k ≡ false → firstLock cs k places ≡ firstLock cs (suc k) (pred places)
@@ -68,45 +74,56 @@ module _ (cs : List Class) where
   skips k zero e = refl
   skips k (suc places) e = rw e
 
-  pub no-lock-goes-on : (b : ℕ) → lockAt cs (b + 64) ≡ false → lockFrom cs b ≡ lockFrom cs (b + 1)
+  no-lock-goes-on : (k : ℕ) → lockAt cs k ≡ false → lockFrom cs k ≡ lockFrom cs (k + 1)
   unfolding lockFrom
-  no-lock-goes-on b e =
-      skips (b + 64) (length cs - (b + 64)) e ∙ ap₂ (firstLock cs) (omega arith) (omega arith)
+  no-lock-goes-on k e = skips k (length cs - k) e ∙ ap₂ (firstLock cs) (omega arith) (omega arith)
 
-  pub lock-is-first : (b : ℕ) → lockAt cs (b + 64) ≡ true → accepted (b + 64) ≡ lockFrom cs b
+  goes-on-by : (d k : ℕ) → ((j : ℕ) → k ≤ j → j < k + d → lockAt cs j ≡ false) → lockFrom cs k ≡ lockFrom cs (k + d)
+  goes-on-by zero k none = ap (lockFrom cs) (omega arith)
+  goes-on-by (suc d) k none =
+      no-lock-goes-on k (none k (omega arith) (omega arith))
+      ∙ goes-on-by d (k + 1) (λ j low high. none j (omega arith) (omega arith))
+      ∙ ap (lockFrom cs) (omega arith)
+
+  -- from k on to a place before which no lock stands
+  pub search-goes-on
+      : (k next : ℕ)
+      → k ≤ next
+      → ((j : ℕ) → k ≤ j → j < next → lockAt cs j ≡ false)
+      → lockFrom cs k ≡ lockFrom cs next
+  search-goes-on k next far none =
+      goes-on-by (next - k) k (λ j low high. none j low (omega arith)) ∙ ap (lockFrom cs) (omega arith)
+
+  -- an interval that is not of class 2 rules out every place that has it among its 64
+  pub broken-run-is-passed
+      : (k j : ℕ)
+      → 64 ≤ k
+      → j < k
+      → k ≤ j + 65
+      → (getD cs j Narrow ≡ Two → ⊥)
+      → lockFrom cs k ≡ lockFrom cs (j + 65)
+  broken-run-is-passed k j far low high broken =
+      search-goes-on k (j + 65) high
+      (λ i from to. broken-run-has-no-lock cs i (omega arith) j (omega arith) (omega arith) broken)
+
+  -- no mark begins with class 2
+  pub longer-run-is-passed
+      : (k next : ℕ) → k ≤ next → next ≤ length cs → Twos cs k next → lockFrom cs k ≡ lockFrom cs next
+  longer-run-is-passed k next far within twos =
+      search-goes-on k next far (λ i from to. no-lock-at-two cs i (omega arith) (twos i from to))
+
+  pub first-64-are-passed : lockFrom cs 0 ≡ lockFrom cs 64
+  first-64-are-passed = search-goes-on 0 64 (omega arith) (λ i from to. no-lock-below-64 cs i to)
+
+  pub search-ends-in-lock : (k : ℕ) → lockAt cs k ≡ true → accepted k ≡ lockFrom cs k
   unfolding lockFrom firstLock
-  lock-is-first b e =
-      let h : b + 64 < length cs = lock-is-within (b + 64) e in
-      let more : length cs - (b + 64) ≡ suc (length cs - (b + 65)) = omega arith in
+  search-ends-in-lock k e =
+      let h : k < length cs = lock-is-within cs k e in
+      let more : length cs - k ≡ suc (length cs - (k + 1)) = omega arith in
       rw (more, e)
 
-  pub end-is-adrift : (b : ℕ) → length cs ≤ b + 64 → refused 10 0 ≡ lockFrom cs b
+  pub search-ends-adrift : (k : ℕ) → length cs ≤ k → refused 10 0 ≡ lockFrom cs k
   unfolding lockFrom firstLock
-  end-is-adrift b h =
-      let none : length cs - (b + 64) ≡ 0 = omega arith in
+  search-ends-adrift k h =
+      let none : length cs - k ≡ 0 = omega arith in
       rw none
-
-  passes-over : (d b j : ℕ) → j ≡ b + d → d < 64 → (getD cs j Narrow ≡ Two → ⊥) → lockFrom cs b ≡ lockFrom cs (j + 1)
-  passes-over zero b j e h broken =
-      no-lock-goes-on b (broken-run-has-no-lock b j (omega arith) (omega arith) broken)
-      ∙ ap (λ (i : ℕ). lockFrom cs i) (omega arith)
-  passes-over (suc d) b j e h broken =
-      no-lock-goes-on b (broken-run-has-no-lock b j (omega arith) (omega arith) broken)
-      ∙ passes-over d (b + 1) j (omega arith) (omega arith) broken
-
-  pub broken-run-is-passed
-      : (b j : ℕ) → b ≤ j → j < b + 64 → (getD cs j Narrow ≡ Two → ⊥) → lockFrom cs b ≡ lockFrom cs (j + 1)
-  broken-run-is-passed b j low high broken = passes-over (j - b) b j (omega arith) (omega arith) broken
-
-  -- a place of class 2 has no lock, since no mark begins with it
-  pub longer-run-is-passed
-      : (d b : ℕ)
-      → ((j : ℕ) → b + 64 ≤ j → j < b + 64 + d → getD cs j Narrow ≡ Two)
-      → lockFrom cs b ≡ lockFrom cs (b + d)
-  longer-run-is-passed zero b twos = ap (λ (i : ℕ). lockFrom cs i) (omega arith)
-  longer-run-is-passed (suc d) b twos =
-      let here : getD cs (b + 64 + 0) Narrow ≡ Two = twos (b + 64 + 0) (omega arith) (omega arith) in
-      no-lock-goes-on b
-      (broken-mark-has-no-lock (b + 64) 0 (omega arith) (ap (mayStand 0) here ∙ two-begins-no-mark))
-      ∙ longer-run-is-passed d (b + 1) (λ j low high. twos j (omega arith) (omega arith))
-      ∙ ap (λ (i : ℕ). lockFrom cs i) (omega arith)

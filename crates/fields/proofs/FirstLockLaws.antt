@@ -11,7 +11,7 @@ use lib.ListN.{length}
 use Rattle.refusal.specs.Answer.{Answer, accepted}
 use Rattle.timing.specs.declared.Class.{Class}
 use Rattle.fields.specs.Lock.{lockAt, firstLock, lockFrom}
-use Rattle.fields.proofs.FinderLaws.{lock-is-within}
+use Rattle.fields.proofs.FinderLaws.{lock-is-within, no-lock-past-end}
 
 -- a lock stands at place t, and at none before it from place k on
 pub record FirstFrom (cs : List Class) (k t : ℕ) : Type 0 where
@@ -40,12 +40,12 @@ module _ (cs : List Class) where
       })))
       (eq-or-lt-of-le (first .from))
 
-  pub lock-from-is : (start k : ℕ) → FirstFrom cs (start + 64) k → lockFrom cs start ≡ accepted k
+  pub lock-from-is : (k t : ℕ) → FirstFrom cs k t → lockFrom cs k ≡ accepted t
   unfolding lockFrom
-  lock-from-is start k first =
-      let within = lock-is-within cs k (first .stands) in
+  lock-from-is k t first =
+      let within = lock-is-within cs t (first .stands) in
       let low = first .from in
-      first-is (length cs - (start + 64)) (start + 64) k (omega arith) first
+      first-is (length cs - k) k t (omega arith) first
 
   -- ---- what a find means
 
@@ -76,10 +76,9 @@ module _ (cs : List Class) where
   first-found (suc places) k e =
       found-here-or-later (lockAt cs k) k (firstLock cs (suc k) places) refl (first-found places (suc k)) e
 
-  pub lock-from-found
-      : (start : ℕ) → lockFrom cs start .number ≡ 0 → FirstFrom cs (start + 64) (lockFrom cs start .count)
+  pub lock-from-found : (k : ℕ) → lockFrom cs k .number ≡ 0 → FirstFrom cs k (lockFrom cs k .count)
   unfolding lockFrom
-  lock-from-found start e = first-found (length cs - (start + 64)) (start + 64) e
+  lock-from-found k e = first-found (length cs - k) k e
 
   -- ---- what adrift means
 
@@ -109,15 +108,10 @@ module _ (cs : List Class) where
       e
       low
 
-  no-lock-past-end : (t : Bool) (j : ℕ) → lockAt cs j ≡ t → length cs ≤ j → t ≡ false
-  no-lock-past-end true j e h = absurd (let within = lock-is-within cs j e in omega arith)
-  no-lock-past-end false j e h = refl
-
-  pub adrift-has-no-lock
-      : (start : ℕ) → lockFrom cs start .number ≡ 10 → (j : ℕ) → start + 64 ≤ j → lockAt cs j ≡ false
+  pub adrift-has-no-lock : (k : ℕ) → lockFrom cs k .number ≡ 10 → (j : ℕ) → k ≤ j → lockAt cs j ≡ false
   unfolding lockFrom
-  adrift-has-no-lock start e j low =
+  adrift-has-no-lock k e j low =
       ⊎-elim
-      (λ past. no-lock-past-end (lockAt cs j) j refl (omega arith))
-      (λ inside. none-found (length cs - (start + 64)) (start + 64) e j (omega arith) low)
+      (λ past. no-lock-past-end cs j (omega arith))
+      (λ inside. none-found (length cs - k) k e j (omega arith) low)
       (eq-zero-or-pos (length cs - j))

@@ -1,6 +1,6 @@
 pub mod LockLaws
-pub mod RunLaws
 pub mod FinderLaws
+pub mod RunLaws
 pub mod TakenLaws
 pub mod EnoughLaws
 pub mod FieldLaws

@@ -1,68 +1,79 @@
--- Laws of a run's end: up to it all are of class 2, and a place of class 2 has the same end as the next. The end is a
--- lowest place, so they follow from the laws of those. Rests on no axiom.
-use Prim.Native.Nat.{ℕ, _+_, _-_, _<_, _≤_}
+-- Laws of a run that is passed over: an interval of class 2 makes it longer by one, and in the list's classes it is
+-- what it is from where the classing stood. Rests on no axiom.
+use Prim.Native.Nat.{ℕ, zero, suc, _+_, _-_, _<_, _≤_}
 use mathlib.Core.Path.{_≡_, refl, sym, ap, _∙_}
-use mathlib.Core.Bool.{true, false, true≢false}
-use mathlib.Core.List.{List}
+use mathlib.Core.List.{List, _∷_, _++_}
+use native.Mathlib.Numerals.{add-one}
 use native.Mathlib.Omega.{arith}
-use lib.ListN.{length, getD, drop, length-drop}
-use lib.Seq.{getD-drop}
-use Rattle.lists.specs.Place.{lowest}
-use Rattle.lists.proofs.PlaceLaws.{lowest-from-passing-is-here, lowest-from-failing-is-further, lowest-from-end-is-here}
-use Rattle.lists.proofs.PlaceLaws.{lowest-at-most-length, below-lowest-fails}
+use lib.ListN.{length, getD, drop, replicate, length-replicate, getD-replicate, List·getD-append}
+use lib.Seq.{getD-drop, drop-drop, drop-at}
+use Rattle.timing.specs.Class.{classIn, classed, classNumber, classesFrom}
 use Rattle.timing.specs.declared.Class.{Class}
-use Rattle.timing.specs.declared.Class.the-variants.{Narrow, Two, Three, Four, Wide}
-use Rattle.fields.specs.Lock.{breaksRun, runEnd}
+use Rattle.timing.specs.declared.Class.the-variants.{Narrow, Two}
+use Rattle.timing.specs.declared.cursor.Cursor.{Cursor}
+use Rattle.timing.specs.declared.cursor.Classed.{Classed}
+use Rattle.timing.proofs.ClassLaws.{classes-here}
+use Rattle.fields.specs.Lock.{PassesTwos}
+use Rattle.fields.proofs.LockLaws.{number-2-is-two}
+use Rattle.fields.proofs.FinderLaws.{Twos}
 
-two-breaks-none : (c : Class) → c ≡ Two → breaksRun c ≡ false
-two-breaks-none c e = rw e
+two-after-twos : (n : ℕ) (cs : List Class) → replicate n Two ++ (Two ∷ cs) ≡ replicate (suc n) Two ++ cs
+two-after-twos zero cs = refl
+two-after-twos (suc n) cs = ap (λ (xs : List Class). Two ∷ xs) (two-after-twos n cs)
 
-other-breaks : (c : Class) → (c ≡ Two → ⊥) → breaksRun c ≡ true
-other-breaks Narrow n = refl
-other-breaks Two n = absurd (n refl)
-other-breaks Three n = refl
-other-breaks Four n = refl
-other-breaks Wide n = refl
+pub passes-none : {before : Cursor} {from : ℕ} (ds : List ℕ) → from ≤ length ds → PassesTwos before ds from before from
+passes-none {from = from} ds h =
+    let none : from - from ≡ 0 = omega arith in
+    record { low = omega arith; high = h; classes = rw none }
 
-unbroken-is-two : (c : Class) → breaksRun c ≡ false → c ≡ Two
-unbroken-is-two Narrow e = absurd (true≢false e)
-unbroken-is-two Two e = refl
-unbroken-is-two Three e = absurd (true≢false e)
-unbroken-is-two Four e = absurd (true≢false e)
-unbroken-is-two Wide e = absurd (true≢false e)
+-- one interval more, as a step of the cursor gives it
+pub passes-one-more
+    : {before after : Cursor} {ds : List ℕ} {from k next : ℕ} (r : Classed)
+    → PassesTwos before ds from after k
+    → k < length ds
+    → r ≡ classed after (getD ds k 0)
+    → classNumber (r .class) ≡ 2
+    → next ≡ k + 1
+    → PassesTwos before ds from (r .next) next
+passes-one-more {after = after} {ds = ds} {from = from} {k = k} r run inside step two next-is =
+    let low = run .low in
+    let more : k + 1 - from ≡ suc (k - from) = omega arith in
+    let here : classIn after (getD ds k 0) ≡ Two =
+    ap (λ (s : Classed). s .class) (sym step) ∙ number-2-is-two (r .class) two in
+    rw (step, next-is)
+    (record {
+      low = omega arith;
+      high = omega arith;
+      classes = run .classes ∙ rw (classes-here after ds k inside, here, two-after-twos, more, add-one k);
+    })
 
-module _ (cs : List Class) (k : ℕ) where
-  -- ---- one place more
+-- ---- in the classes of the list, where the classing stands at the run
 
-  pub run-goes-on : k < length cs → getD cs k Narrow ≡ Two → runEnd cs k ≡ runEnd cs (k + 1)
-  unfolding runEnd
-  run-goes-on h two = lowest-from-failing-is-further breaksRun cs Narrow k h (two-breaks-none _ two)
+module _
+    {before after : Cursor}
+    {ds : List ℕ}
+    {k end : ℕ}
+    (cs : List Class)
+    (run : PassesTwos before ds k after end)
+    (stands : drop k cs ≡ classesFrom before (drop k ds))
+  where
+    parted : drop k cs ≡ replicate (end - k) Two ++ classesFrom after (drop end ds)
+    parted = stands ∙ run .classes
 
-  pub run-ends-at-other : k < length cs → (getD cs k Narrow ≡ Two → ⊥) → runEnd cs k ≡ k
-  unfolding runEnd
-  run-ends-at-other h other = lowest-from-passing-is-here breaksRun cs Narrow k h (other-breaks _ other)
+    pub passed-are-twos : Twos cs k end
+    passed-are-twos j low high =
+        let long = length-replicate (end - k) Two in
+        ap (λ (i : ℕ). getD cs i Narrow) (omega arith)
+        ∙ sym (getD-drop k cs (j - k) Narrow)
+        ∙ ap (λ (xs : List Class). getD xs (j - k) Narrow) parted
+        ∙ List·getD-append (replicate (end - k) Two) _ Narrow (j - k) (omega arith)
+        ∙ getD-replicate (end - k) (j - k) Two Narrow (omega arith)
 
-  pub run-ends-with-list : length cs ≤ k → runEnd cs k ≡ k
-  unfolding runEnd
-  run-ends-with-list h = lowest-from-end-is-here breaksRun cs k h
-
-  -- ---- where the end is, and what is before it
-
-  pub run-end-from : k ≤ runEnd cs k
-  unfolding runEnd
-  run-end-from = omega arith
-
-  pub run-end-within : k ≤ length cs → runEnd cs k ≤ length cs
-  unfolding runEnd
-  run-end-within h =
-      let most : lowest breaksRun (drop k cs) ≤ length cs - k =
-      rw (← length-drop k cs) (lowest-at-most-length breaksRun (drop k cs)) in
-      omega arith
-
-  pub twos-up-to-run-end : (j : ℕ) → k ≤ j → j < runEnd cs k → getD cs j Narrow ≡ Two
-  unfolding runEnd
-  twos-up-to-run-end j low high =
-      let there : getD (drop k cs) (j - k) Narrow ≡ getD cs j Narrow =
-      getD-drop k cs (j - k) Narrow ∙ ap (λ (i : ℕ). getD cs i Narrow) (omega arith) in
-      unbroken-is-two _
-      (ap breaksRun (sym there) ∙ below-lowest-fails breaksRun (drop k cs) Narrow (j - k) (omega arith))
+    pub stands-after-passed : drop end cs ≡ classesFrom after (drop end ds)
+    stands-after-passed =
+        let low = run .low in
+        let there : end ≡ k + (end - k) = omega arith in
+        ap (λ (i : ℕ). drop i cs) there
+        ∙ sym (drop-drop (end - k) k cs)
+        ∙ ap (drop (end - k)) parted
+        ∙ drop-at (replicate (end - k) Two) _ (end - k) (length-replicate (end - k) Two)

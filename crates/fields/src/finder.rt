@@ -1,96 +1,133 @@
 // Document 01, "Finding and reading a field": the lock finder.
-ghost use Prim.Native.Nat.{_≤_, _<_};
+ghost use Prim.Native.Nat.{_≤_};
 ghost use mathlib.Core.Path.{_≡_};
-ghost use lib.ListN.{length, getD};
+ghost use lib.ListN.{length};
 ghost use Rattle.refusal.specs.Answer.{countedAnswer};
-ghost use Rattle.timing.specs.Class.{classesOf};
-ghost use Rattle.timing.specs.declared.Class.the-variants.{Narrow};
-ghost use Rattle.fields.specs.Lock.{mayStand, runEnd, lockFrom, findRule};
+ghost use Rattle.timing.specs.Class.{classesFrom};
+ghost use Rattle.fields.specs.Lock.{beginsWith, markAhead, PassesTwos, lockFrom, searchRule, findRule};
 use refusal::Counted;
 use refusal::Refusal;
 use refusal::Verdict;
-use timing::Class;
+use timing::Cursor;
 use timing::Profile;
 
-// The class of the interval at a place; past the end narrow, which breaks a run and a mark alike.
-fn class_at(p: Profile, intervals: &[u16], place: usize) -> Class
-    ensures { λ r. ⌜ r ≡ getD (classesOf p (now (intervals .entry))) place Narrow ⌝ }
-{
-    if place < intervals.len() {
-        return timing::classify(p, intervals[place]);
-    }
-    Class::Narrow
-}
+// The numbers of the classes of a lock's mark.
+const MARK_A1: [usize; 5] = [3, 4, 3, 4, 3];
 
-// Whether a class may stand at a place of a mark: 3 4 3 4 3 or 3 2 3 4 3.
-fn may_stand(place: usize, class: Class) -> bool
-    requires { ⌜ place < 5 ⌝ }
-    ensures { λ r. ⌜ r ≡ mayStand place class ⌝ }
-{
-    match class {
-        Class::Narrow => false,
-        Class::Two => place == 1,
-        Class::Three => place % 2 == 0,
-        Class::Four => place % 2 == 1,
-        Class::Wide => false,
-    }
-}
+const MARK_C2: [usize; 5] = [3, 2, 3, 4, 3];
 
-// The first place from a given one on where a run of class 2 has ended.
-fn run_end(p: Profile, intervals: &[u16], from: usize) -> usize
-    requires { ⌜ from ≤ length (now intervals) ⌝ }
-    ensures { λ r. ⌜ r ≡ runEnd (classesOf p (now (intervals .entry))) from ⌝ }
+// Whether the intervals have the classes of a pattern at their front.
+fn begins_with(start: Cursor, intervals: &[u16], pattern: &[usize]) -> bool
+    ensures { λ r. ⌜ r ≡ beginsWith (now (pattern .entry)) (classesFrom start (now (intervals .entry))) ⌝ }
 {
-    let mut k = from;
-    while k < intervals.len() {
-        if timing::classify(p, intervals[k]).number() == 2 {
-            k += 1;
+    let mut cursor = start;
+    let mut i: usize = 0;
+    while i < pattern.len() {
+        if intervals.len() <= i {
+            return false;
+        }
+        let classed = cursor.step(intervals[i]);
+        let class = classed.class;
+        if class.number() == pattern[i] {
+            cursor = classed.next;
+            i += 1;
         } else {
-            return k;
+            return false;
         }
     }
-    k
+    true
 }
 
-// Invariant: the intervals from k - 64 up to `known` are of class 2, and no lock stands at a place before k from
-// start + 64 on. The others of the 64 before k are looked at from the last one back: an interval of another class
-// rules out every place that has it among its 64, so all of them are passed over, and what stands before it is not
-// looked at. Where all 64 are of class 2, k goes on to the end of their run, since no mark begins with class 2.
-fn scan(p: Profile, intervals: &[u16], start: usize) -> Counted
-    ensures { λ r. ⌜ countedAnswer r ≡ lockFrom (classesOf p (now (intervals .entry))) start ⌝ }
+// Whether a lock's mark stands at the front of the intervals.
+fn mark_ahead(cursor: Cursor, intervals: &[u16]) -> bool
+    ensures { λ r. ⌜ r ≡ markAhead (classesFrom cursor (now (intervals .entry))) ⌝ }
 {
-    if intervals.len() <= start {
-        return Counted::Refused(Refusal::NoLock);
+    let a1 = MARK_A1;
+    if begins_with(cursor, intervals, &a1) {
+        return true;
     }
-    let mut k = start + 64;
-    let mut known = start;
+    let c2 = MARK_C2;
+    begins_with(cursor, intervals, &c2)
+}
+
+// Up to where a run of class 2 was passed over, and where the classing stands there.
+struct Run {
+    end: usize,
+    cursor: Cursor,
+}
+
+// Passes over a run, two intervals at a turn, so that the end of the list is asked for once in two; of the run it may
+// leave the last.
+fn pass_run(start: Cursor, intervals: &[u16], from: usize) -> Run
+    requires { ⌜ from ≤ length (now intervals) ⌝ }
+    ensures { λ r. ⌜ PassesTwos start (now (intervals .entry)) from (r .cursor) (r .end) ⌝ }
+{
+    let mut cursor = start;
+    let mut k = from;
+    while k + 1 < intervals.len() {
+        let first = cursor.step(intervals[k]);
+        let class = first.class;
+        if class.number() != 2 {
+            return Run { end: k, cursor };
+        }
+        let second = first.next.step(intervals[k + 1]);
+        let class = second.class;
+        if class.number() != 2 {
+            return Run { end: k, cursor };
+        }
+        cursor = second.next;
+        k += 2;
+    }
+    Run { end: k, cursor }
+}
+
+// Invariant: no lock stands before k; the intervals from k - 64 up to j are of class 2, and the classing stands at j.
+// The others of the 64 before k are looked at in their order. One of another class rules out every place that has it
+// among its 64, so k goes to 65 after it. Where all 64 are of class 2, what the run has beyond them is passed over,
+// since no mark begins with class 2.
+fn scan(start: Cursor, intervals: &[u16]) -> Counted
+    ensures { λ r. ⌜ countedAnswer r ≡ lockFrom (classesFrom start (now (intervals .entry))) 0 ⌝ }
+{
+    let mut cursor = start;
+    let mut j: usize = 0;
+    let mut k: usize = 64;
     let place = 'scan: loop {
         if intervals.len() <= k {
             break 'scan Counted::Refused(Refusal::NoLock);
         }
-        let mut j = k;
-        while known < j {
-            j -= 1;
-            if class_at(p, intervals, j).number() != 2 {
-                known = k;
-                k = j + 65;
+        while j < k {
+            let classed = cursor.step(intervals[j]);
+            let class = classed.class;
+            cursor = classed.next;
+            j += 1;
+            if class.number() != 2 {
+                k = j + 64;
                 continue 'scan;
             }
         }
-        k = run_end(p, intervals, k);
-        let mut i: usize = 0;
-        while i < 5 {
-            if may_stand(i, class_at(p, intervals, k + i)) {
-                i += 1;
-            } else {
-                known = k;
-                k += 1;
-                continue 'scan;
-            }
+        let run = pass_run(cursor, intervals, k);
+        cursor = run.cursor;
+        k = run.end;
+        if mark_ahead(cursor, &intervals[k..]) {
+            break 'scan Counted::Count(k);
         }
-        break 'scan Counted::Count(k);
+        j = k;
+        k += 1;
     };
     place
+}
+
+// The intervals from `start` on are searched, and the place is counted from there.
+fn search(p: Profile, intervals: &[u16], start: usize) -> Counted
+    ensures { λ r. ⌜ countedAnswer r ≡ searchRule p (now (intervals .entry)) start ⌝ }
+{
+    if intervals.len() <= start {
+        return Counted::Refused(Refusal::NoLock);
+    }
+    match scan(Cursor::start(p), &intervals[start..]) {
+        Counted::Refused(refusal) => Counted::Refused(refusal),
+        Counted::Count(k) => Counted::Count(start + k),
+    }
 }
 
 // 1, 2, 10; else the smallest place at which a lock stands with all 64 at or after `start`.
@@ -99,6 +136,6 @@ pub fn find_lock(p: Profile, intervals: &[u16], start: usize) -> Counted
 {
     match timing::check(p) {
         Verdict::Refused(refusal) => Counted::Refused(refusal),
-        Verdict::Accepted => scan(p, intervals, start),
+        Verdict::Accepted => search(p, intervals, start),
     }
 }

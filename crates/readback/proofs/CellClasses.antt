@@ -1,17 +1,18 @@
 -- The classes of cells: of a sync, of a mark A1, and of the gap between the fields, in which no run of 64 stands. They
 -- are the cells of those bytes, one class for each. Rests on no axiom.
-use Prim.Native.Nat.{ℕ, _+_}
+use Prim.Native.Nat.{ℕ, suc, _+_, _<_}
 use mathlib.Core.Path.{_≡_, refl, sym, ap, ap₂, _∙_}
 use mathlib.Core.Bool.{true, false}
 use mathlib.Core.List.{List, [], _∷_, _++_, map, map-append, append-assoc}
 use native.Mathlib.Omega.{arith}
-use lib.ListN.{length, drop, replicate, length-append, length-map, length-replicate}
-use lib.Seq.{drop-at}
+use lib.ListN.{length, getD, drop, replicate, length-append, length-map, length-replicate, getD-replicate}
+use lib.ListN.{List·getD-append}
+use lib.Seq.{drop-at, getD-append-add}
 use Rattle.timing.specs.Class.{classesOf}
 use Rattle.timing.specs.declared.Profile.{Profile}
 use Rattle.timing.specs.declared.Class.{Class}
-use Rattle.timing.specs.declared.Class.the-variants.{Two}
-use Rattle.timing.proofs.ClassLaws.{classes-of-drop}
+use Rattle.timing.specs.declared.Class.the-variants.{Narrow, Two}
+use Rattle.timing.proofs.ClassLaws.{classes-length, classes-of-drop, classes-after-two}
 use Rattle.symbols.specs.Bits.{Bit, O, I, G, allBits}
 use Rattle.symbols.specs.Cells.{writtenCells}
 use Rattle.symbols.specs.Reading.{units, readFrom, readBits}
@@ -101,22 +102,53 @@ parts before xs ys e =
     ∙ ap (λ (cs : List Class). before ++ cs) (map-append classOfCell xs ys)
     ∙ sym (append-assoc before (map classOfCell xs) (map classOfCell ys))
 
-pub last-apart : (xs ys zs rest : List Class) → xs ++ (ys ++ (zs ++ rest)) ≡ (xs ++ (ys ++ zs)) ++ rest
-last-apart xs ys zs rest =
-    ap (λ (cs : List Class). xs ++ cs) (sym (append-assoc ys zs rest)) ∙ sym (append-assoc xs (ys ++ zs) rest)
+pub last-apart : (xs ys zs rest : List Class) → xs ++ (ys ++ (zs ++ rest)) ≡ ((xs ++ ys) ++ zs) ++ rest
+last-apart xs ys zs rest = sym (append-assoc xs ys (zs ++ rest)) ∙ sym (append-assoc (xs ++ ys) zs rest)
 
-pub length-of-three : (xs ys : List Class) (n : ℕ) → length (xs ++ (ys ++ replicate n Two)) ≡ length xs + length ys + n
-length-of-three xs ys n = simp (length-append, length-replicate) (omega arith)
+pub length-of-three : (xs ys : List Class) (n : ℕ) → length ((xs ++ ys) ++ replicate n Two) ≡ length xs + length ys + n
+length-of-three xs ys n = simp (length-append, length-replicate)
 
 -- ---- places
 
--- the classes from a place on
+-- the classes from any place on: that a search from the middle of a list has the classes of the whole rests on edges
+-- that are the same for each interval, and on nothing else here
 pub classes-from
     : (p : Profile) (ds : List ℕ) (before rest : List Class) (k : ℕ)
     → classesOf p ds ≡ before ++ rest
     → length before ≡ k
     → classesOf p (drop k ds) ≡ rest
 classes-from p ds before rest k h long = classes-of-drop p k ds ∙ ap (drop k) h ∙ drop-at before rest k long
+
+-- the classes after a run of class 2, where a list is classed as from its start on
+module _ (p : Profile) (ds : List ℕ) (front rest : List Class) (m : ℕ) where
+  abbrev run : List Class
+  run = replicate (suc m) Two
+
+  module _ (h : classesOf p ds ≡ (front ++ run) ++ rest) where
+    run-length : length (front ++ run) ≡ suc (length front + m)
+    run-length = simp (length-append, length-replicate) (omega arith)
+
+    run-inside : length front + m < length ds
+    run-inside =
+        let all = sym (classes-length p ds) ∙ ap length h ∙ length-append (front ++ run) rest in
+        let long = run-length in
+        omega arith
+
+    last-is-two : getD (classesOf p ds) (length front + m) Narrow ≡ Two
+    last-is-two =
+        let long = run-length in
+        ap (λ (cs : List Class). getD cs (length front + m) Narrow) h
+        ∙ List·getD-append (front ++ run) rest Narrow (length front + m) (omega arith)
+        ∙ getD-append-add front run m Narrow
+        ∙ getD-replicate (suc m) m Two Narrow (omega arith)
+
+    pub classes-after-run : (k : ℕ) → length (front ++ run) ≡ k → classesOf p (drop k ds) ≡ rest
+    classes-after-run k long =
+        let next : k ≡ suc (length front + m) = sym long ∙ run-length in
+        ap (λ (i : ℕ). classesOf p (drop i ds)) next
+        ∙ classes-after-two p ds (length front + m) run-inside last-is-two
+        ∙ ap (drop (suc (length front + m))) h
+        ∙ drop-at (front ++ run) rest (suc (length front + m)) run-length
 
 -- the place after a byte 00, by the classes before what follows
 pub place-after-zero

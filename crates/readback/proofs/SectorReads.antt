@@ -22,9 +22,9 @@ use Rattle.symbols.specs.declared.Cell.{Cell}
 use Rattle.symbols.proofs.ReadingLaws.{last-is-no-gap}
 use Rattle.intervals.proofs.CellLaws.{classOfCell}
 use Rattle.lengths.specs.Stream.{streamOf}
-use Rattle.fields.specs.Lock.{lockFrom, findRule}
+use Rattle.fields.specs.Lock.{lockFrom, searchRule, findRule}
 use Rattle.fields.specs.Field.{fieldCells, fieldUsed}
-use Rattle.fields.proofs.GapLaws.{lock-after-run, lock-after-gap}
+use Rattle.fields.proofs.GapLaws.{passes, lock-after-gap}
 use Rattle.fields.proofs.WrittenFieldLaws.{restOfCells, used-and-rest, rest-of-field-is-read}
 use Rattle.sectors.specs.Sector.{sectorSize, sectorItems}
 use Rattle.sectors.proofs.SectorCounts.{size-of-code, size-at-most-1024}
@@ -36,8 +36,8 @@ use Rattle.readback.specs.SectorReads.{SectorReads, MadeSectorsReadBack}
 use Rattle.readback.proofs.WrittenSector.{A1, middleGap, idBytes, dataBytes, id-bytes, data-bytes}
 use Rattle.readback.proofs.WrittenSector.{sector-written, sector-is-listed}
 use Rattle.readback.proofs.CellClasses.{cells, cells-bits, classesFor, cells-classes, sync-classes, mark-classes}
-use Rattle.readback.proofs.CellClasses.{gapClasses, no-run-in-gap, gap-classes, classes-from, place-after-zero}
-use Rattle.readback.proofs.CellClasses.{length-of-front, parts, last-apart, length-of-three}
+use Rattle.readback.proofs.CellClasses.{gapClasses, no-run-in-gap, gap-classes, classes-from, classes-after-run}
+use Rattle.readback.proofs.CellClasses.{place-after-zero, length-of-front, parts, last-apart, length-of-three}
 use Rattle.readback.proofs.CheckedField.{checked-field-is-read}
 
 module _
@@ -72,9 +72,13 @@ module _
     classes-are : classesOf p changed ≡ classesFor (replicate 12 0x00 ++ fromId)
     classes-are = moved-has-classes p accepts items changed moved ∙ ap classesFor sector-is
 
-    found : (start k : ℕ) → lockFrom (classesOf p changed) start ≡ accepted k → findRule p changed start ≡ accepted k
-    unfolding findRule
-    found start k e = first-refusal-passes (profileRule p) _ accepts ∙ e
+    found
+        : (start k place : ℕ)
+        → lockFrom (classesOf p (drop start changed)) 0 ≡ accepted k
+        → start + k ≡ place
+        → findRule p changed start ≡ accepted place
+    unfolding findRule searchRule
+    found start k place e sum = first-refusal-passes (profileRule p) _ accepts ∙ rw e (ap accepted sum)
 
     -- ---- the ID
 
@@ -86,14 +90,15 @@ module _
     after-sync = classes-are ∙ sync-classes fromId
 
     first-lock : lockFrom (classesOf p changed) 0 ≡ accepted 96
+    unfolding passes
     first-lock =
         let (rest, mark) = mark-classes _ in
         ap (λ (cs : List Class). lockFrom cs 0) (after-sync ∙ ap (λ (cs : List Class). replicate 96 Two ++ cs) mark)
-        ∙ lock-after-run [] 32 rest
+        ∙ lock-after-gap [] 32 rest refl
 
     id-classes : classesOf p (drop 96 changed) ≡ map classOfCell (cells fromId)
     id-classes =
-        classes-from p changed (replicate 96 Two) (classesFor fromId) 96 after-sync refl ∙ cells-classes fromId
+        classes-after-run p changed [] (classesFor fromId) 95 after-sync 96 refl ∙ cells-classes fromId
 
     id-is-read : ReadsField p (drop 96 changed) 10 ids
     id-is-read =
@@ -149,21 +154,27 @@ module _
     place : ℕ
     place = 96 + used + length (gapClasses last) + 95
 
-    second-lock : lockFrom (classesOf p changed) (96 + used) ≡ accepted place
-    unfolding place
+    -- what the search from there on has
+    after-id
+        : classesOf p (drop (96 + used) changed) ≡ gapClasses last ++ (replicate 95 Two ++ classesFor fromData)
+    after-id = classes-from p changed front _ (96 + used) parted front-length
+
+    second-lock : lockFrom (classesOf p (drop (96 + used) changed)) 0 ≡ accepted (length (gapClasses last) + 95)
     second-lock =
         let (rest, mark) = mark-classes _ in
-        ap₂ lockFrom
-        (parted ∙ ap (λ (cs : List Class). front ++ (gapClasses last ++ (replicate 95 Two ++ cs))) mark)
-        (sym front-length)
-        ∙ lock-after-gap front (gapClasses last) 31 rest (no-run-in-gap last)
-        ∙ ap (λ (k : ℕ). accepted (k + length (gapClasses last) + 95)) front-length
+        ap (λ (cs : List Class). lockFrom cs 0)
+        (after-id ∙ ap (λ (cs : List Class). gapClasses last ++ (replicate 95 Two ++ cs)) mark)
+        ∙ lock-after-gap (gapClasses last) 31 rest (no-run-in-gap last)
+
+    second-place : 96 + used + (length (gapClasses last) + 95) ≡ place
+    unfolding place
+    second-place = omega arith
 
     -- ---- the data
 
     -- the classes before the data's marks
     abbrev before : List Class
-    before = front ++ (gapClasses last ++ replicate 95 Two)
+    before = (front ++ gapClasses last) ++ replicate 95 Two
 
     data-parted : classesOf p changed ≡ before ++ classesFor fromData
     data-parted = parted ∙ last-apart front (gapClasses last) (replicate 95 Two) (classesFor fromData)
@@ -182,7 +193,8 @@ module _
 
     data-classes : classesOf p (drop place changed) ≡ map classOfCell (cells fromData)
     data-classes =
-        classes-from p changed before (classesFor fromData) place data-parted before-length ∙ cells-classes fromData
+        classes-after-run p changed (front ++ gapClasses last) (classesFor fromData) 94 data-parted place before-length
+        ∙ cells-classes fromData
 
     data-is-read : ReadsField p (drop place changed) (sectorSize code + 6) datas
     data-is-read =
@@ -204,9 +216,9 @@ module _
     sector-reads =
         record {
           written = sector-is-listed track side sector code bytes made;
-          id-lock = rw id-place (found 0 96 first-lock);
+          id-lock = rw id-place (found 0 96 96 first-lock refl);
           id-reads = rw id-place id-is-read;
-          data-lock = rw (id-place, data-place) (found (96 + used) place second-lock);
+          data-lock = rw (id-place, data-place) (found (96 + used) _ place second-lock second-place);
           data-reads = rw data-place data-is-read;
         }
 

@@ -1,5 +1,5 @@
 -- Why `fields::finder::find_lock` answers `findRule`: a refusal of the profile decides, and an acceptance leaves the
--- scan. Rests on no axiom.
+-- search. Rests on no axiom.
 use mathlib.Core.Path.{_∙_}
 use Rattle.refusal.proofs.AnswerLaws.{verdict-refuses, verdict-passes}
 use Rattle.fields.specs.Lock.{findRule}
@@ -16,8 +16,8 @@ enum-known-refusal c = search needs
 enum-told : tie.Need-enum-told
 enum-told c = search needs
 
-scan-requires : tie.Need-scan-requires
-scan-requires c κs = search needs
+search-requires : tie.Need-search-requires
+search-requires c κs = search needs
 
 returns : tie.Need-returns
 unfolding findRule
@@ -26,9 +26,9 @@ returns c = verdict-refuses _ _ _ _ (c .before .before .before .check .ensures) 
 returns-2 : tie.Need-returns-2
 unfolding findRule
 returns-2 c =
-    c .scan .ensures ∙ verdict-passes _ _ _ (c .before .before .before .check .ensures) (c .before .enum-told .given .1)
+    c .search .ensures ∙ verdict-passes _ _ _ (c .before .before .before .check .ensures) (c .before .enum-told .given .1)
 
 pub find-lock-spec : {M : Type 1} → statement M
 find-lock-spec =
     tie.close
-    (tie.spec check-requires enum-known-refusal enum-told scan-requires returns returns-2)
+    (tie.spec check-requires enum-known-refusal enum-told search-requires returns returns-2)

@@ -3,162 +3,147 @@
 mod Turn
 use Prim.Native.Nat.{ℕ, _+_, _-_, _<_, _≤_}
 use mathlib.Core.Path.{_≡_, refl, sym, ap, _∙_}
-use mathlib.Core.Bool.{true}
+use mathlib.Core.Bool.{Bool}
 use mathlib.Core.List.{List}
 use native.Mathlib.Omega.{arith}
-use denote.Ref.{now}
-use borrow.Author.Count.{below-more}
 use borrow.Author.Needs.{needs}
-use lib.ListN.{length, getD}
-use Rattle.timing.specs.Class.{classesOf, classNumber}
-use Rattle.timing.proofs.ClassLaws.{classes-length}
-use Rattle.timing.specs.declared.Class.{Class}
-use Rattle.timing.specs.declared.Class.the-variants.{Narrow, Two}
-use Rattle.fields.specs.Lock.{mayStand}
-use Rattle.fields.proofs.LockLaws.{number-2-is-two}
-use Rattle.fields.proofs.RunLaws.{run-end-from, run-end-within}
-use Turn.{Run, run-starts, run-moves-on, run-ends-adrift, run-ends-in-lock}
-use Turn.{Looked, look-starts, look-breaks, look-goes-on, look-ends}
+use lib.ListN.{length, drop}
+use Rattle.timing.specs.Class.{classesFrom, classNumber}
+use Rattle.timing.specs.declared.cursor.Cursor.{Cursor}
+use Rattle.timing.specs.declared.cursor.Classed.{Classed}
+use Rattle.fields.specs.Lock.{markAhead, PassesTwos}
+use Rattle.fields.proofs.LockLaws.{part-to-end}
+use Rattle.fields.proofs.RunLaws.{passes-none, passes-one-more}
+use Turn.{Scan, scan-starts, scan-passes, scan-breaks, scan-is-full, scan-runs-on, scan-moves-on}
+use Turn.{scan-ends-adrift, scan-ends-in-lock}
 use Rattle.fields.proofs.finder.scan.Statement.{statement}
 use Rattle.fields.proofs.finder.scan.Tie as tie
 
+-- of the 64 before k, those from the turn's first on
 abbrev Inv-loop : tie.InvT-loop
-Inv-loop p intervals start k₀ known₀ j₀ k known j =
-    (k ≡ k₀) × Looked (classesOf p intervals) start k known j
+Inv-loop intervals cursor₀ j₀ k₀ cursor j k = (k ≡ k₀) × (j ≤ k) × PassesTwos cursor₀ intervals j₀ cursor j
 
 abbrev μ-loop : tie.MeasureT-loop
-μ-loop p intervals start k₀ known₀ j₀ k known j = j
-
-abbrev Inv-loop2 : tie.InvT-loop2
-Inv-loop2 p intervals start k₀ known₀ j i₀ k known i =
-    (k ≡ k₀)
-    × (k ≤ length intervals)
-    × Run (classesOf p intervals) start k k
-    × (i ≤ 5)
-    × ((n : ℕ) → n < i → mayStand n (getD (classesOf p intervals) (k + n) Narrow) ≡ true)
-
-abbrev μ-loop2 : tie.MeasureT-loop2
-μ-loop2 p intervals start k₀ known₀ j i₀ k known i = 5 - i
+μ-loop intervals cursor₀ j₀ k₀ cursor j k = k - j
 
 abbrev Inv-scan : tie.InvT-scan
-Inv-scan p intervals start k₀ known₀ k known =
-    Run (classesOf p intervals) start k known × (k < length intervals + 65)
+Inv-scan intervals cursor₀ j₀ k₀ cursor j k = Scan cursor₀ intervals cursor j k
 
 abbrev μ-scan : tie.MeasureT-scan
-μ-scan p intervals start k₀ known₀ k known = length intervals + 65 - k
+μ-scan intervals cursor₀ j₀ k₀ cursor j k = length intervals + 65 - k
 
-returns : tie.Need-returns Inv-loop μ-loop Inv-loop2 μ-loop2 Inv-scan μ-scan
-returns c = run-ends-adrift (run-starts _ _ _ refl) (rw classes-length (omega arith))
+scan-holds : tie.Need-scan-holds Inv-loop μ-loop Inv-scan μ-scan
+scan-holds c = scan-starts _ _ (omega arith)
 
--- the classes of the list that is searched
-abbrev classes-at : tie.At-scan Inv-loop μ-loop Inv-loop2 μ-loop2 Inv-scan μ-scan → List Class
-classes-at c =
-    let args = c .before .before .before .args in
-    classesOf (args .p) (now (args .intervals))
+loop-holds : tie.Need-loop-holds Inv-loop μ-loop Inv-scan μ-scan
+loop-holds c =
+    let scan = c .before .scan .inv in
+    let within = scan .within in
+    (refl, within, passes-none _ (omega arith))
 
-add-k : tie.Need-add-k Inv-loop μ-loop Inv-loop2 μ-loop2 Inv-scan μ-scan
-add-k c = omega arith
+mul-step : tie.Need-mul-step Inv-loop μ-loop Inv-scan μ-scan
+mul-step c = omega arith
 
-scan-holds : tie.Need-scan-holds Inv-loop μ-loop Inv-loop2 μ-loop2 Inv-scan μ-scan
-scan-holds c = (run-starts _ _ _ (omega arith), omega arith)
+shared-slice-read-step : tie.Need-shared-slice-read-step Inv-loop μ-loop Inv-scan μ-scan
+shared-slice-read-step c = omega arith
 
-loop-holds : tie.Need-loop-holds Inv-loop μ-loop Inv-loop2 μ-loop2 Inv-scan μ-scan
-loop-holds c = (refl, look-starts (c .before .scan .inv .0))
+step-requires : tie.Need-step-requires Inv-loop μ-loop Inv-scan μ-scan
+step-requires c κs = search needs
 
-sub-j : tie.Need-sub-j Inv-loop μ-loop Inv-loop2 μ-loop2 Inv-scan μ-scan
-sub-j c = omega arith
+add-j : tie.Need-add-j Inv-loop μ-loop Inv-scan μ-scan
+add-j c = omega arith
 
-class-at-requires : tie.Need-class-at-requires Inv-loop μ-loop Inv-loop2 μ-loop2 Inv-scan μ-scan
-class-at-requires c κs = search needs
-
-number-requires : tie.Need-number-requires Inv-loop μ-loop Inv-loop2 μ-loop2 Inv-scan μ-scan
+number-requires : tie.Need-number-requires Inv-loop μ-loop Inv-scan μ-scan
 number-requires c κs = search needs
 
-add-k-2 : tie.Need-add-k-2 Inv-loop μ-loop Inv-loop2 μ-loop2 Inv-scan μ-scan
-add-k-2 c = omega arith
+add-k : tie.Need-add-k Inv-loop μ-loop Inv-scan μ-scan
+add-k c = omega arith
 
-scan-less : tie.Need-scan-less Inv-loop μ-loop Inv-loop2 μ-loop2 Inv-scan μ-scan
+scan-less : tie.Need-scan-less Inv-loop μ-loop Inv-scan μ-scan
 scan-less c = omega arith
 
-scan-again : tie.Need-scan-again Inv-loop μ-loop Inv-loop2 μ-loop2 Inv-scan μ-scan
+scan-again : tie.Need-scan-again Inv-loop μ-loop Inv-scan μ-scan
 scan-again c =
-    let turn = c .before .before .before .before in
-    let class-at = c .before .before .class-at in
-    let other : class-at .result ≡ Two → ⊥ = λ e. c .if3 .taken (c .before .number .ensures ∙ ap classNumber e) in
-    (look-breaks (turn .loop .inv .1) _ (omega arith) (λ e. other (class-at .ensures ∙ e)) (omega arith), omega arith)
+    let step = c .before .before .before .step in
+    let turn = c .before .before .before .before .before .before in
+    let run = turn .loop .inv .2 in
+    let scan = turn .before .before .scan .inv in
+    scan-breaks (scan-passes scan run (omega arith)) (step .result) (omega arith) (omega arith) (step .ensures)
+    (λ two. c .if2 .taken (c .before .number .ensures ∙ two))
+    (omega arith)
+    (omega arith)
 
-loop-less : tie.Need-loop-less Inv-loop μ-loop Inv-loop2 μ-loop2 Inv-scan μ-scan
+loop-less : tie.Need-loop-less Inv-loop μ-loop Inv-scan μ-scan
 loop-less c = omega arith
 
-loop-again : tie.Need-loop-again Inv-loop μ-loop Inv-loop2 μ-loop2 Inv-scan μ-scan
+loop-again : tie.Need-loop-again Inv-loop μ-loop Inv-scan μ-scan
 loop-again c =
-    let turn = c .before .before .before .before in
-    let two = number-2-is-two _ (sym (c .before .number .ensures) ∙ c .if3 .left) in
-    let class-at = c .before .before .class-at in
-    (turn .loop .inv .0, look-goes-on (turn .loop .inv .1) (omega arith) (sym (class-at .ensures) ∙ two))
+    let step = c .before .before .before .step in
+    let turn = c .before .before .before .before .before .before in
+    let two = sym (c .before .number .ensures) ∙ c .if2 .left in (
+      turn .loop .inv .0,
+      omega arith,
+      passes-one-more (step .result) (turn .loop .inv .2) (omega arith) (step .ensures) two refl,
+    )
 
-run-end-requires : tie.Need-run-end-requires Inv-loop μ-loop Inv-loop2 μ-loop2 Inv-scan μ-scan
-run-end-requires c κs = search needs
+pass-run-requires : tie.Need-pass-run-requires Inv-loop μ-loop Inv-scan μ-scan
+pass-run-requires c κs = omega arith
 
-loop2-holds : tie.Need-loop2-holds Inv-loop μ-loop Inv-loop2 μ-loop2 Inv-scan μ-scan
-loop2-holds c =
-    let turn = c .before .before in
-    let run = look-ends (turn .loop .inv .1) (omega arith) in
-    let within = run-end-within (classes-at (turn .before .before)) (turn .loop .k) (rw classes-length (omega arith)) in
-    rw (c .run-end .ensures) (refl, (rw classes-length at within), run, omega arith, λ j h. absurd (omega arith))
+mul-mark-ahead : tie.Need-mul-mark-ahead Inv-loop μ-loop Inv-scan μ-scan
+mul-mark-ahead c = omega arith
 
-add-class-at : tie.Need-add-class-at Inv-loop μ-loop Inv-loop2 μ-loop2 Inv-scan μ-scan
-add-class-at c = omega arith
+sub-mark-ahead : tie.Need-sub-mark-ahead Inv-loop μ-loop Inv-scan μ-scan
+sub-mark-ahead c = omega arith
 
-class-at-requires-2 :
-    tie.Need-class-at-requires-2 Inv-loop μ-loop Inv-loop2 μ-loop2 Inv-scan μ-scan
-class-at-requires-2 c κs = search needs
+part-mark-ahead-start : tie.Need-part-mark-ahead-start Inv-loop μ-loop Inv-scan μ-scan
+part-mark-ahead-start c = omega arith
 
-may-stand-requires : tie.Need-may-stand-requires Inv-loop μ-loop Inv-loop2 μ-loop2 Inv-scan μ-scan
-may-stand-requires c κs = search needs
+part-mark-ahead-end : tie.Need-part-mark-ahead-end Inv-loop μ-loop Inv-scan μ-scan
+part-mark-ahead-end c = omega arith
 
-add-i : tie.Need-add-i Inv-loop μ-loop Inv-loop2 μ-loop2 Inv-scan μ-scan
-add-i c = omega arith
+mark-ahead-requires : tie.Need-mark-ahead-requires Inv-loop μ-loop Inv-scan μ-scan
+mark-ahead-requires c κs = search needs
 
-loop2-less : tie.Need-loop2-less Inv-loop μ-loop Inv-loop2 μ-loop2 Inv-scan μ-scan
-loop2-less c = omega arith
+add-k-2 : tie.Need-add-k-2 Inv-loop μ-loop Inv-scan μ-scan
+add-k-2 c = omega arith
 
-loop2-again : tie.Need-loop2-again Inv-loop μ-loop Inv-loop2 μ-loop2 Inv-scan μ-scan
-loop2-again c =
-    let turn = c .before .before .before .before in
-    let inv = turn .loop2 .inv in
-    let stands =
-    ap (mayStand _) (sym (c .before .before .class-at2 .ensures))
-    ∙ sym (c .before .may-stand .ensures)
-    ∙ c .if4 .taken in
-    (inv .0, inv .1, inv .2, omega arith, below-more _ _ (inv .4) stands)
+scan-less-2 : tie.Need-scan-less-2 Inv-loop μ-loop Inv-scan μ-scan
+scan-less-2 c = omega arith
 
-add-k-3 : tie.Need-add-k-3 Inv-loop μ-loop Inv-loop2 μ-loop2 Inv-scan μ-scan
-add-k-3 c = omega arith
+-- the run is passed over up to the place where the mark is looked for
+at-mark
+    : (c : tie.After-mark-ahead Inv-loop μ-loop Inv-scan μ-scan)
+    → let run = c .before .before .before .pass-run .result in
+    let args = c .before .before .before .before .before .before .before .before .before .args in
+    Scan (args .start) (args .intervals .now) (run .cursor) (run .end) (run .end)
+at-mark c =
+    let ended = c .before .before .before .before in
+    let inv = ended .before .loop .inv in
+    let scan = ended .before .before .before .scan .inv in
+    scan-runs-on
+    (scan-is-full (scan-passes scan (inv .2) (omega arith)) (omega arith) (omega arith))
+    (c .before .before .before .pass-run .ensures)
 
-scan-less-2 : tie.Need-scan-less-2 Inv-loop μ-loop Inv-loop2 μ-loop2 Inv-scan μ-scan
-scan-less-2 c =
-    let run-end = c .before .before .before .before .before .run-end in
-    let turn = c .before .before .before .before .before .before .before in
-    let on : turn .loop .k ≤ run-end .result = rw (run-end .ensures) (run-end-from _ _) in omega arith
+-- and the mark is looked for in all that follows
+mark-is
+    : (c : tie.After-mark-ahead Inv-loop μ-loop Inv-scan μ-scan)
+    → let run = c .before .before .before .pass-run .result in
+    let args = c .before .before .before .before .before .before .before .before .before .args in
+    c .mark-ahead .result ≡ markAhead (classesFrom (run .cursor) (drop (run .end) (args .intervals .now)))
+mark-is c =
+    let run = c .before .before .before .pass-run .result in
+    let args = c .before .before .before .before .before .before .before .before .before .args in
+    c .mark-ahead .ensures
+    ∙ ap (λ (ds : List ℕ). markAhead (classesFrom (run .cursor) ds)) (part-to-end (args .intervals .now) (run .end))
 
-scan-again-2 : tie.Need-scan-again-2 Inv-loop μ-loop Inv-loop2 μ-loop2 Inv-scan μ-scan
-scan-again-2 c =
-    let turn = c .before .before .before .before in
-    let failed =
-    ap (mayStand _) (sym (c .before .before .class-at2 .ensures))
-    ∙ sym (c .before .may-stand .ensures)
-    ∙ c .if4 .left in
-    (run-moves-on (turn .loop2 .inv .2) _ _ (omega arith) failed (omega arith), omega arith)
+scan-again-2 : tie.Need-scan-again-2 Inv-loop μ-loop Inv-scan μ-scan
+scan-again-2 c = scan-moves-on (at-mark (c .before)) (sym (mark-is (c .before)) ∙ c .if3 .left) (omega arith)
 
-returns-2 : tie.Need-returns-2 Inv-loop μ-loop Inv-loop2 μ-loop2 Inv-scan μ-scan
-returns-2 c = run-ends-adrift (c .before .scan .inv .0) (rw classes-length (omega arith))
+returns : tie.Need-returns Inv-loop μ-loop Inv-scan μ-scan
+returns c = scan-ends-adrift (c .before .scan .inv) (c .if1 .taken)
 
-returns-3 : tie.Need-returns-3 Inv-loop μ-loop Inv-loop2 μ-loop2 Inv-scan μ-scan
-returns-3 c =
-    let inv = c .before .loop2 .inv in
-    let all : c .before .loop2 .i ≡ 5 = omega arith in
-    run-ends-in-lock (inv .2) (λ j h. inv .4 j (omega arith))
+returns-2 : tie.Need-returns-2 Inv-loop μ-loop Inv-scan μ-scan
+returns-2 c = scan-ends-in-lock (at-mark (c .before)) (sym (mark-is (c .before)) ∙ c .if3 .taken)
 
 pub scan-spec : {M : Type 1} → statement M
 scan-spec =
@@ -166,32 +151,28 @@ scan-spec =
     (tie.spec
     Inv-loop
     μ-loop
-    Inv-loop2
-    μ-loop2
     Inv-scan
     μ-scan
-    returns
-    add-k
     scan-holds
     loop-holds
-    sub-j
-    class-at-requires
+    mul-step
+    shared-slice-read-step
+    step-requires
+    add-j
     number-requires
-    add-k-2
+    add-k
     scan-less
     scan-again
     loop-less
     loop-again
-    run-end-requires
-    loop2-holds
-    add-class-at
-    class-at-requires-2
-    may-stand-requires
-    add-i
-    loop2-less
-    loop2-again
-    add-k-3
+    pass-run-requires
+    mul-mark-ahead
+    sub-mark-ahead
+    part-mark-ahead-start
+    part-mark-ahead-end
+    mark-ahead-requires
+    add-k-2
     scan-less-2
     scan-again-2
-    returns-2
-    returns-3)
+    returns
+    returns-2)

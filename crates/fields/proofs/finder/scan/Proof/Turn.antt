@@ -1,24 +1,27 @@
--- What a turn of the finder's scan keeps: the intervals from k - 64 up to `known` are of class 2, and no lock stands at
--- a place before k from start + 64 on. One law for each way in which a turn ends. Rests on no axiom.
-use Prim.Native.Nat.{ℕ, _+_, _-_, _<_, _≤_}
-use mathlib.Core.Path.{_≡_, sym, ap, _∙_}
+-- What a turn of the finder's scan keeps: no lock stands before k, the intervals from k - 64 up to j are of class 2,
+-- and the classing stands at j. One law for each way in which a turn goes on or ends. Rests on no axiom.
+use Prim.Native.Nat.{ℕ, suc, _+_, _-_, _<_, _≤_}
+use mathlib.Core.Path.{_≡_, refl, sym, ap, subst, _∙_}
 use mathlib.Core.Bool.{true, false}
 use mathlib.Core.Logic.{⊎-elim}
-use mathlib.Core.List.{List}
+use mathlib.Core.List.{List, _∷_}
+use native.Mathlib.Numerals.{add-one}
 use native.Mathlib.Omega.{arith}
 use native.Mathlib.Nat.{eq-zero-or-pos}
-use lib.ListN.{length, getD}
+use lib.ListN.{length, getD, drop}
+use lib.Seq.{getD-drop, drop-drop}
 use Rattle.refusal.specs.Answer.{accepted, refused}
+use Rattle.timing.specs.Class.{classIn, classed, cursorPast, classNumber, classesFrom}
 use Rattle.timing.specs.declared.Class.{Class}
 use Rattle.timing.specs.declared.Class.the-variants.{Narrow, Two}
-use Rattle.fields.specs.Lock.{lockAt, lockFrom, mayStand, runEnd}
-use Rattle.fields.proofs.FinderLaws.{lock-stands, broken-mark-has-no-lock, broken-run-is-passed, no-lock-goes-on}
-use Rattle.fields.proofs.FinderLaws.{lock-is-first, end-is-adrift, longer-run-is-passed}
-use Rattle.fields.proofs.RunLaws.{run-end-from, twos-up-to-run-end}
-
--- the intervals from a place up to another are of class 2
-abbrev pub Twos : List Class → ℕ → ℕ → Type 0
-Twos cs low high = (j : ℕ) → low ≤ j → j < high → getD cs j Narrow ≡ Two
+use Rattle.timing.specs.declared.cursor.Cursor.{Cursor}
+use Rattle.timing.specs.declared.cursor.Classed.{Classed}
+use Rattle.timing.proofs.ClassLaws.{classes-here, classes-count}
+use Rattle.fields.specs.Lock.{markAhead, PassesTwos, lockFrom}
+use Rattle.fields.proofs.FinderLaws.{Twos, lock-stands, no-lock-without-mark, search-goes-on}
+use Rattle.fields.proofs.FinderLaws.{broken-run-is-passed, longer-run-is-passed, first-64-are-passed}
+use Rattle.fields.proofs.FinderLaws.{search-ends-in-lock, search-ends-adrift}
+use Rattle.fields.proofs.RunLaws.{passed-are-twos, stands-after-passed}
 
 twos-then-twos
     : (cs : List Class) (low between high : ℕ) → Twos cs low between → Twos cs between high → Twos cs low high
@@ -28,109 +31,137 @@ twos-then-twos cs low between high before after j from to =
     (λ under. before j from (omega arith))
     (eq-zero-or-pos (between - j))
 
-pub record Run (cs : List Class) (start k known : ℕ) : Type 0 where
-  pub behind : 64 ≤ k
-  pub ordered : k ≤ known + 64
-  pub within : known ≤ k
-  pub same : lockFrom cs start ≡ lockFrom cs (k - 64)
-  pub twos : Twos cs (k - 64) known
+-- the classes of the intervals that are searched
+abbrev pub searched : Cursor → List ℕ → List Class
+searched start ds = classesFrom start ds
 
-pub run-starts : (cs : List Class) (start k : ℕ) → k ≡ start + 64 → Run cs start k start
-run-starts cs start k k-is =
+pub record Scan (start : Cursor) (ds : List ℕ) (cursor : Cursor) (j k : ℕ) : Type 0 where
+  pub behind : 64 ≤ k
+  pub ordered : k ≤ j + 64
+  pub within : j ≤ k
+  pub stands : drop j (searched start ds) ≡ classesFrom cursor (drop j ds)
+  pub same : lockFrom (searched start ds) 0 ≡ lockFrom (searched start ds) k
+  pub twos : Twos (searched start ds) (k - 64) j
+
+pub scan-starts : (start : Cursor) (ds : List ℕ) {k : ℕ} → k ≡ 64 → Scan start ds start 0 k
+scan-starts start ds k-is =
     record {
       behind = omega arith;
       ordered = omega arith;
       within = omega arith;
-      same = ap (lockFrom cs) (omega arith);
+      stands = refl;
+      same = first-64-are-passed (searched start ds) ∙ ap (lockFrom (searched start ds)) (sym k-is);
       twos = λ j low high. absurd (omega arith);
     }
 
-pub run-ends-adrift
-    : {cs : List Class} {start k known : ℕ} → Run cs start k known → length cs ≤ k → refused 10 0 ≡ lockFrom cs start
-run-ends-adrift {k = k} run over = end-is-adrift _ (k - 64) (omega arith) ∙ sym (run .same)
+module _ {start : Cursor} {ds : List ℕ} {cursor : Cursor} {j k : ℕ} (scan : Scan start ds cursor j k) where
+  abbrev cs : List Class
+  cs = searched start ds
 
--- ---- the 64 before k, looked at from the last one back
+  pub scan-ends-adrift : length ds ≤ k → refused 10 0 ≡ lockFrom cs 0
+  scan-ends-adrift over =
+      let count = classes-count start ds in
+      search-ends-adrift cs k (omega arith) ∙ sym (scan .same)
 
-pub record Looked (cs : List Class) (start k known j : ℕ) : Type 0 where
-  pub run : Run cs start k known
-  pub low : known ≤ j
-  pub high : j ≤ k
-  pub after : Twos cs j k
+  -- some of the 64 are of class 2
+  pub scan-passes : {after : Cursor} {end : ℕ} → PassesTwos cursor ds j after end → end ≤ k → Scan start ds after end k
+  scan-passes {end = end} run most =
+      let low = run .low in
+      record {
+        behind = scan .behind;
+        ordered = omega arith;
+        within = most;
+        stands = stands-after-passed cs run (scan .stands);
+        same = scan .same;
+        twos = twos-then-twos cs (k - 64) j end (scan .twos) (passed-are-twos cs run (scan .stands));
+      }
 
-pub look-starts : {cs : List Class} {start k known : ℕ} → Run cs start k known → Looked cs start k known k
-look-starts run =
-    record { run = run; low = run .within; high = omega arith; after = λ i from to. absurd (omega arith) }
+  abbrev d : ℕ
+  d = getD ds j 0
 
-module _ {cs : List Class} {start k known j : ℕ} (looked : Looked cs start k known j) where
+  -- the interval at j, and those after it
+  from-here : j < length ds → drop j cs ≡ classIn cursor d ∷ classesFrom (cursorPast cursor d) (drop (suc j) ds)
+  from-here inside = scan .stands ∙ classes-here cursor ds j inside
+
   -- one is not of class 2: no lock has it among its 64
-  pub look-breaks : (next : ℕ) → known < j → (getD cs (j - 1) Narrow ≡ Two → ⊥) → next ≡ j + 64 → Run cs start next k
-  look-breaks next more broken next-is =
-      record {
+  pub scan-breaks
+      : (r : Classed) {next place : ℕ}
+      → j < k
+      → j < length ds
+      → r ≡ classed cursor d
+      → (classNumber (r .class) ≡ 2 → ⊥)
+      → next ≡ j + 1
+      → place ≡ j + 65
+      → Scan start ds (r .next) next place
+  scan-breaks r more inside step other next-is place-is =
+      let class : getD cs j Narrow ≡ classIn cursor d =
+      ap (λ (i : ℕ). getD cs i Narrow) (omega arith)
+      ∙ sym (getD-drop j cs 0 Narrow)
+      ∙ ap (λ (xs : List Class). getD xs 0 Narrow) (from-here inside) in
+      let number = ap (λ (s : Classed). classNumber (s .class)) step in
+      rw (step, next-is)
+      (record {
         behind = omega arith;
         ordered = omega arith;
         within = omega arith;
+        stands =
+            sym (drop-drop 1 j cs)
+            ∙ ap (drop 1) (from-here inside)
+            ∙ ap (λ (i : ℕ). classesFrom (cursorPast cursor d) (drop i ds)) (sym (add-one j));
         same =
-            looked .run .same
-            ∙ broken-run-is-passed cs (k - 64) (j - 1) (omega arith) (omega arith) broken
+            scan .same
+            ∙ broken-run-is-passed cs k j (scan .behind) more (omega arith)
+            (λ two. other (number ∙ ap classNumber (sym class ∙ two)))
             ∙ ap (lockFrom cs) (omega arith);
-        twos = λ i from to. looked .after i (omega arith) to;
-      }
+        twos = λ i low high. absurd (omega arith);
+      })
 
-  pub look-goes-on : known < j → getD cs (j - 1) Narrow ≡ Two → Looked cs start k known (j - 1)
-  look-goes-on more two =
-      let here : Twos cs (j - 1) j = λ i from to. ap (λ (n : ℕ). getD cs n Narrow) (omega arith) ∙ two in
-      record {
-        run = looked .run;
-        low = omega arith;
-        high = omega arith;
-        after = twos-then-twos cs (j - 1) j k here (looked .after);
-      }
+  pub scan-is-full : {place : ℕ} → j ≡ place → k ≡ place → Scan start ds cursor place place
+  scan-is-full {place = place} at up-to =
+      subst (λ (i : ℕ). Scan start ds cursor i place) at (subst (λ (i : ℕ). Scan start ds cursor j i) up-to scan)
 
+module _ {start : Cursor} {ds : List ℕ} {cursor : Cursor} {k : ℕ} (scan : Scan start ds cursor k k) where
   -- all 64 are of class 2, and others behind them
-  pub look-ends : j ≤ known → Run cs start (runEnd cs k) (runEnd cs k)
-  look-ends none =
-      let run = looked .run in
-      let on : k ≤ runEnd cs k = run-end-from cs k in
-      let more : Twos cs k (runEnd cs k) = twos-up-to-run-end cs k in
-      let rest : Twos cs known k = λ i from to. looked .after i (omega arith) to in
-      let all : Twos cs (k - 64) (runEnd cs k) =
-      twos-then-twos cs (k - 64) k (runEnd cs k) (twos-then-twos cs (k - 64) known k (run .twos) rest) more in
+  pub scan-runs-on : {after : Cursor} {end : ℕ} → PassesTwos cursor ds k after end → Scan start ds after end end
+  scan-runs-on {end = end} run =
+      let low = run .low in
+      let high = run .high in
+      let behind = scan .behind in
+      let count = classes-count start ds in
+      let cs = searched start ds in
+      let more = passed-are-twos cs run (scan .stands) in
       record {
         behind = omega arith;
         ordered = omega arith;
         within = omega arith;
-        same =
-            run .same
-            ∙ longer-run-is-passed cs (runEnd cs k - k) (k - 64) (λ i from to. more i (omega arith) (omega arith))
-            ∙ ap (lockFrom cs) (omega arith);
-        twos = λ i from to. all i (omega arith) to;
+        stands = stands-after-passed cs run (scan .stands);
+        same = scan .same ∙ longer-run-is-passed cs k end low (omega arith) more;
+        twos = λ i from to. twos-then-twos cs (k - 64) k end (scan .twos) more i (omega arith) to;
       }
-
--- ---- the five from k on
-
-module _ {cs : List Class} {start k : ℕ} (run : Run cs start k k) where
-  -- the 64 before k begin at k - 64
-  sync : k - 64 + 64 ≡ k
-  sync = omega arith
 
   -- 64 of class 2, and no mark after them
-  pub run-moves-on
-      : (i next : ℕ) → i < 5 → mayStand i (getD cs (k + i) Narrow) ≡ false → next ≡ k + 1 → Run cs start next k
-  run-moves-on i next five broken next-is =
+  pub scan-moves-on
+      : {place : ℕ} → markAhead (classesFrom cursor (drop k ds)) ≡ false → place ≡ k + 1 → Scan start ds cursor k place
+  scan-moves-on {place = place} none place-is =
+      let cs = searched start ds in
+      let behind = scan .behind in
       record {
         behind = omega arith;
         ordered = omega arith;
         within = omega arith;
+        stands = scan .stands;
         same =
-            run .same
-            ∙ no-lock-goes-on cs (k - 64) (ap (lockAt cs) sync ∙ broken-mark-has-no-lock cs k i five broken)
-            ∙ ap (lockFrom cs) (omega arith);
-        twos = λ j low high. run .twos j (omega arith) high;
+            scan .same
+            ∙ search-goes-on cs k place (omega arith)
+            (λ i low high.
+            let here : i ≡ k = omega arith in
+            rw here (no-lock-without-mark cs k (ap markAhead (scan .stands) ∙ none)));
+        twos = λ i low high. scan .twos i (omega arith) high;
       }
 
-  pub run-ends-in-lock
-      : ((j : ℕ) → j < 5 → mayStand j (getD cs (k + j) Narrow) ≡ true) → accepted k ≡ lockFrom cs start
-  run-ends-in-lock mark =
-      let stands =
-      lock-stands cs (k - 64) (λ j low high. run .twos j low (omega arith)) (λ j five. rw sync (mark j five)) in
-      ap accepted (sym sync) ∙ lock-is-first cs (k - 64) stands ∙ sym (run .same)
+  pub scan-ends-in-lock : markAhead (classesFrom cursor (drop k ds)) ≡ true → accepted k ≡ lockFrom (searched start ds) 0
+  scan-ends-in-lock mark =
+      let cs = searched start ds in
+      search-ends-in-lock cs k
+      (lock-stands cs k (scan .behind) (scan .twos) (ap markAhead (scan .stands) ∙ mark))
+      ∙ sym (scan .same)

@@ -1,0 +1,136 @@
+-- Why `fields::finder::search` answers `searchRule`: the scan has the intervals from `start` on, and a place of theirs
+-- is within them, so that the sum is a place of the list. Rests on no axiom.
+use Prim.Native.Nat.{ℕ, _+_, _-_, _<_, _≤_}
+use mathlib.Core.Path.{_≡_, sym, ap, ap₂, _∙_}
+use mathlib.Core.List.{List}
+use native.Mathlib.Omega.{arith}
+use borrow.Author.Needs.{needs}
+use lib.ListN.{length, drop, length-drop}
+use Rattle.refusal.specs.Answer.{Answer, accepted, refused, countedAnswer}
+use Rattle.refusal.specs.Table.{numberOf, placeOf}
+use Rattle.refusal.specs.declared.Refusal.{Refusal}
+use Rattle.refusal.proofs.AnswerLaws.{number-is-not-zero}
+use Rattle.timing.specs.Class.{classesFrom, classesOf}
+use Rattle.timing.specs.declared.Profile.{Profile}
+use Rattle.timing.specs.declared.Class.{Class}
+use Rattle.timing.specs.declared.cursor.Cursor.{Cursor}
+use Rattle.timing.proofs.ClassLaws.{classes-length, classes-from-start}
+use Rattle.fields.specs.Lock.{lockFrom, searchRule}
+use Rattle.fields.proofs.LockLaws.{part-to-end}
+use Rattle.fields.proofs.FinderLaws.{search-ends-adrift, lock-is-within}
+use Rattle.fields.proofs.FirstLockLaws.{lock-from-found}
+use Rattle.fields.proofs.finder.search.Statement.{statement}
+use Rattle.fields.proofs.finder.search.Tie as tie
+
+module _ (p : Profile) (ds : List ℕ) (start : ℕ) where
+  -- the classes that are searched
+  abbrev classes : List Class
+  classes = classesOf p (drop start ds)
+
+  count : length classes ≡ length ds - start
+  count = classes-length p (drop start ds) ∙ length-drop start ds
+
+  past-end-is-adrift : length ds ≤ start → refused 10 0 ≡ searchRule p ds start
+  unfolding searchRule
+  past-end-is-adrift h =
+      let none = count in
+      rw (sym (search-ends-adrift classes 0 (omega arith)))
+
+  refusal-stays
+      : (r : Refusal)
+      → refused (numberOf r) (placeOf r) ≡ lockFrom classes 0
+      → refused (numberOf r) (placeOf r) ≡ searchRule p ds start
+  unfolding searchRule
+  refusal-stays r e = rw (sym e, number-is-not-zero r)
+
+  place-is-counted : (k : ℕ) → accepted k ≡ lockFrom classes 0 → accepted (start + k) ≡ searchRule p ds start
+  unfolding searchRule
+  place-is-counted k e = rw (sym e)
+
+  place-is-within : (k : ℕ) → accepted k ≡ lockFrom classes 0 → k < length ds - start
+  place-is-within k e =
+      let first = lock-from-found classes 0 (sym (ap (λ (a : Answer). a .number) e)) in
+      let is = ap (λ (a : Answer). a .count) e in
+      let within = lock-is-within classes _ (first .stands) in
+      let long = count in
+      omega arith
+
+-- what the scan answers
+scanned
+    : (c : tie.After-scan)
+    → let args = c .before .before .before .before .before .args in
+    countedAnswer (c .scan .result) ≡ lockFrom (classesOf (args .p) (drop (args .start) (args .intervals .now))) 0
+scanned c =
+    let args = c .before .before .before .before .before .args in
+    c .scan .ensures
+    ∙ ap₂ (λ (cursor : Cursor) (ds : List ℕ). lockFrom (classesFrom cursor ds) 0)
+    (c .before .before .start .ensures)
+    (part-to-end (args .intervals .now) (args .start))
+    ∙ ap (λ (cs : List Class). lockFrom cs 0) (sym (classes-from-start (args .p) _))
+
+-- and the place, where it has one
+found
+    : (c : tie.After-k)
+    → let args = c .before .before .before .before .before .before .before .args in
+    accepted (c .k .given .0 .0)
+    ≡ lockFrom (classesOf (args .p) (drop (args .start) (args .intervals .now))) 0
+found c = sym (ap countedAnswer (c .k .given .1)) ∙ scanned (c .before .before)
+
+returns : tie.Need-returns
+returns c = past-end-is-adrift _ _ _ (c .if1 .taken)
+
+start-requires : tie.Need-start-requires
+start-requires c κs = search needs
+
+mul-scan : tie.Need-mul-scan
+mul-scan c = search needs
+
+sub-scan : tie.Need-sub-scan
+sub-scan c = search needs
+
+part-scan-start : tie.Need-part-scan-start
+part-scan-start c = search needs
+
+part-scan-end : tie.Need-part-scan-end
+part-scan-end c = search needs
+
+scan-requires : tie.Need-scan-requires
+scan-requires c κs = search needs
+
+enum-known-refusal : tie.Need-enum-known-refusal
+enum-known-refusal c = search needs
+
+enum-known-k : tie.Need-enum-known-k
+enum-known-k c = search needs
+
+add-t16 : tie.Need-add-t16
+add-t16 c =
+    let begin = c .before .before .before .before .before .before .before .before in
+    let args = begin .args in
+    let within = place-is-within (args .p) (args .intervals .now) (args .start) _ (found (c .before)) in
+    omega (arith, begin .good)
+
+returns-2 : tie.Need-returns-2
+returns-2 c =
+    refusal-stays _ _ _ (c .before .refusal .given .0 .0)
+    (sym (ap countedAnswer (c .before .refusal .given .1)) ∙ scanned (c .before .before .before))
+
+returns-3 : tie.Need-returns-3
+returns-3 c = place-is-counted _ _ _ _ (found (c .before))
+
+pub search-spec : {M : Type 1} → statement M
+search-spec =
+    tie.close
+    (tie.spec
+    returns
+    start-requires
+    mul-scan
+    sub-scan
+    part-scan-start
+    part-scan-end
+    scan-requires
+    enum-known-refusal
+    enum-known-k
+    add-t16
+    returns-2
+    returns-3)
