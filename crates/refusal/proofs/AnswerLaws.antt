@@ -114,7 +114,9 @@ refused-earlier r rule n e = by-test (eqb (rule .number) 0) e
     by-test false q = q
 
 -- an acceptance after an earlier answer
-pub accepted-later : (rule : Answer) (m n : ℕ) → accepted m ≡ firstRefusal rule (accepted n) → (rule .number ≡ 0) × (m ≡ n)
+pub accepted-later : (rule : Answer) (m n : ℕ)
+    → accepted m ≡ firstRefusal rule (accepted n)
+    → (rule .number ≡ 0) × (m ≡ n)
 accepted-later rule m n e =
     let both = first-refusal-accepts rule (accepted n) (sym (ap (λ (a : Answer). a .number) e)) in
     (both .0, ap (λ (a : Answer). a .count) (e ∙ first-refusal-passes rule (accepted n) (both .0)))
