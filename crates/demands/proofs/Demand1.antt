@@ -2,11 +2,12 @@
 -- cause. Rests on no axiom.
 use Prim.Native.Nat.{ℕ, zero, suc, _+_, _-_, _≤_}
 use mathlib.Core.Path.{_≡_, refl, sym, ap, subst, _∙_}
-use mathlib.Core.Bool.{true, false, cond, true≢false}
+use mathlib.Core.Bool.{Bool, true, false, cond, true≢false}
 use mathlib.Core.List.{List}
 use mathlib.Core.Logic.{_⊎_, inl, inr, ⊎-elim}
 use native.Mathlib.Omega.{arith}
-use lib.ListN.{length}
+use lib.ListN.{length, drop}
+use borrow.Author.Tests.{eq-eqb}
 use Rattle.lists.specs.Place.{anywhere, everywhere, lowest, passed}
 use Rattle.refusal.specs.Answer.{Answer, accepted, refused, firstRefusal}
 use Rattle.timing.specs.Profile.{unset, isTrue, profileRule}
@@ -22,7 +23,7 @@ use Rattle.lengths.specs.Stream.{byteStream, streamOf}
 use Rattle.lengths.specs.Margin.{marginOf, marginRule}
 use Rattle.codec.specs.Writer.{streamRule, writeRule}
 use Rattle.codec.specs.Reader.{cellsRead, itemsOfStream, readRule}
-use Rattle.fields.specs.Lock.{lockAt, firstLock, lockFrom, findRule}
+use Rattle.fields.specs.Lock.{lockAt, firstLock, lockFrom, countedFrom, searchRule, findRule}
 use Rattle.fields.specs.Field.{fieldStop, fieldStray, fieldStrayPlace}
 use Rattle.fields.specs.FieldRule.{gatherRule, deliverRule, checkedRule, fieldRule}
 use Rattle.fields.proofs.FirstLockLaws.{lock-from-found, adrift-has-no-lock}
@@ -142,26 +143,30 @@ lock-or-adrift cs (suc places) k =
 
 lock-in-turn
     : (cs : List Class) (start : ℕ)
-    → InTurn (turn 10 (at0 ((k : ℕ) → start + 64 ≤ k → lockAt cs k ≡ true → ⊥)) accept) (lockFrom cs start)
+    → InTurn (turn 10 (at0 ((k : ℕ) → lockAt cs k ≡ true → ⊥)) accept) (countedFrom start (lockFrom cs 0))
 unfolding InTurn lockFrom
 lock-in-turn cs start =
     ⊎-elim
     (λ found.
-    let first = lock-from-found cs start found in
-    inr (λ k none. none .0 _ (first .from) (first .stands), found))
+    inr (
+      λ k none. none .0 _ (lock-from-found cs 0 found .stands),
+      ap (λ (t : Bool). cond t (accepted (start + lockFrom cs 0 .count)) (lockFrom cs 0) .number)
+      (eq-eqb (lockFrom cs 0 .number) 0 found),
+    ))
     (λ adrift.
+    let same = ap (countedFrom start) adrift in
     inl (
       (
-        λ k from stands. true≢false (sym stands ∙ adrift-has-no-lock cs start (ap (λ a. a .number) adrift) k from),
-        ap (λ a. a .place) adrift,
+        λ k stands. true≢false (sym stands ∙ adrift-has-no-lock cs 0 (ap (λ a. a .number) adrift) k (omega arith)),
+        ap (λ a. a .place) same,
       ),
-      ap (λ a. a .number) adrift,
+      ap (λ a. a .number) same,
     ))
-    (lock-or-adrift cs (length cs - (start + 64)) (start + 64))
+    (lock-or-adrift cs (length cs - 0) 0)
 
 finder : (p : Profile) (ds : List ℕ) (start : ℕ) → Answers (finderOrder p ds start) (findRule p ds start)
-unfolding findRule numbersOf everywhere
-finder p ds start = answers refl (profile-in-turn p _ _ (lock-in-turn (classesOf p ds) start))
+unfolding findRule searchRule numbersOf everywhere
+finder p ds start = answers refl (profile-in-turn p _ _ (lock-in-turn (classesOf p (drop start ds)) start))
 
 pub demand-1 : Demand1
 demand-1 =

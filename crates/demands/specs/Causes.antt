@@ -5,7 +5,7 @@ use mathlib.Core.Path.{_≡_}
 use mathlib.Core.Bool.{Bool, true, false}
 use mathlib.Core.List.{List}
 use mathlib.Core.Logic.{_⊎_}
-use lib.ListN.{length, getD, take}
+use lib.ListN.{length, getD, take, drop}
 use Rattle.lists.specs.Place.{anywhere, lowest, passed}
 use Rattle.items.specs.Item.{isForeign, writtenBytes}
 use Rattle.timing.specs.Profile.{unset, isTrue}
@@ -69,11 +69,11 @@ stripOrder p ds room =
     (turn 9 (at0 (room < length (itemsOfStream p ds)))
     accept)))))))
 
--- finder: 1, 2, 10 (no lock stands at any place with all 64 at or after the start)
+-- finder: 1, 2, 10 (no lock stands at any place of the list from the start on)
 abbrev pub finderOrder : Profile → List ℕ → ℕ → Order
 finderOrder p ds start =
     profileOrder p
-    (turn 10 (at0 ((k : ℕ) → start + 64 ≤ k → lockAt (classesOf p ds) k ≡ true → ⊥))
+    (turn 10 (at0 ((k : ℕ) → lockAt (classesOf p (drop start ds)) k ≡ true → ⊥))
     accept)
 
 -- the intervals of some classes, none narrow or wide, give fewer bits than the lead and n bytes

@@ -33,7 +33,7 @@ module _ {p : Profile} (k : Kept p) where
       → 2 * start < p .t1 .0 + zeros * p .t0 .0 + 2 * end
   cell-takes-less zeros start end not-late not-early =
       shift-is-less (p .t1 .0) (zeros * p .t0 .0) start end (p .early .0) (p .late .0) (p .min .0) not-late not-early
-      (k .ranges .min-low)
+      (omega (arith, k))
       (k .two-from)
 
   lengths-are-signed
