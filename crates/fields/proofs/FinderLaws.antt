@@ -39,7 +39,8 @@ module _ (cs : List Class) (k : ℕ) where
   unfolding lockAt
   no-lock-below-64 h = rw (lt-leb 64 k h)
 
-  broken-run-has-no-lock : 64 ≤ k → (j : ℕ) → j < k → k ≤ j + 64 → (getD cs j Narrow ≡ Two → ⊥) → lockAt cs k ≡ false
+  pub broken-run-has-no-lock
+      : 64 ≤ k → (j : ℕ) → j < k → k ≤ j + 64 → (getD cs j Narrow ≡ Two → ⊥) → lockAt cs k ≡ false
   unfolding lockAt
   broken-run-has-no-lock far j low high broken =
       let there : getD (drop (k - 64) cs) (j - (k - 64)) Narrow ≡ getD cs j Narrow =

@@ -21,10 +21,11 @@ two-after-twos : (n : ℕ) (cs : List Class) → replicate n Two ++ (Two ∷ cs)
 two-after-twos zero cs = refl
 two-after-twos (suc n) cs = ap (λ (xs : List Class). Two ∷ xs) (two-after-twos n cs)
 
-pub passes-none : {before : Cursor} {from : ℕ} (ds : List ℕ) → from ≤ length ds → PassesTwos before ds from before from
-passes-none {from = from} ds h =
+pub passes-none
+    : {before : Cursor} {from end : ℕ} (ds : List ℕ) → from ≤ length ds → end ≡ from → PassesTwos before ds from before end
+passes-none {from = from} ds h end-is =
     let none : from - from ≡ 0 = omega arith in
-    record { low = omega arith; high = h; classes = rw none }
+    rw end-is (record { low = omega arith; high = h; classes = rw none })
 
 -- one interval more, as a step of the cursor gives it
 pub passes-one-more

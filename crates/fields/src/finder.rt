@@ -4,7 +4,7 @@ ghost use mathlib.Core.Path.{_≡_};
 ghost use lib.ListN.{length};
 ghost use Rattle.refusal.specs.Answer.{countedAnswer};
 ghost use Rattle.timing.specs.Class.{classesFrom};
-ghost use Rattle.fields.specs.Lock.{beginsWith, markAhead, PassesTwos, lockFrom, searchRule, findRule};
+ghost use Rattle.fields.specs.Lock.{beginsWith, markAhead, PassesRun, lockFrom, searchRule, findRule};
 use refusal::Counted;
 use refusal::Refusal;
 use refusal::Verdict;
@@ -56,11 +56,11 @@ struct Run {
     cursor: Cursor,
 }
 
-// Passes over a run, two intervals at a turn, so that the end of the list is asked for once in two; of the run it may
-// leave the last.
+// Passes over a run, two intervals at a turn, so that the end of the list is asked for once in two. An interval that is
+// the last of the list may be left.
 fn pass_run(start: Cursor, intervals: &[u16], from: usize) -> Run
     requires { ⌜ from ≤ length (now intervals) ⌝ }
-    ensures { λ r. ⌜ PassesTwos start (now (intervals .entry)) from (r .cursor) (r .end) ⌝ }
+    ensures { λ r. ⌜ PassesRun start (now (intervals .entry)) from (r .cursor) (r .end) ⌝ }
 {
     let mut cursor = start;
     let mut k = from;
@@ -70,10 +70,14 @@ fn pass_run(start: Cursor, intervals: &[u16], from: usize) -> Run
         if class.number() != 2 {
             return Run { end: k, cursor };
         }
-        let second = first.next.step(intervals[k + 1]);
+        let next = first.next;
+        let second = next.step(intervals[k + 1]);
         let class = second.class;
         if class.number() != 2 {
-            return Run { end: k, cursor };
+            return Run {
+                end: k + 1,
+                cursor: next,
+            };
         }
         cursor = second.next;
         k += 2;
@@ -81,29 +85,29 @@ fn pass_run(start: Cursor, intervals: &[u16], from: usize) -> Run
     Run { end: k, cursor }
 }
 
-// Invariant: no lock stands before k; the intervals from k - 64 up to j are of class 2, and the classing stands at j.
-// The others of the 64 before k are looked at in their order. One of another class rules out every place that has it
-// among its 64, so k goes to 65 after it. Where all 64 are of class 2, what the run has beyond them is passed over,
-// since no mark begins with class 2.
+// Invariant: no lock stands before k, and the classing stands at the first of the 64 before k. They are looked at in
+// their order. One of another class rules out every place that has it among its 64, so k goes to 65 after it. Where all
+// 64 are of class 2, k goes on to the end of their run, since no mark begins with class 2; with no mark there, the
+// interval at the run's end is the first of the next 64.
 fn scan(start: Cursor, intervals: &[u16]) -> Counted
     ensures { λ r. ⌜ countedAnswer r ≡ lockFrom (classesFrom start (now (intervals .entry))) 0 ⌝ }
 {
     let mut cursor = start;
-    let mut j: usize = 0;
     let mut k: usize = 64;
     let place = 'scan: loop {
         if intervals.len() <= k {
             break 'scan Counted::Refused(Refusal::NoLock);
         }
-        while j < k {
-            let classed = cursor.step(intervals[j]);
+        let mut i: usize = 0;
+        while i < 64 {
+            let classed = cursor.step(intervals[k - 64 + i]);
             let class = classed.class;
             cursor = classed.next;
-            j += 1;
             if class.number() != 2 {
-                k = j + 64;
+                k += i + 1;
                 continue 'scan;
             }
+            i += 1;
         }
         let run = pass_run(cursor, intervals, k);
         cursor = run.cursor;
@@ -111,8 +115,7 @@ fn scan(start: Cursor, intervals: &[u16]) -> Counted
         if mark_ahead(cursor, &intervals[k..]) {
             break 'scan Counted::Count(k);
         }
-        j = k;
-        k += 1;
+        k += 64;
     };
     place
 }

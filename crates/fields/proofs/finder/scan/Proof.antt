@@ -14,32 +14,35 @@ use Rattle.timing.specs.declared.cursor.Classed.{Classed}
 use Rattle.fields.specs.Lock.{markAhead, PassesTwos}
 use Rattle.fields.proofs.LockLaws.{part-to-end}
 use Rattle.fields.proofs.RunLaws.{passes-none, passes-one-more}
-use Turn.{Scan, scan-starts, scan-passes, scan-breaks, scan-is-full, scan-runs-on, scan-moves-on}
-use Turn.{scan-ends-adrift, scan-ends-in-lock}
+use Turn.{Scan, AtMark, scan-starts, scan-at, scan-breaks, scan-runs-on, scan-ends-adrift, mark-is-missed, mark-is-found}
 use Rattle.fields.proofs.finder.scan.Statement.{statement}
 use Rattle.fields.proofs.finder.scan.Tie as tie
 
--- of the 64 before k, those from the turn's first on
+-- of the 64 before k, those that were looked at
 abbrev Inv-loop : tie.InvT-loop
-Inv-loop intervals cursor₀ j₀ k₀ cursor j k = (k ≡ k₀) × (j ≤ k) × PassesTwos cursor₀ intervals j₀ cursor j
+Inv-loop intervals cursor₀ k₀ i₀ cursor k i =
+    (k ≡ k₀) × (i ≤ 64) × PassesTwos cursor₀ intervals (k - 64) cursor (k - 64 + i)
 
 abbrev μ-loop : tie.MeasureT-loop
-μ-loop intervals cursor₀ j₀ k₀ cursor j k = k - j
+μ-loop intervals cursor₀ k₀ i₀ cursor k i = 64 - i
 
 abbrev Inv-scan : tie.InvT-scan
-Inv-scan intervals cursor₀ j₀ k₀ cursor j k = Scan cursor₀ intervals cursor j k
+Inv-scan intervals cursor₀ k₀ cursor k = Scan cursor₀ intervals cursor k
 
 abbrev μ-scan : tie.MeasureT-scan
-μ-scan intervals cursor₀ j₀ k₀ cursor j k = length intervals + 65 - k
+μ-scan intervals cursor₀ k₀ cursor k = length intervals + 65 - k
 
 scan-holds : tie.Need-scan-holds Inv-loop μ-loop Inv-scan μ-scan
 scan-holds c = scan-starts _ _ (omega arith)
 
 loop-holds : tie.Need-loop-holds Inv-loop μ-loop Inv-scan μ-scan
-loop-holds c =
-    let scan = c .before .scan .inv in
-    let within = scan .within in
-    (refl, within, passes-none _ (omega arith))
+loop-holds c = (refl, omega arith, passes-none _ (omega arith) (omega arith))
+
+sub-step : tie.Need-sub-step Inv-loop μ-loop Inv-scan μ-scan
+sub-step c = omega arith
+
+add-step : tie.Need-add-step Inv-loop μ-loop Inv-scan μ-scan
+add-step c = omega arith
 
 mul-step : tie.Need-mul-step Inv-loop μ-loop Inv-scan μ-scan
 mul-step c = omega arith
@@ -50,14 +53,14 @@ shared-slice-read-step c = omega arith
 step-requires : tie.Need-step-requires Inv-loop μ-loop Inv-scan μ-scan
 step-requires c κs = search needs
 
-add-j : tie.Need-add-j Inv-loop μ-loop Inv-scan μ-scan
-add-j c = omega arith
-
 number-requires : tie.Need-number-requires Inv-loop μ-loop Inv-scan μ-scan
 number-requires c κs = search needs
 
 add-k : tie.Need-add-k Inv-loop μ-loop Inv-scan μ-scan
 add-k c = omega arith
+
+add-k-2 : tie.Need-add-k-2 Inv-loop μ-loop Inv-scan μ-scan
+add-k-2 c = omega arith
 
 scan-less : tie.Need-scan-less Inv-loop μ-loop Inv-scan μ-scan
 scan-less c = omega arith
@@ -66,12 +69,14 @@ scan-again : tie.Need-scan-again Inv-loop μ-loop Inv-scan μ-scan
 scan-again c =
     let step = c .before .before .before .step in
     let turn = c .before .before .before .before .before .before in
-    let run = turn .loop .inv .2 in
-    let scan = turn .before .before .scan .inv in
-    scan-breaks (scan-passes scan run (omega arith)) (step .result) (omega arith) (omega arith) (step .ensures)
+    let inv = turn .loop .inv in
+    scan-breaks (scan-at (turn .before .before .scan .inv) (inv .0)) (step .result) (inv .2) (omega arith) (omega arith)
+    (step .ensures)
     (λ two. c .if2 .taken (c .before .number .ensures ∙ two))
     (omega arith)
-    (omega arith)
+
+add-i : tie.Need-add-i Inv-loop μ-loop Inv-scan μ-scan
+add-i c = omega arith
 
 loop-less : tie.Need-loop-less Inv-loop μ-loop Inv-scan μ-scan
 loop-less c = omega arith
@@ -79,11 +84,11 @@ loop-less c = omega arith
 loop-again : tie.Need-loop-again Inv-loop μ-loop Inv-scan μ-scan
 loop-again c =
     let step = c .before .before .before .step in
-    let turn = c .before .before .before .before .before .before in
+    let inv = c .before .before .before .before .before .before .loop .inv in
     let two = sym (c .before .number .ensures) ∙ c .if2 .left in (
-      turn .loop .inv .0,
+      inv .0,
       omega arith,
-      passes-one-more (step .result) (turn .loop .inv .2) (omega arith) (step .ensures) two refl,
+      passes-one-more (step .result) (inv .2) (omega arith) (step .ensures) two (omega arith),
     )
 
 pass-run-requires : tie.Need-pass-run-requires Inv-loop μ-loop Inv-scan μ-scan
@@ -104,8 +109,8 @@ part-mark-ahead-end c = omega arith
 mark-ahead-requires : tie.Need-mark-ahead-requires Inv-loop μ-loop Inv-scan μ-scan
 mark-ahead-requires c κs = search needs
 
-add-k-2 : tie.Need-add-k-2 Inv-loop μ-loop Inv-scan μ-scan
-add-k-2 c = omega arith
+add-k-3 : tie.Need-add-k-3 Inv-loop μ-loop Inv-scan μ-scan
+add-k-3 c = omega arith
 
 scan-less-2 : tie.Need-scan-less-2 Inv-loop μ-loop Inv-scan μ-scan
 scan-less-2 c = omega arith
@@ -115,14 +120,12 @@ at-mark
     : (c : tie.After-mark-ahead Inv-loop μ-loop Inv-scan μ-scan)
     → let run = c .before .before .before .pass-run .result in
     let args = c .before .before .before .before .before .before .before .before .before .args in
-    Scan (args .start) (args .intervals .now) (run .cursor) (run .end) (run .end)
+    AtMark (args .start) (args .intervals .now) (run .cursor) (run .end)
 at-mark c =
     let ended = c .before .before .before .before in
     let inv = ended .before .loop .inv in
-    let scan = ended .before .before .before .scan .inv in
-    scan-runs-on
-    (scan-is-full (scan-passes scan (inv .2) (omega arith)) (omega arith) (omega arith))
-    (c .before .before .before .pass-run .ensures)
+    scan-runs-on (scan-at (ended .before .before .before .scan .inv) (inv .0)) (inv .2) (omega arith)
+    (c .before .before .before .pass-run .ensures .twos)
 
 -- and the mark is looked for in all that follows
 mark-is
@@ -137,13 +140,16 @@ mark-is c =
     ∙ ap (λ (ds : List ℕ). markAhead (classesFrom (run .cursor) ds)) (part-to-end (args .intervals .now) (run .end))
 
 scan-again-2 : tie.Need-scan-again-2 Inv-loop μ-loop Inv-scan μ-scan
-scan-again-2 c = scan-moves-on (at-mark (c .before)) (sym (mark-is (c .before)) ∙ c .if3 .left) (omega arith)
+scan-again-2 c =
+    mark-is-missed (at-mark (c .before)) (sym (mark-is (c .before)) ∙ c .if3 .left)
+    (c .before .before .before .before .pass-run .ensures .ends)
+    (omega arith)
 
 returns : tie.Need-returns Inv-loop μ-loop Inv-scan μ-scan
 returns c = scan-ends-adrift (c .before .scan .inv) (c .if1 .taken)
 
 returns-2 : tie.Need-returns-2 Inv-loop μ-loop Inv-scan μ-scan
-returns-2 c = scan-ends-in-lock (at-mark (c .before)) (sym (mark-is (c .before)) ∙ c .if3 .taken)
+returns-2 c = mark-is-found (at-mark (c .before)) (sym (mark-is (c .before)) ∙ c .if3 .taken)
 
 pub scan-spec : {M : Type 1} → statement M
 scan-spec =
@@ -155,14 +161,17 @@ scan-spec =
     μ-scan
     scan-holds
     loop-holds
+    sub-step
+    add-step
     mul-step
     shared-slice-read-step
     step-requires
-    add-j
     number-requires
     add-k
+    add-k-2
     scan-less
     scan-again
+    add-i
     loop-less
     loop-again
     pass-run-requires
@@ -171,7 +180,7 @@ scan-spec =
     part-mark-ahead-start
     part-mark-ahead-end
     mark-ahead-requires
-    add-k-2
+    add-k-3
     scan-less-2
     scan-again-2
     returns

@@ -1,5 +1,5 @@
--- What a turn of the finder's scan keeps: no lock stands before k, the intervals from k - 64 up to j are of class 2,
--- and the classing stands at j. One law for each way in which a turn goes on or ends. Rests on no axiom.
+-- What a turn of the finder's scan keeps: no lock stands before k, and the classing stands at the first of the 64
+-- before k. One law for each way in which a turn goes on or ends. Rests on no axiom.
 use Prim.Native.Nat.{ℕ, suc, _+_, _-_, _<_, _≤_}
 use mathlib.Core.Path.{_≡_, refl, sym, ap, subst, _∙_}
 use mathlib.Core.Bool.{true, false}
@@ -7,7 +7,7 @@ use mathlib.Core.Logic.{⊎-elim}
 use mathlib.Core.List.{List, _∷_}
 use native.Mathlib.Numerals.{add-one}
 use native.Mathlib.Omega.{arith}
-use native.Mathlib.Nat.{eq-zero-or-pos}
+use native.Mathlib.Nat.{eq-zero-or-pos, eq-or-lt-of-le}
 use lib.ListN.{length, getD, drop}
 use lib.Seq.{getD-drop, drop-drop}
 use Rattle.refusal.specs.Answer.{accepted, refused}
@@ -17,9 +17,10 @@ use Rattle.timing.specs.declared.Class.the-variants.{Narrow, Two}
 use Rattle.timing.specs.declared.cursor.Cursor.{Cursor}
 use Rattle.timing.specs.declared.cursor.Classed.{Classed}
 use Rattle.timing.proofs.ClassLaws.{classes-here, classes-count}
-use Rattle.fields.specs.Lock.{markAhead, PassesTwos, lockFrom}
-use Rattle.fields.proofs.FinderLaws.{Twos, lock-stands, no-lock-without-mark, search-goes-on}
-use Rattle.fields.proofs.FinderLaws.{broken-run-is-passed, longer-run-is-passed, first-64-are-passed}
+use Rattle.fields.specs.Lock.{markAhead, PassesTwos, PassesRun, lockAt, lockFrom}
+use Rattle.fields.proofs.FinderLaws.{Twos, lock-stands, broken-run-has-no-lock, no-lock-without-mark}
+use Rattle.fields.proofs.FinderLaws.{no-lock-past-end, search-goes-on, broken-run-is-passed}
+use Rattle.fields.proofs.FinderLaws.{longer-run-is-passed, first-64-are-passed}
 use Rattle.fields.proofs.FinderLaws.{search-ends-in-lock, search-ends-adrift}
 use Rattle.fields.proofs.RunLaws.{passed-are-twos, stands-after-passed}
 
@@ -35,26 +36,61 @@ twos-then-twos cs low between high before after j from to =
 abbrev pub searched : Cursor → List ℕ → List Class
 searched start ds = classesFrom start ds
 
-pub record Scan (start : Cursor) (ds : List ℕ) (cursor : Cursor) (j k : ℕ) : Type 0 where
+-- the classing stands at a place
+abbrev Stands : Cursor → List ℕ → Cursor → ℕ → Type 0
+Stands start ds cursor j = drop j (searched start ds) ≡ classesFrom cursor (drop j ds)
+
+module _ (start : Cursor) (ds : List ℕ) (cursor : Cursor) (j : ℕ) (stands : Stands start ds cursor j) where
+  abbrev d : ℕ
+  d = getD ds j 0
+
+  -- the interval there, and those after it
+  from-here
+      : j < length ds
+      → drop j (searched start ds) ≡ classIn cursor d ∷ classesFrom (cursorPast cursor d) (drop (suc j) ds)
+  from-here inside = stands ∙ classes-here cursor ds j inside
+
+  class-here : j < length ds → getD (searched start ds) j Narrow ≡ classIn cursor d
+  class-here inside =
+      ap (λ (i : ℕ). getD (searched start ds) i Narrow) (omega arith)
+      ∙ sym (getD-drop j (searched start ds) 0 Narrow)
+      ∙ ap (λ (xs : List Class). getD xs 0 Narrow) (from-here inside)
+
+  stands-after : j < length ds → Stands start ds (cursorPast cursor d) (j + 1)
+  stands-after inside =
+      sym (drop-drop 1 j (searched start ds))
+      ∙ ap (drop 1) (from-here inside)
+      ∙ ap (λ (i : ℕ). classesFrom (cursorPast cursor d) (drop i ds)) (sym (add-one j))
+
+  broken-here
+      : j < length ds → (classNumber (classIn cursor d) ≡ 2 → ⊥) → getD (searched start ds) j Narrow ≡ Two → ⊥
+  broken-here inside other two = other (ap classNumber (sym (class-here inside) ∙ two))
+
+pub record Scan (start : Cursor) (ds : List ℕ) (cursor : Cursor) (k : ℕ) : Type 0 where
   pub behind : 64 ≤ k
-  pub ordered : k ≤ j + 64
-  pub within : j ≤ k
-  pub stands : drop j (searched start ds) ≡ classesFrom cursor (drop j ds)
+  pub stands : Stands start ds cursor (k - 64)
   pub same : lockFrom (searched start ds) 0 ≡ lockFrom (searched start ds) k
-  pub twos : Twos (searched start ds) (k - 64) j
 
-pub scan-starts : (start : Cursor) (ds : List ℕ) {k : ℕ} → k ≡ 64 → Scan start ds start 0 k
+pub scan-starts : (start : Cursor) (ds : List ℕ) {k : ℕ} → k ≡ 64 → Scan start ds start k
 scan-starts start ds k-is =
-    record {
-      behind = omega arith;
-      ordered = omega arith;
-      within = omega arith;
-      stands = refl;
-      same = first-64-are-passed (searched start ds) ∙ ap (lockFrom (searched start ds)) (sym k-is);
-      twos = λ j low high. absurd (omega arith);
-    }
+    let first = first-64-are-passed (searched start ds) in
+    rw k-is (record { behind = omega arith; stands = refl; same = first })
 
-module _ {start : Cursor} {ds : List ℕ} {cursor : Cursor} {j k : ℕ} (scan : Scan start ds cursor j k) where
+pub scan-at
+    : {start : Cursor} {ds : List ℕ} {cursor : Cursor} {k place : ℕ}
+    → Scan start ds cursor k
+    → place ≡ k
+    → Scan start ds cursor place
+scan-at scan place-is = rw place-is scan
+
+-- 64 of class 2, where a mark is looked for
+pub record AtMark (start : Cursor) (ds : List ℕ) (cursor : Cursor) (k : ℕ) : Type 0 where
+  pub behind : 64 ≤ k
+  pub stands : Stands start ds cursor k
+  pub same : lockFrom (searched start ds) 0 ≡ lockFrom (searched start ds) k
+  pub twos : Twos (searched start ds) (k - 64) k
+
+module _ {start : Cursor} {ds : List ℕ} {cursor : Cursor} {k : ℕ} (scan : Scan start ds cursor k) where
   abbrev cs : List Class
   cs = searched start ds
 
@@ -63,105 +99,88 @@ module _ {start : Cursor} {ds : List ℕ} {cursor : Cursor} {j k : ℕ} (scan : 
       let count = classes-count start ds in
       search-ends-adrift cs k (omega arith) ∙ sym (scan .same)
 
-  -- some of the 64 are of class 2
-  pub scan-passes : {after : Cursor} {end : ℕ} → PassesTwos cursor ds j after end → end ≤ k → Scan start ds after end k
-  scan-passes {end = end} run most =
-      let low = run .low in
-      record {
-        behind = scan .behind;
-        ordered = omega arith;
-        within = most;
-        stands = stands-after-passed cs run (scan .stands);
-        same = scan .same;
-        twos = twos-then-twos cs (k - 64) j end (scan .twos) (passed-are-twos cs run (scan .stands));
-      }
-
-  abbrev d : ℕ
-  d = getD ds j 0
-
-  -- the interval at j, and those after it
-  from-here : j < length ds → drop j cs ≡ classIn cursor d ∷ classesFrom (cursorPast cursor d) (drop (suc j) ds)
-  from-here inside = scan .stands ∙ classes-here cursor ds j inside
-
   -- one is not of class 2: no lock has it among its 64
   pub scan-breaks
-      : (r : Classed) {next place : ℕ}
+      : {after : Cursor} {j place : ℕ} (r : Classed)
+      → PassesTwos cursor ds (k - 64) after j
       → j < k
       → j < length ds
-      → r ≡ classed cursor d
+      → r ≡ classed after (getD ds j 0)
       → (classNumber (r .class) ≡ 2 → ⊥)
-      → next ≡ j + 1
       → place ≡ j + 65
-      → Scan start ds (r .next) next place
-  scan-breaks r more inside step other next-is place-is =
-      let class : getD cs j Narrow ≡ classIn cursor d =
-      ap (λ (i : ℕ). getD cs i Narrow) (omega arith)
-      ∙ sym (getD-drop j cs 0 Narrow)
-      ∙ ap (λ (xs : List Class). getD xs 0 Narrow) (from-here inside) in
-      let number = ap (λ (s : Classed). classNumber (s .class)) step in
-      rw (step, next-is)
+      → Scan start ds (r .next) place
+  scan-breaks {after = after} {j = j} r run more inside step other place-is =
+      let low = run .low in
+      let behind = scan .behind in
+      let stands = stands-after-passed cs run (scan .stands) in
+      let first : j + 65 - 64 ≡ j + 1 = omega arith in
+      let broken =
+      broken-here start ds after j stands inside
+      (λ e. other (ap (λ (s : Classed). classNumber (s .class)) step ∙ e)) in
+      rw (step, place-is)
       (record {
         behind = omega arith;
-        ordered = omega arith;
-        within = omega arith;
-        stands =
-            sym (drop-drop 1 j cs)
-            ∙ ap (drop 1) (from-here inside)
-            ∙ ap (λ (i : ℕ). classesFrom (cursorPast cursor d) (drop i ds)) (sym (add-one j));
-        same =
-            scan .same
-            ∙ broken-run-is-passed cs k j (scan .behind) more (omega arith)
-            (λ two. other (number ∙ ap classNumber (sym class ∙ two)))
-            ∙ ap (lockFrom cs) (omega arith);
-        twos = λ i low high. absurd (omega arith);
+        stands = rw first (stands-after start ds after j stands inside);
+        same = scan .same ∙ broken-run-is-passed cs k j behind more (omega arith) broken;
       })
 
-  pub scan-is-full : {place : ℕ} → j ≡ place → k ≡ place → Scan start ds cursor place place
-  scan-is-full {place = place} at up-to =
-      subst (λ (i : ℕ). Scan start ds cursor i place) at (subst (λ (i : ℕ). Scan start ds cursor j i) up-to scan)
-
-module _ {start : Cursor} {ds : List ℕ} {cursor : Cursor} {k : ℕ} (scan : Scan start ds cursor k k) where
   -- all 64 are of class 2, and others behind them
-  pub scan-runs-on : {after : Cursor} {end : ℕ} → PassesTwos cursor ds k after end → Scan start ds after end end
-  scan-runs-on {end = end} run =
+  pub scan-runs-on
+      : {between after : Cursor} {j end : ℕ}
+      → PassesTwos cursor ds (k - 64) between j
+      → j ≡ k
+      → PassesTwos between ds k after end
+      → AtMark start ds after end
+  scan-runs-on {between = between} {end = end} part j-is run =
+      let sync = subst (λ (i : ℕ). PassesTwos cursor ds (k - 64) between i) j-is part in
       let low = run .low in
       let high = run .high in
       let behind = scan .behind in
       let count = classes-count start ds in
-      let cs = searched start ds in
-      let more = passed-are-twos cs run (scan .stands) in
+      let more = passed-are-twos cs run (stands-after-passed cs sync (scan .stands)) in
+      let all = twos-then-twos cs (k - 64) k end (passed-are-twos cs sync (scan .stands)) more in
       record {
         behind = omega arith;
-        ordered = omega arith;
-        within = omega arith;
-        stands = stands-after-passed cs run (scan .stands);
+        stands = stands-after-passed cs run (stands-after-passed cs sync (scan .stands));
         same = scan .same ∙ longer-run-is-passed cs k end low (omega arith) more;
-        twos = λ i from to. twos-then-twos cs (k - 64) k end (scan .twos) more i (omega arith) to;
+        twos = λ i from to. all i (omega arith) to;
       }
 
-  -- 64 of class 2, and no mark after them
-  pub scan-moves-on
-      : {place : ℕ} → markAhead (classesFrom cursor (drop k ds)) ≡ false → place ≡ k + 1 → Scan start ds cursor k place
-  scan-moves-on {place = place} none place-is =
+module _ {start : Cursor} {ds : List ℕ} {cursor : Cursor} {k : ℕ} (mark : AtMark start ds cursor k) where
+  -- no mark there: the run has ended, and no lock has its end among its 64
+  pub mark-is-missed
+      : {place : ℕ}
+      → markAhead (classesFrom cursor (drop k ds)) ≡ false
+      → (suc k < length ds → classNumber (classIn cursor (getD ds k 0)) ≡ 2 → ⊥)
+      → place ≡ k + 64
+      → Scan start ds cursor place
+  mark-is-missed none ends place-is =
       let cs = searched start ds in
-      let behind = scan .behind in
-      record {
+      let behind = mark .behind in
+      let count = classes-count start ds in
+      let first : k + 64 - 64 ≡ k = omega arith in
+      let here : lockAt cs k ≡ false = no-lock-without-mark cs k (ap markAhead (mark .stands) ∙ none) in
+      let after : (i : ℕ) → k < i → i < k + 64 → lockAt cs i ≡ false =
+      λ i low high.
+      ⊎-elim
+      (λ last. no-lock-past-end cs i (omega arith))
+      (λ more.
+      broken-run-has-no-lock cs i (omega arith) k low (omega arith)
+      (broken-here start ds cursor k (mark .stands) (omega arith) (ends (omega arith))))
+      (eq-zero-or-pos (length ds - suc k)) in
+      rw place-is
+      (record {
         behind = omega arith;
-        ordered = omega arith;
-        within = omega arith;
-        stands = scan .stands;
+        stands = rw first (mark .stands);
         same =
-            scan .same
-            ∙ search-goes-on cs k place (omega arith)
+            mark .same
+            ∙ search-goes-on cs k (k + 64) (omega arith)
             (λ i low high.
-            let here : i ≡ k = omega arith in
-            rw here (no-lock-without-mark cs k (ap markAhead (scan .stands) ∙ none)));
-        twos = λ i low high. scan .twos i (omega arith) high;
-      }
+            ⊎-elim (λ is. ap (lockAt cs) (sym is) ∙ here) (λ past. after i past high) (eq-or-lt-of-le low));
+      })
 
-  pub scan-ends-in-lock : markAhead (classesFrom cursor (drop k ds)) ≡ true → accepted k ≡ lockFrom (searched start ds) 0
-  scan-ends-in-lock mark =
+  pub mark-is-found : markAhead (classesFrom cursor (drop k ds)) ≡ true → accepted k ≡ lockFrom (searched start ds) 0
+  mark-is-found found =
       let cs = searched start ds in
-      search-ends-in-lock cs k
-      (lock-stands cs k (scan .behind) (scan .twos) (ap markAhead (scan .stands) ∙ mark))
-      ∙ sym (scan .same)
+      search-ends-in-lock cs k (lock-stands cs k (mark .behind) (mark .twos) (ap markAhead (mark .stands) ∙ found))
+      ∙ sym (mark .same)
