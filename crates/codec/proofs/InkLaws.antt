@@ -2,7 +2,6 @@
 -- bits more are inked. Rests on no axiom.
 use Prim.Native.Nat.{ℕ, suc, _+_, _-_, _≤_, _<_}
 use mathlib.Core.Path.{_≡_, refl, sym, ap, subst, _∙_}
-use mathlib.Core.Bool.{Bool, true, false, cond}
 use mathlib.Core.List.{List, [], _∷_, _++_, append-nil}
 use native.Mathlib.Nat.{add-assoc, add-zero}
 use native.Mathlib.Omega.{arith}
@@ -10,7 +9,7 @@ use native.Mathlib.Numerals.{add-one}
 use lib.ListN.{length, length-append, drop, getD}
 use lib.Seq.{drop-cons}
 use Rattle.lists.specs.Filled.{storedAt}
-use Rattle.lists.proofs.StoreLaws.{stored-none, stored-after-stored, stored-length}
+use Rattle.lists.proofs.StoreLaws.{one-given-at-most, stored-none, stored-after-stored, stored-length}
 use Rattle.symbols.specs.Bits.{Bit, O}
 use Rattle.timing.specs.declared.Profile.{Profile}
 use Rattle.lengths.specs.Pen.{stroke, strokeOf, givenBy, inked, penAfter, freshPen, Steady}
@@ -19,17 +18,12 @@ use Rattle.lengths.specs.declared.pen.Stroke.{Stroke}
 use Rattle.lengths.proofs.PenLaws.{pen-after-append, inked-append}
 use Rattle.lengths.proofs.SteadyLaws.{pen-stays-steady}
 
--- a bit gives one length at most
-one-or-none : (made : Bool) (n : ℕ) → length (cond made (n ∷ []) []) ≤ 1
-one-or-none true n = omega arith
-one-or-none false n = omega arith
-
 pub inked-at-most : (p : Profile) (pen : Pen) (bs : List Bit) → length (inked p pen bs) ≤ length bs
 unfolding inked
 inked-at-most p pen [] = omega arith
 inked-at-most p pen (b ∷ bs) =
     let s = strokeOf p pen b in
-    let one : length (givenBy s) ≤ 1 = one-or-none (s .made) (s .length .0) in
+    let one : length (givenBy s) ≤ 1 = one-given-at-most (s .made) (s .length .0) in
     let rest = inked-at-most p (s .pen) bs in
     let both = length-append (givenBy s) (inked p (s .pen) bs) in
     omega arith

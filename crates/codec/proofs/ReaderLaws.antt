@@ -2,7 +2,7 @@
 -- answer, which is the strip's, and then the room decides. Rests on no axiom.
 use Prim.Native.Nat.{ℕ, _^_, _≤_, _<_}
 use mathlib.Core.Path.{_≡_, sym, ap, subst, _∙_}
-use mathlib.Core.List.{List, [], _∷_}
+use mathlib.Core.List.{List}
 use native.Mathlib.Omega.{arith}
 use lib.Dec.{ltb}
 use lib.ListN.{length}
@@ -15,10 +15,8 @@ use Rattle.refusal.specs.declared.Refusal.{Refusal}
 use Rattle.refusal.proofs.AnswerLaws.{first-refusal-passes, refuse-if-passes, refuse-if-accepts, refusal-decides}
 use Rattle.refusal.proofs.AnswerLaws.{acceptance-fills-the-buffer}
 use Rattle.timing.specs.Profile.{profileRule}
-use Rattle.timing.specs.Class.{classesOf, edgeRule}
+use Rattle.timing.specs.Class.{classesOf}
 use Rattle.timing.specs.declared.Profile.{Profile}
-use Rattle.timing.specs.declared.Class.{Class}
-use Rattle.timing.specs.declared.Class.the-variants.{Narrow, Two, Three, Four, Wide}
 use Rattle.timing.proofs.ClassLaws.{classes-length}
 use Rattle.symbols.specs.Reading.{readBits}
 use Rattle.symbols.specs.Strip.{isRagged, isStray, bytesRead, strayPlace, stripRule, stripItems}
@@ -28,19 +26,12 @@ use Rattle.symbols.specs.declared.Cell.{Cell}
 use Rattle.symbols.specs.declared.Reading.{Reading}
 use Rattle.symbols.proofs.RoundTripLaws.{write-of-read}
 use Rattle.symbols.proofs.RunLaws.{strip-by-ran}
-use Rattle.codec.specs.Reader.{cellsOfClasses, cellsRead, itemsOfStream, readRule, readOutput}
+use Rattle.intervals.specs.Cells.{edgeRule, cellsRead}
+use Rattle.intervals.proofs.ClassCellLaws.{cells-at-most-classes}
+use Rattle.codec.specs.Reader.{itemsOfStream, readRule, readOutput}
 use Rattle.codec.specs.Scan.{scanned, gathered}
 use Rattle.codec.specs.declared.reader.Scan.the-variants.{Whole, Stopped}
 use Rattle.codec.proofs.ScanLaws.{stopped-is-refused, whole-is-accepted, whole-is-run, whole-gathers}
-
-cells-at-most-classes : (cs : List Class) → length (cellsOfClasses cs) ≤ length cs
-unfolding cellsOfClasses
-cells-at-most-classes [] = omega arith
-cells-at-most-classes (Narrow ∷ cs) = let rest = cells-at-most-classes cs in omega arith
-cells-at-most-classes (Two ∷ cs) = let rest = cells-at-most-classes cs in omega arith
-cells-at-most-classes (Three ∷ cs) = let rest = cells-at-most-classes cs in omega arith
-cells-at-most-classes (Four ∷ cs) = let rest = cells-at-most-classes cs in omega arith
-cells-at-most-classes (Wide ∷ cs) = let rest = cells-at-most-classes cs in omega arith
 
 -- an accepted strip's number is that of its items
 accepted-counts-items : (xs : List Cell) (n : ℕ) → accepted n ≡ stripRule xs → n ≡ length (stripItems xs)

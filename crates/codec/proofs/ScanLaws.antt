@@ -8,15 +8,14 @@ use borrow.Author.Tests.{eq-eqb, ne-eqb, lt-ltb, le-ltb}
 use Rattle.refusal.specs.Table.{numberOf, placeOf}
 use Rattle.refusal.specs.Answer.{Answer, accepted, refused}
 use Rattle.refusal.specs.declared.Refusal.{Refusal}
-use Rattle.timing.specs.Class.{edgeRule, edgeRuleFrom}
 use Rattle.timing.specs.declared.Class.{Class}
 use Rattle.timing.specs.declared.Class.the-variants.{Narrow, Two, Three, Four, Wide}
 use Rattle.symbols.specs.Machine.{fresh}
 use Rattle.symbols.specs.Step.{stepped, ran, ranItems, itemsOf, stripAnswer}
 use Rattle.symbols.specs.declared.Cell.the-variants.{Short, Medium, Long}
 use Rattle.symbols.specs.declared.Reading.{Reading}
+use Rattle.intervals.specs.Cells.{edgeRule, edgeRuleFrom, cellsOfClasses}
 use Rattle.codec.specs.Scan.{scanned, gathered}
-use Rattle.codec.specs.Reader.{cellsOfClasses}
 use Rattle.codec.specs.declared.reader.Scan.{Scan}
 use Rattle.codec.specs.declared.reader.Scan.the-variants.{Whole, Stopped}
 

@@ -7,10 +7,10 @@ use mathlib.Core.List.{List, [], _∷_, _++_}
 use lib.Dec.{leb}
 use native.Mathlib.Omega.{arith}
 use lib.ListN.{length, length-append, take}
-use lib.Seq.{sets, length-sets, length-take-le}
+use lib.Seq.{length-take-le}
 use borrow.Author.Tests.{lt-ltb, le-ltb, leb-true, leb-false}
 use Rattle.lists.specs.Filled.{storedAt}
-use Rattle.lists.proofs.StoreLaws.{stored-after-stored, stored-at-front-fills}
+use Rattle.lists.proofs.StoreLaws.{stored-after-stored, stored-length, stored-at-front-fills}
 use Rattle.refusal.specs.Answer.{Answer, accepted, refused, settled}
 use Rattle.refusal.proofs.AnswerLaws.{first-refusal-passes}
 use Rattle.items.specs.Item.{writtenBytes}
@@ -110,13 +110,13 @@ module _ (p : Profile) (items old : List ℕ) where
 
 -- the front of a buffer for 128 bytes, after the bytes of at most 64 items were stored there
 module _ (check : Check) (items out old : List ℕ) (n : ℕ) (count : n ≡ writtenBytes items)
-    (stored : out ≡ sets old 0 (writtenFrom check items)) (room : length old ≡ 128) (few : length items ≤ 64) where
+    (stored : out ≡ storedAt old 0 (writtenFrom check items)) (room : length old ≡ 128) (few : length items ≤ 64) where
   pub part-is-short : n ≤ 128
   part-is-short = let most = written-bytes-bounds items .1 in omega arith
 
   pub bytes-fit : n ≤ length out
   bytes-fit =
-      let same : length out ≡ length old = ap length stored ∙ length-sets old 0 (writtenFrom check items) in
+      let same : length out ≡ length old = ap length stored ∙ stored-length old 0 (writtenFrom check items) in
       let short = part-is-short in
       omega arith
 

@@ -1,26 +1,15 @@
 -- Document 01, "Turned-away numbers", strip reader: 1, 2, 4 (intervals), the first of 5 or 6, 7, 4 (bytes), 8, 9. No
 -- lemmas here.
 use Prim.Native.Nat.{ℕ}
-use mathlib.Core.List.{List, [], _∷_}
+use mathlib.Core.List.{List}
 use lib.Dec.{ltb}
 use lib.ListN.{length}
 use Rattle.refusal.specs.Answer.{Answer, accepted, refuseIf, firstRefusal, settled}
 use Rattle.timing.specs.Profile.{profileRule}
-use Rattle.timing.specs.Class.{classesOf, edgeRule}
+use Rattle.timing.specs.Class.{classesOf}
 use Rattle.timing.specs.declared.Profile.{Profile}
-use Rattle.timing.specs.declared.Class.{Class}
 use Rattle.symbols.specs.Strip.{stripRule, stripItems}
-use Rattle.symbols.specs.declared.Cell.{Cell}
-use Rattle.intervals.specs.Cells.{byClass}
-
--- the cells of classes. A narrow or a wide interval is refused before its cell is asked for
-unfoldable pub cellsOfClasses : List Class → List Cell
-cellsOfClasses [] = []
-cellsOfClasses (c ∷ cs) = byClass c (cellsOfClasses cs) (λ (x : Cell). x ∷ cellsOfClasses cs) (cellsOfClasses cs)
-
--- the cells of a stream of intervals
-unfoldable pub cellsRead : Profile → List ℕ → List Cell
-cellsRead p ds = cellsOfClasses (classesOf p ds)
+use Rattle.intervals.specs.Cells.{edgeRule, cellsRead}
 
 -- the list that a stream reads as
 unfoldable pub itemsOfStream : Profile → List ℕ → List ℕ

@@ -16,6 +16,7 @@ use refusal::Counted;
 use refusal::Refusal;
 use refusal::Verdict;
 use symbols::Reading;
+use timing::Cursor;
 use timing::Profile;
 
 // How far a pass came: through all its intervals, or to one that is too short or too long.
@@ -32,15 +33,19 @@ fn pass_over(p: Profile, intervals: &[u16], out: &mut [u16]) -> Scan
         now (out .exit) ≡ storedAt (now (out .entry)) 0 (gathered 0 fresh (classesOf p (now (intervals .entry)))) ⌝ }
 {
     let mut m = Reading::new();
+    let mut cursor = Cursor::start(p);
     let mut count: usize = 0;
     let mut k: usize = 0;
     while k < intervals.len() {
-        match intervals::take(timing::classify(p, intervals[k]), k as u32) {
+        let classed = cursor.step(intervals[k]);
+        let class = classed.class;
+        match intervals::take(class, k as u32) {
             Taken::Refused(refusal) => return Scan::Stopped(refusal),
             Taken::Read(cell) => {
                 let next = m.step(cell, k as u32);
                 count = put(out, count, next.done, next.item);
                 m = next;
+                cursor = classed.next;
                 k += 1;
             }
         }

@@ -21,12 +21,13 @@ use Rattle.symbols.proofs.RoundTripLaws.{cells-are-read, read-back, rule-of-wri
 use Rattle.symbols.proofs.UnitLaws.{cells-at-most}
 use Rattle.items.specs.Rule.{listRule}
 use Rattle.lengths.specs.Stream.{byteStream, streamOf}
+use Rattle.intervals.specs.Cells.{cellsRead}
+use Rattle.intervals.proofs.ClassCellLaws.{classes-are-cells, cells-are-classes}
 use Rattle.codec.specs.Writer.{streamRule, writeRule, writeOutput}
-use Rattle.codec.specs.Reader.{cellsRead, itemsOfStream, readRule}
+use Rattle.codec.specs.Reader.{itemsOfStream, readRule}
 use Rattle.demands.specs.Streams.{AcceptedProfile, AcceptedList, ReadsAs}
 use Rattle.demands.specs.Demand2.{CellsAreClasses, Demand2}
 use Rattle.demands.proofs.ListLaws.{listed, bytes-are-accepted}
-use Rattle.demands.proofs.ClassCells.{classes-are-cells, cells-are-classes}
 use Rattle.demands.proofs.ReadLaws.{Passed, passed-of-accepted, reads-as-its-list}
 
 -- ---- reading

@@ -12,10 +12,11 @@ use Rattle.refusal.specs.Answer.{accepted}
 use Rattle.refusal.proofs.AnswerLaws.{first-refusal-accepts, first-refusal-passes, refuse-if-accepts}
 use Rattle.refusal.proofs.AnswerLaws.{refuse-if-passes, acceptance-fills-the-buffer}
 use Rattle.timing.specs.Profile.{profileRule}
-use Rattle.timing.specs.Class.{classesOf, edgeRule}
+use Rattle.timing.specs.Class.{classesOf}
 use Rattle.timing.specs.declared.Profile.{Profile}
 use Rattle.symbols.specs.Strip.{stripRule}
-use Rattle.codec.specs.Reader.{cellsRead, itemsOfStream, readRule, readOutput}
+use Rattle.intervals.specs.Cells.{edgeRule, cellsRead}
+use Rattle.codec.specs.Reader.{itemsOfStream, readRule, readOutput}
 use Rattle.demands.specs.Streams.{ReadsAs}
 
 -- each test in its turn

@@ -1,30 +1,22 @@
 -- Two lists that agree in the used intervals get equal answers: the cells and the stop of a field hang on the used
 -- intervals alone, and all else hangs on those. Rests on no axiom.
-use Prim.Native.Nat.{ℕ, zero, suc}
+use Prim.Native.Nat.{ℕ}
 use mathlib.Core.Path.{_≡_, sym, ap, _∙_}
-use mathlib.Core.List.{List, [], _∷_, _++_}
+use mathlib.Core.List.{List, _++_}
 use borrow.Author.Tests.{eq-eqb}
 use lib.ListN.{length, take, drop, take-append-drop}
 use Rattle.refusal.proofs.AnswerLaws.{first-refusal-accepts, refuse-if-accepts}
 use Rattle.timing.specs.Profile.{outside, profileRule}
-use Rattle.timing.specs.Class.{classOf, classesOf}
+use Rattle.timing.specs.Class.{classesOf}
 use Rattle.timing.specs.declared.Profile.{Profile}
 use Rattle.timing.specs.declared.Class.{Class}
-use Rattle.timing.proofs.ClassLaws.{classes-of-none, classes-of-cons, classes-of-append}
+use Rattle.timing.proofs.ClassLaws.{classes-of-take}
 use Rattle.symbols.specs.Bits.{O}
 use Rattle.fields.specs.Field.{bitsWanted, fieldStop, fieldCells, fieldUsed, fieldBits}
 use Rattle.fields.specs.Field.{fieldItems, fieldHolds, fieldStray, fieldStrayPlace}
 use Rattle.fields.specs.FieldRule.{gatherRule, deliverRule, checkedRule, fieldRule, fieldReading, fieldOutput}
 use Rattle.fields.specs.Claims.{UsedIntervalsDecide}
 use Rattle.fields.proofs.TakenLaws.{SameFront, used-decide}
-
-pub classes-of-take : (p : Profile) (k : ℕ) (ds : List ℕ) → classesOf p (take k ds) ≡ take k (classesOf p ds)
-classes-of-take p zero ds = classes-of-none p
-classes-of-take p (suc k) [] = rw classes-of-none
-classes-of-take p (suc k) (d ∷ ds) =
-    classes-of-cons p d (take k ds)
-    ∙ ap (λ (cs : List Class). classOf p d ∷ cs) (classes-of-take p k ds)
-    ∙ rw classes-of-cons
 
 -- ---- what hangs on the cells and the stop
 
@@ -66,22 +58,21 @@ module _ (p : Profile) (ds es : List ℕ) (n room : ℕ) where
       first-refusal-accepts (fieldStop (classesOf p ds) n) _ gathered .0
 
   module _ (accepts : fieldRule p ds n room .number ≡ 0) (agree : AgreeInUsed) where
-    classes-split
-        : classesOf p es
-        ≡ take (fieldUsed (classesOf p ds) n) (classesOf p ds) ++ classesOf p (drop (fieldUsed (classesOf p ds) n) es)
+    abbrev used : ℕ
+    used = fieldUsed (classesOf p ds) n
+
+    classes-split : classesOf p es ≡ take used (classesOf p ds) ++ drop used (classesOf p es)
     classes-split =
-        let used = fieldUsed (classesOf p ds) n in
-        ap (classesOf p) (sym (take-append-drop used es))
-        ∙ classes-of-append p (take used es) (drop used es)
-        ∙ ap (λ (cs : List Class). cs ++ classesOf p (drop used es))
-        (ap (classesOf p) agree ∙ classes-of-take p used ds)
+        sym (take-append-drop used (classesOf p es))
+        ∙ ap (λ (cs : List Class). cs ++ drop used (classesOf p es))
+        (sym (classes-of-take p used es) ∙ ap (classesOf p) agree ∙ classes-of-take p used ds)
 
     same-front : SameFront (classesOf p ds) (classesOf p es) 0 (bitsWanted n) O
     unfolding fieldUsed fieldCells fieldStop
     same-front =
         rw classes-split
         (used-decide
-        (classesOf p (drop (fieldUsed (classesOf p ds) n) es))
+        (drop used (classesOf p es))
         (classesOf p ds)
         0
         (bitsWanted n)

@@ -5,8 +5,7 @@ use mathlib.Core.Path.{_≡_, sym, ap, _∙_}
 use mathlib.Core.List.{List}
 use lib.ListN.{length, take}
 use Rattle.lists.specs.Filled.{storedAt}
-use Rattle.lists.proofs.FilledLaws.{front-of-filled}
-use Rattle.lists.proofs.StoreLaws.{stored-at-front-fills}
+use Rattle.lists.proofs.StoreLaws.{front-of-stored}
 use Rattle.refusal.specs.Table.{numberOf, placeOf}
 use Rattle.refusal.specs.Answer.{Answer, accepted, refused}
 use Rattle.refusal.specs.declared.Refusal.{Refusal}
@@ -15,6 +14,7 @@ use Rattle.refusal.proofs.AnswerLaws.{first-refusal-accepts, first-refusal-pass
 use Rattle.timing.specs.Class.{classesOf}
 use Rattle.timing.specs.declared.Profile.{Profile}
 use Rattle.timing.specs.declared.Class.{Class}
+use Rattle.timing.proofs.ClassLaws.{classes-of-take}
 use Rattle.symbols.specs.Bits.{O}
 use Rattle.fields.specs.Field.{bitsWanted, fieldStop, fieldCells, fieldUsed, fieldItems, fieldHolds, fieldStray}
 use Rattle.fields.specs.Field.{fieldStrayPlace}
@@ -22,7 +22,7 @@ use Rattle.fields.specs.FieldRule.{gatherRule, GathersItems, deliverRule
 use Rattle.fields.specs.FieldRule.{fieldTurnedAway, checkedRule, checkedReading, checkedOutput}
 use Rattle.fields.proofs.FieldLaws.{field-items-count}
 use Rattle.fields.proofs.TakenLaws.{SameFront, front-decides}
-use Rattle.fields.proofs.AgreeLaws.{classes-of-take, same-items, same-gather}
+use Rattle.fields.proofs.AgreeLaws.{same-items, same-gather}
 
 -- ---- no more intervals than bits are looked at
 
@@ -89,13 +89,6 @@ module _ (cs : List Class) (n : ℕ) where
 
 -- ---- what was gathered of the front is delivered
 
--- what was stored at the front is read back from it
-stored-front : (vs l : List ℕ) (n : ℕ) → length vs ≡ n → n ≤ length l → take n (storedAt l 0 vs) ≡ vs
-stored-front vs l n e h =
-    ap (λ (k : ℕ). take k (storedAt l 0 vs)) (sym e)
-    ∙ ap (take (length vs)) (stored-at-front-fills vs l (rw e h))
-    ∙ front-of-filled vs l
-
 abbrev pub Delivers : Profile → List ℕ → ℕ → ℕ → List ℕ → List ℕ → Type 0
 Delivers p ds n used items old =
     (deliverReading items used (length old) ≡ checkedReading (classesOf p ds) n (length old))
@@ -122,5 +115,5 @@ module _ (p : Profile) (ds part : List ℕ) (n most : ℕ) (enough : bitsWanted 
       let count : length (fieldItems (classesOf p ds) n) ≡ n = field-items-count (classesOf p ds) n fair most-bytes in
       let items : take n stored ≡ fieldItems (classesOf p ds) n =
       ap (take n) (store zero ∙ ap (storedAt buffer 0) part-has-items)
-      ∙ stored-front (fieldItems (classesOf p ds) n) buffer n count room in
+      ∙ front-of-stored (fieldItems (classesOf p ds) n) buffer n count room in
       gather-delivers (classesOf p ds) n used (take n stored) old (e ∙ part-gathers) items (ap length items ∙ count)

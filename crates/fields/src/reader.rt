@@ -15,6 +15,7 @@ use refusal::Counted;
 use refusal::Refusal;
 use refusal::Verdict;
 use symbols::Reading;
+use timing::Cursor;
 use timing::Profile;
 
 // What a field reads as: how many items, how many intervals they used, and whether the register is zero after them.
@@ -45,18 +46,22 @@ fn gather(p: Profile, intervals: &[u16], n: u32, out: &mut [u16]) -> Counted
     ensures fill { λ _. ⌜ GathersItems (classesOf p (now (intervals .entry))) n (now (out .entry)) (now (out .exit)) ⌝ }
 {
     let mut m = Reading::new();
+    let mut cursor = Cursor::start(p);
     let mut count: usize = 0;
     let mut k: usize = 0;
     while m.rows <= n {
         if intervals.len() <= k {
             return Counted::Refused(Refusal::EndsEarly);
         }
-        match intervals::take(timing::classify(p, intervals[k]), k as u32) {
+        let classed = cursor.step(intervals[k]);
+        let class = classed.class;
+        match intervals::take(class, k as u32) {
             Taken::Refused(refusal) => return Counted::Refused(refusal),
             Taken::Read(cell) => {
                 let next = m.step(cell, k as u32);
                 count = lists::put(out, count, next.done, next.item);
                 m = next;
+                cursor = classed.next;
                 k += 1;
             }
         }

@@ -6,11 +6,12 @@ use mathlib.Core.List.{List, [], _∷_, _++_, append-assoc}
 use mathlib.Core.Logic.{⊎-elim}
 use native.Mathlib.Numerals.{add-one}
 use lib.ListN.{length, getD, take, drop, length-append, drop-of-length-le}
-use lib.Seq.{drop-cons, sets}
+use lib.Seq.{drop-cons}
 use Rattle.lists.specs.Place.{anywhere, everywhere}
 use Rattle.lists.proofs.PlaceLaws.{everywhere-of-none, everywhere-of-passing, everywhere-of-append}
 use Rattle.lists.proofs.PlaceLaws.{nowhere-fails-at-first, nowhere-in-rest}
-use Rattle.lists.proofs.FilledLaws.{sets-from-front-is-filled, front-of-filled}
+use Rattle.lists.specs.Filled.{storedAt}
+use Rattle.lists.proofs.StoreLaws.{front-of-stored}
 use Rattle.items.specs.Item.{isByte, isCheck, isItem, isForeign, bytesOf, writtenBytes}
 use Rattle.items.specs.Register.{highByte, lowByte}
 use Rattle.items.specs.Written.{fresh, afterByte, afterBytes, checkBytes, itemBytes, afterCheck, afterItem}
@@ -135,9 +136,8 @@ written-of-no-check ns e = written-from-of-no-check fresh ns e
 -- as a caller of `write_bytes` has it: the answer, the buffer after the call and before it
 pub front-of-stored-bytes : (c : Check) (ns : List ℕ) (n : ℕ) (out old : List ℕ)
     → n ≡ writtenBytes ns
-    → out ≡ sets old 0 (writtenFrom c ns)
+    → out ≡ storedAt old 0 (writtenFrom c ns)
     → writtenBytes ns ≤ length old
     → take n out ≡ writtenFrom c ns
 front-of-stored-bytes c ns n out old p q h =
-    let fills = sets-from-front-is-filled (writtenFrom c ns) old (rw (length-of-written-from c ns) h) in
-    ap₂ take (p ∙ sym (length-of-written-from c ns)) (q ∙ fills) ∙ front-of-filled (writtenFrom c ns) old
+    ap (take n) q ∙ front-of-stored (writtenFrom c ns) old n (length-of-written-from c ns ∙ sym p) (rw p h)

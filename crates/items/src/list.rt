@@ -3,7 +3,7 @@
 use crate::Check;
 ghost use mathlib.Core.Path.{_≡_};
 ghost use lib.ListN.{set};
-ghost use lib.Seq.{sets};
+ghost use Rattle.lists.specs.Filled.{storedAt};
 ghost use Rattle.lists.specs.Place.{lowest};
 ghost use Rattle.refusal.specs.Answer.{verdictAnswer};
 ghost use Rattle.items.specs.Item.{isForeign, writtenBytes};
@@ -71,7 +71,7 @@ fn put(out: &mut [u16], at: usize, byte: u16)
 
 // Stores an item's bytes from `at` on.
 fn put_item(out: &mut [u16], at: usize, check: Check, n: u16)
-    ensures { λ _. ⌜ now (out .exit) ≡ sets (now (out .entry)) at (itemBytes check n) ⌝ }
+    ensures { λ _. ⌜ now (out .exit) ≡ storedAt (now (out .entry)) at (itemBytes check n) ⌝ }
 {
     if crate::is_check(n) {
         let high = check.high();
@@ -95,7 +95,7 @@ pub struct Stored {
 pub fn write_bytes(start: Check, items: &[u16], out: &mut [u16]) -> Stored
     ensures check { λ r. ⌜ r .check ≡ afterBytes start (writtenFrom start (now (items .entry))) ⌝ }
     ensures count { λ r. ⌜ r .count ≡ writtenBytes (now (items .entry)) ⌝ }
-    ensures output { λ _. ⌜ now (out .exit) ≡ sets (now (out .entry)) 0 (writtenFrom start (now (items .entry))) ⌝ }
+    ensures output { λ _. ⌜ now (out .exit) ≡ storedAt (now (out .entry)) 0 (writtenFrom start (now (items .entry))) ⌝ }
 {
     let table = crate::table::register_table();
     let mut check = start;

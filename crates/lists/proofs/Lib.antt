@@ -1,4 +1,3 @@
 pub mod PlaceLaws
-pub mod FilledLaws
 pub mod TableLaws
 pub mod StoreLaws

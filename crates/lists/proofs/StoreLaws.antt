@@ -1,11 +1,19 @@
 -- Runs of stores one after the other are one run of stores: by induction on the first. Rests on no axiom.
-use Prim.Native.Nat.{ℕ, suc, _+_, _≤_}
+use Prim.Native.Nat.{ℕ, zero, suc, _+_, _≤_, _<_}
 use mathlib.Core.Path.{_≡_, refl, sym, ap, _∙_}
+use mathlib.Core.Bool.{Bool, true, false}
 use mathlib.Core.List.{List, [], _∷_, _++_}
-use native.Mathlib.Nat.{add-zero, zero-add, add-suc, suc-add}
-use lib.ListN.{length, set, drop}
-use lib.Seq.{sets, sets-eq, length-sets, set-out}
-use Rattle.lists.specs.Filled.{filled, storedAt}
+use native.Mathlib.Nat.{add-zero, zero-add, add-suc, suc-add, le-of-lt}
+use native.Mathlib.Numerals.{add-one}
+use native.Mathlib.Omega.{arith}
+use lib.ListN.{length, set, take, drop, getD, replicate, length-replicate}
+use lib.Seq.{sets, sets-eq, length-sets, set-out, take-suc, drop-cons, length-take-le, take-append-seam}
+use Rattle.lists.specs.Filled.{filled, storedAt, ifGiven}
+
+-- a step has one number for the output at most
+pub one-given-at-most : (given : Bool) (n : ℕ) → length (ifGiven given n) ≤ 1
+one-given-at-most true n = omega arith
+one-given-at-most false n = omega arith
 
 module _ {A : Type 0} where
   pub stored-none : (l : List A) (i : ℕ) → storedAt l i [] ≡ l
@@ -17,9 +25,17 @@ module _ {A : Type 0} where
   stored-one l i a = refl
 
   -- where there is no room nothing changes
-  pub stored-outside : (l : List A) (i : ℕ) (a : A) → length l ≤ i → storedAt l i (a ∷ []) ≡ l
+  pub stored-past-end : (l : List A) (i : ℕ) (vs : List A) → length l ≤ i → storedAt l i vs ≡ l
   unfolding storedAt
-  stored-outside l i a h = set-out l i a h
+  stored-past-end l i [] h = refl
+  stored-past-end l i (v ∷ vs) h =
+      ap (λ (k : List A). sets k (suc i) vs) (set-out l i v h) ∙ stored-past-end l (suc i) vs (omega arith)
+
+  pub stored-length : (l : List A) (i : ℕ) (vs : List A) → length (storedAt l i vs) ≡ length l
+  unfolding storedAt
+  stored-length l i vs = length-sets l i vs
+
+  -- ---- one run after another
 
   pub stored-after-stored
       : (vs ws l : List A) (i j : ℕ) → j ≡ i + length vs → storedAt (storedAt l i vs) j ws ≡ storedAt l i (vs ++ ws)
@@ -28,11 +44,69 @@ module _ {A : Type 0} where
   stored-after-stored (v ∷ vs) ws l i j e =
       stored-after-stored vs ws (set l i v) (suc i) j (e ∙ add-suc i (length vs) ∙ sym (suc-add i (length vs)))
 
-  pub stored-length : (l : List A) (i : ℕ) (vs : List A) → length (storedAt l i vs) ≡ length l
-  unfolding storedAt
-  stored-length l i vs = length-sets l i vs
+  -- where the run before is known by what it left
+  pub stored-next
+      : (vs ws l m : List A) (i j : ℕ)
+      → m ≡ storedAt l i vs
+      → j ≡ i + length vs
+      → storedAt m j ws ≡ storedAt l i (vs ++ ws)
+  stored-next vs ws l m i j e h = ap (λ (k : List A). storedAt k j ws) e ∙ stored-after-stored vs ws l i j h
 
-  -- stored at the front, where there is room, a list fills it
+  -- one store after a run
+  pub stored-one-more
+      : (vs l : List A) (i j : ℕ) (a : A) → j ≡ i + length vs → set (storedAt l i vs) j a ≡ storedAt l i (vs ++ (a ∷ []))
+  stored-one-more vs l i j a e = sym (stored-one (storedAt l i vs) j a) ∙ stored-after-stored vs (a ∷ []) l i j e
+
+  -- one store of a list, and then the rest of it
+  pub stored-rest
+      : (l s : List A) (at i : ℕ) (d : A)
+      → i < length s
+      → storedAt (set l (at + i) (getD s i d)) (at + suc i) (drop (suc i) s) ≡ storedAt l (at + i) (drop i s)
+  unfolding storedAt
+  stored-rest l s at i d h = rw (add-suc at i, drop-cons s i d h)
+
+  replicate-one-more : (n : ℕ) (a : A) → replicate n a ++ (a ∷ []) ≡ replicate (n + 1) a
+  replicate-one-more zero a = refl
+  replicate-one-more (suc n) a =
+      ap (λ (r : List A). a ∷ r) (replicate-one-more n a)
+      ∙ ap (λ (k : ℕ). a ∷ replicate k a) (add-one n)
+      ∙ ap (λ (k : ℕ). replicate k a) (sym (add-one (suc n)))
+
+  pub stored-repeats
+      : (n : ℕ) (a : A) (i : ℕ) (l : List A)
+      → set (storedAt l i (replicate n a)) (i + n) a ≡ storedAt l i (replicate (n + 1) a)
+  stored-repeats n a i l =
+      stored-one-more (replicate n a) l i (i + n) a (rw length-replicate)
+      ∙ ap (λ (r : List A). storedAt l i r) (replicate-one-more n a)
+
+  pub stored-copies
+      : (n i : ℕ) (s l : List A) (d : A)
+      → n < length s
+      → set (storedAt l i (take n s)) (i + n) (getD s n d) ≡ storedAt l i (take (n + 1) s)
+  stored-copies n i s l d h =
+      stored-one-more (take n s) l i (i + n) (getD s n d) (rw (length-take-le n s (le-of-lt h)))
+      ∙ ap (λ (r : List A). storedAt l i r) (sym (take-suc s n d h) ∙ ap (λ (k : ℕ). take k s) (sym (add-one n)))
+
+  -- ---- at the front
+
+  -- where there is room, a list fills it
   pub stored-at-front-fills : (vs l : List A) → length vs ≤ length l → storedAt l 0 vs ≡ filled vs l
   unfolding filled storedAt
   stored-at-front-fills vs l h = sets-eq vs l 0 (rw zero-add h) ∙ ap (λ (k : ℕ). vs ++ drop k l) (zero-add (length vs))
+
+  -- and is read back from it
+  pub front-of-filled : (vs l : List A) → take (length vs) (filled vs l) ≡ vs
+  unfolding filled
+  front-of-filled vs l = take-append-seam vs (drop (length vs) l)
+
+  pub front-of-stored : (vs l : List A) (n : ℕ) → length vs ≡ n → n ≤ length l → take n (storedAt l 0 vs) ≡ vs
+  front-of-stored vs l n e h =
+      ap (λ (k : ℕ). take k (storedAt l 0 vs)) (sym e)
+      ∙ ap (take (length vs)) (stored-at-front-fills vs l (rw e h))
+      ∙ front-of-filled vs l
+
+  -- what was cut off at the end stays cut off, whatever comes after
+  pub cut-of-cut : (k : ℕ) (a b : List A) → take k (take k a ++ b) ≡ take k (a ++ b)
+  cut-of-cut zero a b = refl
+  cut-of-cut (suc k) [] b = refl
+  cut-of-cut (suc k) (x ∷ a) b = ap (λ (l : List A). x ∷ l) (cut-of-cut k a b)

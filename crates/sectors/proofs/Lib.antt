@@ -1,3 +1,2 @@
-pub mod StoreLaws
 pub mod SectorLaws
 pub mod SectorCounts

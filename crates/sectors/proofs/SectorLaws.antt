@@ -10,8 +10,7 @@ use lib.ListN.{length, set, replicate, length-append}
 use Rattle.refusal.specs.Answer.{Answer, accepted, refused}
 use Rattle.lists.specs.Filled.{storedAt}
 use Rattle.sectors.specs.Sector.{sectorSize, opening, identity, sectorItems, isMisfit, sectorRule, sectorOutput}
-use Rattle.lists.proofs.StoreLaws.{stored-at-front-fills}
-use Rattle.sectors.proofs.StoreLaws.{stored-next, stored-one-more}
+use Rattle.lists.proofs.StoreLaws.{stored-next, stored-one-more, stored-at-front-fills}
 
 module _ (track side sector code : ℕ) (bytes : List ℕ) where
   -- 114 items beside the data

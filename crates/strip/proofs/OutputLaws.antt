@@ -1,9 +1,9 @@
 -- The printed text: how long its lines can get, and its cells one at a time. Rests on no axiom.
 use Prim.Native.Nat.{ℕ, suc, _+_, _*_, _^_, _≤_, _<_}
-use mathlib.Core.Path.{_≡_, sym, _∙_, ap}
+use mathlib.Core.Path.{_≡_, sym, _∙_, ap, ap₂}
 use mathlib.Core.List.{List, [], _∷_, _++_}
 use native.Mathlib.Omega.{arith}
-use lib.ListN.{length, drop, getD, length-append}
+use lib.ListN.{length, drop, getD, length-append, drop-of-length-le}
 use lib.Seq.{drop-cons, length-take-le}
 use Rattle.lists.specs.Filled.{filled, storedAt}
 use Rattle.lists.proofs.StoreLaws.{stored-after-stored, stored-at-front-fills}
@@ -13,11 +13,13 @@ use Rattle.text.specs.Decimal.{decimal}
 use Rattle.text.specs.Line.{lineOf}
 use Rattle.text.proofs.PrintLaws.{decimal-within}
 use Rattle.text.proofs.LineLaws.{fields-length-of-none, fields-length-of-more, line-length}
-use Rattle.timing.specs.Class.{classOf, classNumber}
+use Rattle.timing.specs.Class.{atStart, classIn, cursorPast, classesFrom, classesOf, classNumber}
 use Rattle.timing.specs.declared.Class.{Class}
 use Rattle.timing.specs.declared.Class.the-variants.{Narrow, Two, Three, Four, Wide}
 use Rattle.timing.specs.declared.Profile.{Profile}
-use Rattle.strip.specs.Output.{refusalText, cellText, cellsText, reportText}
+use Rattle.timing.specs.declared.cursor.Cursor.{Cursor}
+use Rattle.timing.proofs.ClassLaws.{classes-none, classes-here, classes-from-start}
+use Rattle.strip.specs.Output.{refusalText, cellText, cellsText, streamText, reportText}
 use Rattle.strip.specs.Printed.{Front, Printed, outputLength}
 
 -- a text that was stored at the front of an output that has room for it
@@ -82,51 +84,70 @@ class-is-a-digit Three = omega arith
 class-is-a-digit Four = omega arith
 class-is-a-digit Wide = omega arith
 
-cell-length : (p : Profile) (place d : ℕ) → place < 10000 → d < 65536 → length (cellText p place d) ≤ 18
+cell-length : (place : ℕ) (c : Class) (d : ℕ) → place < 10000 → d < 65536 → length (cellText place c d) ≤ 18
 unfolding cellText
-cell-length p place d h k =
+cell-length place c d h k =
     omega (
       arith,
-      line-of-three (ascii "cell") place (classNumber (classOf p d)) d,
+      line-of-three (ascii "cell") place (classNumber c) d,
       decimal-within 3 place h,
-      decimal-within 0 (classNumber (classOf p d)) (class-is-a-digit (classOf p d)),
+      decimal-within 0 (classNumber c) (class-is-a-digit c),
       decimal-within 4 d (omega arith),
     )
 
 -- 18 bytes for each cell
-pub cells-length : (p : Profile) (k : ℕ) (ds : List ℕ)
+cells-length : (k : ℕ) (cs : List Class) (ds : List ℕ)
     → k + length ds ≤ 10000
     → ((i : ℕ) → getD ds i 0 < 65536)
-    → length (cellsText p k ds) ≤ 18 * length ds
+    → length (cellsText k cs ds) ≤ 18 * length ds
 unfolding cellsText
-cells-length p k [] h fits = omega arith
-cells-length p k (d ∷ ds) h fits =
+cells-length k [] ds h fits = omega arith
+cells-length k (c ∷ cs) [] h fits = omega arith
+cells-length k (c ∷ cs) (d ∷ ds) h fits =
     omega (
       arith,
-      length-append (cellText p k d) (cellsText p (suc k) ds),
-      cell-length p k d (omega arith) (fits 0),
-      cells-length p (suc k) ds (omega arith) (λ i. fits (suc i)),
+      length-append (cellText k c d) (cellsText (suc k) cs ds),
+      cell-length k c d (omega arith) (fits 0),
+      cells-length (suc k) cs ds (omega arith) (λ i. fits (suc i)),
     )
 
--- one cell, and those after it
-module _ (p : Profile) (stream : List ℕ) (k : ℕ) (h : k < length stream) where
-  cells-next :
-      cellsText p k (drop k stream) ≡ cellText p k (getD stream k 0) ++ cellsText p (suc k) (drop (suc k) stream)
-  unfolding cellsText
-  cells-next = rw (drop-cons stream k 0 h)
+-- the cells that are left of a stream, from where its classing stands on
+abbrev pub cellsLeft : Cursor → ℕ → List ℕ → List ℕ
+cellsLeft c k stream = cellsText k (classesFrom c (drop k stream)) (drop k stream)
 
-  pub cells-length-next :
-      length (cellsText p k (drop k stream))
-      ≡ length (cellText p k (getD stream k 0)) + length (cellsText p (suc k) (drop (suc k) stream))
-  cells-length-next =
-      ap length cells-next ∙ length-append (cellText p k (getD stream k 0)) (cellsText p (suc k) (drop (suc k) stream))
+pub cells-of-stream : (p : Profile) (c : Cursor) (stream : List ℕ)
+    → c ≡ atStart p
+    → cellsLeft c 0 stream ≡ streamText p stream
+unfolding streamText
+cells-of-stream p c stream e =
+    ap (λ (cs : List Class). cellsText 0 cs stream)
+    (ap (λ (start : Cursor). classesFrom start stream) e ∙ sym (classes-from-start p stream))
+
+pub no-cells-left : (c : Cursor) (stream : List ℕ) (k : ℕ) → length stream ≤ k → cellsLeft c k stream ≡ []
+unfolding cellsText
+no-cells-left c stream k h = rw (drop-of-length-le stream {i = k} h, classes-none)
+
+-- the next of them, and those after it
+abbrev pub cellHere : Cursor → ℕ → List ℕ → List ℕ
+cellHere c k stream = cellText k (classIn c (getD stream k 0)) (getD stream k 0)
+
+abbrev pub cellsAfter : Cursor → ℕ → List ℕ → List ℕ
+cellsAfter c k stream = cellsLeft (cursorPast c (getD stream k 0)) (suc k) stream
+
+module _ (c : Cursor) (stream : List ℕ) (k : ℕ) (h : k < length stream) where
+  cells-next : cellsLeft c k stream ≡ cellHere c k stream ++ cellsAfter c k stream
+  unfolding cellsText
+  cells-next = ap₂ (cellsText k) (classes-here c stream k h) (drop-cons stream k 0 h)
+
+  pub cells-length-next : length (cellsLeft c k stream) ≡ length (cellHere c k stream) + length (cellsAfter c k stream)
+  cells-length-next = ap length cells-next ∙ length-append (cellHere c k stream) (cellsAfter c k stream)
 
   pub cells-stored-next : (out : List ℕ) (end next : ℕ)
-      → next ≡ end + length (cellText p k (getD stream k 0))
-      → storedAt (storedAt out end (cellText p k (getD stream k 0))) next (cellsText p (suc k) (drop (suc k) stream))
-      ≡ storedAt out end (cellsText p k (drop k stream))
+      → next ≡ end + length (cellHere c k stream)
+      → storedAt (storedAt out end (cellHere c k stream)) next (cellsAfter c k stream)
+      ≡ storedAt out end (cellsLeft c k stream)
   cells-stored-next out end next e =
-      stored-after-stored (cellText p k (getD stream k 0)) (cellsText p (suc k) (drop (suc k) stream)) out end next e
+      stored-after-stored (cellHere c k stream) (cellsAfter c k stream) out end next e
       ∙ ap (storedAt out end) (sym cells-next)
 
 -- the report is its three parts, and fits
@@ -135,15 +156,16 @@ module _ (p : Profile) (margin : ℕ) (stream : List ℕ) where
       → length stream ≤ 4098
       → ((i : ℕ) → getD stream i 0 < 65536)
       → length (lineOf (ascii "margin") (margin ∷ []))
-      + length (cellsText p 0 stream)
+      + length (streamText p stream)
       + length (lineOf (ascii "end") (length stream ∷ []))
       ≤ outputLength
+  unfolding streamText
   report-fits h few fits =
       omega (
         arith,
         line-of-one (ascii "margin") margin,
         decimal-within 19 margin (omega arith),
-        cells-length p 0 stream (omega arith) fits,
+        cells-length 0 (classesOf p stream) stream (omega arith) fits,
         line-of-one (ascii "end") (length stream),
         decimal-within 3 (length stream) (omega arith),
       )
@@ -151,27 +173,27 @@ module _ (p : Profile) (margin : ℕ) (stream : List ℕ) where
   pub report-length :
       length (reportText p margin stream)
       ≡ length (lineOf (ascii "margin") (margin ∷ []))
-      + length (cellsText p 0 stream)
+      + length (streamText p stream)
       + length (lineOf (ascii "end") (length stream ∷ []))
   unfolding reportText
   report-length =
-      length-append (lineOf (ascii "margin") (margin ∷ []) ++ cellsText p 0 stream)
+      length-append (lineOf (ascii "margin") (margin ∷ []) ++ streamText p stream)
       (lineOf (ascii "end") (length stream ∷ []))
       ∙ ap (λ (n : ℕ). n + length (lineOf (ascii "end") (length stream ∷ [])))
-      (length-append (lineOf (ascii "margin") (margin ∷ [])) (cellsText p 0 stream))
+      (length-append (lineOf (ascii "margin") (margin ∷ [])) (streamText p stream))
 
   pub report-stored : (out : List ℕ) (cells end : ℕ)
       → cells ≡ 0 + length (lineOf (ascii "margin") (margin ∷ []))
-      → end ≡ cells + length (cellsText p 0 stream)
+      → end ≡ cells + length (streamText p stream)
       → storedAt
-      (storedAt (storedAt out 0 (lineOf (ascii "margin") (margin ∷ []))) cells (cellsText p 0 stream))
+      (storedAt (storedAt out 0 (lineOf (ascii "margin") (margin ∷ []))) cells (streamText p stream))
       end
       (lineOf (ascii "end") (length stream ∷ []))
       ≡ storedAt out 0 (reportText p margin stream)
   unfolding reportText
   report-stored out cells end e k =
       ap (λ (l : List ℕ). storedAt l end (lineOf (ascii "end") (length stream ∷ [])))
-      (stored-after-stored (lineOf (ascii "margin") (margin ∷ [])) (cellsText p 0 stream) out 0 cells e)
-      ∙ stored-after-stored (lineOf (ascii "margin") (margin ∷ []) ++ cellsText p 0 stream)
+      (stored-after-stored (lineOf (ascii "margin") (margin ∷ [])) (streamText p stream) out 0 cells e)
+      ∙ stored-after-stored (lineOf (ascii "margin") (margin ∷ []) ++ streamText p stream)
       (lineOf (ascii "end") (length stream ∷ [])) out 0 end
-      (omega (arith, length-append (lineOf (ascii "margin") (margin ∷ [])) (cellsText p 0 stream)))
+      (omega (arith, length-append (lineOf (ascii "margin") (margin ∷ [])) (streamText p stream)))

@@ -10,7 +10,7 @@ use lib.ListN.{length, take, length-take}
 use lib.Seq.{take-all}
 use borrow.Author.Tests.{lt-ltb, le-ltb, eq-eqb, ltb-true, ltb-false}
 use Rattle.lists.specs.Filled.{filled}
-use Rattle.lists.proofs.FilledLaws.{front-of-filled}
+use Rattle.lists.proofs.StoreLaws.{front-of-filled}
 use Rattle.refusal.specs.Answer.{Answer, accepted, refused, firstRefusal}
 use Rattle.refusal.specs.Table.{numberOf, placeOf}
 use Rattle.refusal.specs.declared.Refusal.{Refusal}

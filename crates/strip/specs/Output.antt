@@ -5,23 +5,29 @@ use lib.ListN.{length}
 use Rattle.refusal.specs.Answer.{Answer}
 use Rattle.text.specs.Ascii.{ascii}
 use Rattle.text.specs.Line.{lineOf}
-use Rattle.timing.specs.Class.{classOf, classNumber}
+use Rattle.timing.specs.Class.{classesOf, classNumber}
 use Rattle.timing.specs.declared.Profile.{Profile}
+use Rattle.timing.specs.declared.Class.{Class}
 
 -- `refused`, number, place
 unfoldable pub refusalText : Answer → List ℕ
 refusalText answer = lineOf (ascii "refused") (answer .number ∷ answer .place ∷ [])
 
 -- per cell its place, class and length
-unfoldable pub cellText : Profile → ℕ → ℕ → List ℕ
-cellText p place d = lineOf (ascii "cell") (place ∷ classNumber (classOf p d) ∷ d ∷ [])
+unfoldable pub cellText : ℕ → Class → ℕ → List ℕ
+cellText place c d = lineOf (ascii "cell") (place ∷ classNumber c ∷ d ∷ [])
 
--- the cells of a stream in order, the first having place k
-unfoldable pub cellsText : Profile → ℕ → List ℕ → List ℕ
-cellsText p k [] = []
-cellsText p k (d ∷ ds) = cellText p k d ++ cellsText p (suc k) ds
+-- cells in order, by their classes and their lengths, the first having place k
+unfoldable pub cellsText : ℕ → List Class → List ℕ → List ℕ
+cellsText k [] ds = []
+cellsText k (c ∷ cs) [] = []
+cellsText k (c ∷ cs) (d ∷ ds) = cellText k c d ++ cellsText (suc k) cs ds
+
+-- the cells of a stream
+unfoldable pub streamText : Profile → List ℕ → List ℕ
+streamText p stream = cellsText 0 (classesOf p stream) stream
 
 -- the margin; the cells; the number of cells
 unfoldable pub reportText : Profile → ℕ → List ℕ → List ℕ
 reportText p margin stream =
-    lineOf (ascii "margin") (margin ∷ []) ++ cellsText p 0 stream ++ lineOf (ascii "end") (length stream ∷ [])
+    lineOf (ascii "margin") (margin ∷ []) ++ streamText p stream ++ lineOf (ascii "end") (length stream ∷ [])

@@ -1,5 +1,7 @@
 // What the program prints: `refused`, or `margin`, `cell` and `end`.
 use refusal::Refusal;
+use timing::Class;
+use timing::Cursor;
 use timing::Profile;
 ghost use Prim.Native.Nat.{_+_, _≤_};
 ghost use mathlib.Core.Path.{_≡_};
@@ -7,7 +9,7 @@ ghost use lib.ListN.{length};
 ghost use Rattle.lists.specs.Filled.{storedAt};
 ghost use Rattle.refusal.specs.Answer.{refused};
 ghost use Rattle.refusal.specs.Table.{numberOf, placeOf};
-ghost use Rattle.strip.specs.Output.{refusalText, cellText, cellsText, reportText};
+ghost use Rattle.strip.specs.Output.{refusalText, cellText, streamText, reportText};
 ghost use Rattle.strip.specs.Printed.{Printed, outputLength};
 
 // A refusal: its number and its place.
@@ -21,26 +23,31 @@ pub fn refuse(refusal: Refusal, out: &mut [u8]) -> usize
 }
 
 // A cell: its place, class and length.
-fn append_cell(profile: Profile, place: usize, interval: u16, out: &mut [u8], at: usize) -> usize
-    requires { ⌜ at + length (cellText profile place interval) ≤ length (now out) ⌝ }
-    ensures { λ r. ⌜ r ≡ at + length (cellText profile place interval) ⌝ }
-    ensures { λ _. ⌜ now (out .exit) ≡ storedAt (now (out .entry)) at (cellText profile place interval) ⌝ }
+fn append_cell(place: usize, class: Class, interval: u16, out: &mut [u8], at: usize) -> usize
+    requires { ⌜ at + length (cellText place class interval) ≤ length (now out) ⌝ }
+    ensures { λ r. ⌜ r ≡ at + length (cellText place class interval) ⌝ }
+    ensures { λ _. ⌜ now (out .exit) ≡ storedAt (now (out .entry)) at (cellText place class interval) ⌝ }
 {
-    let class = timing::classify(profile, interval).number();
-    let numbers = [place, class, interval as usize];
+    let number = class.number();
+    let numbers = [place, number, interval as usize];
     text::append_line(out, at, b"cell", &numbers)
 }
 
 // The cells of a stream, in order.
 fn append_cells(profile: Profile, stream: &[u16], out: &mut [u8], at: usize) -> usize
-    requires { ⌜ at + length (cellsText profile 0 (now stream)) ≤ length (now out) ⌝ }
-    ensures { λ r. ⌜ r ≡ at + length (cellsText profile 0 (now (stream .entry))) ⌝ }
-    ensures { λ _. ⌜ now (out .exit) ≡ storedAt (now (out .entry)) at (cellsText profile 0 (now (stream .entry))) ⌝ }
+    requires { ⌜ at + length (streamText profile (now stream)) ≤ length (now out) ⌝ }
+    ensures { λ r. ⌜ r ≡ at + length (streamText profile (now (stream .entry))) ⌝ }
+    ensures { λ _. ⌜ now (out .exit) ≡ storedAt (now (out .entry)) at (streamText profile (now (stream .entry))) ⌝ }
 {
+    let mut cursor = Cursor::start(profile);
     let mut end = at;
     let mut place = 0;
     while place < stream.len() {
-        end = append_cell(profile, place, stream[place], out, end);
+        let interval = stream[place];
+        let classed = cursor.step(interval);
+        let class = classed.class;
+        end = append_cell(place, class, interval, out, end);
+        cursor = classed.next;
         place += 1;
     }
     end

@@ -1,24 +1,14 @@
--- Text that is stored at a place of a buffer, and the digits of a number: the last digit stands after those of the
--- number without it. Rests on no axiom.
+-- The digits of a number: the last digit stands after those of the number without it. Rests on no axiom.
 use Prim.Native.Nat.{ℕ, zero, suc, _+_, _/_, _%_, _^_, _≤_, _<_}
 use mathlib.Core.Path.{_≡_, refl, _∙_, ap}
 use mathlib.Core.Bool.{Bool, true, false, cond}
 use mathlib.Core.List.{List, [], _∷_, _++_}
-use native.Mathlib.Nat.{add-suc, pow-suc}
+use native.Mathlib.Nat.{pow-suc}
 use native.Mathlib.Omega.{arith}
 use lib.Dec.{ltb}
-use lib.ListN.{length, drop, getD, set, length-append}
-use lib.Seq.{drop-cons}
+use lib.ListN.{length, length-append}
 use borrow.Author.Tests.{lt-ltb, le-ltb, ltb-true, ltb-false}
-use Rattle.lists.specs.Filled.{storedAt}
 use Rattle.text.specs.Decimal.{digit, digitsOf, decimal}
-
--- one byte more of a text is stored
-pub stored-next : (out text : List ℕ) (at i : ℕ)
-    → i < length text
-    → storedAt (set out (at + i) (getD text i 0)) (at + suc i) (drop (suc i) text) ≡ storedAt out (at + i) (drop i text)
-unfolding storedAt
-stored-next out text at i h = rw (add-suc at i, drop-cons text i 0 h)
 
 -- how many digits a number has at most does not matter
 digits-within : (m k n : ℕ) → n ≤ m → n ≤ k → digitsOf m n ≡ digitsOf k n

@@ -155,7 +155,3 @@ pub class-at
 class-at p [] k h = absurd (omega arith)
 class-at p (d ∷ ds) zero h = rw classes-of-cons
 class-at p (d ∷ ds) (suc k) h = rw classes-of-cons (class-at p ds k (omega arith))
-
-pub classes-of-append : (p : Profile) (ds es : List ℕ) → classesOf p (ds ++ es) ≡ classesOf p ds ++ classesOf p es
-unfolding classesOf
-classes-of-append p ds es = classes-append (atStart p) ds es ∙ rw (cursor-stays (atStart p) ds)

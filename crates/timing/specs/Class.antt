@@ -1,11 +1,11 @@
 -- Document 01, "Profile": the class of an interval, and of each interval of a list. No lemmas here. A list is classed
 -- from its first interval on, by a cursor that holds what the class of the next interval depends on.
 -- An interval that equals an edge belongs above it (house rule for ties).
-use Prim.Native.Nat.{ℕ, suc}
+use Prim.Native.Nat.{ℕ}
 use mathlib.Core.Bool.{cond}
 use mathlib.Core.List.{List, [], _∷_}
 use lib.Dec.{ltb}
-use Rattle.refusal.specs.Answer.{Answer, accepted, refused, firstRefusal}
+use Rattle.refusal.specs.Answer.{Answer, accepted, firstRefusal}
 use Rattle.timing.specs.Profile.{profileRule}
 use Rattle.timing.specs.declared.Profile.{Profile}
 use Rattle.timing.specs.declared.Class.{Class}
@@ -63,15 +63,3 @@ classNumber Wide = 5
 -- the class operation: 1, 2, then the class
 unfoldable pub classRule : Profile → ℕ → Answer
 classRule p d = firstRefusal (profileRule p) (accepted (classNumber (classOf p d)))
-
--- 5, narrow, or 6, wide: the first interval of a stream that is either, the first interval of all having place k
-unfoldable pub edgeRuleFrom : ℕ → List Class → Answer
-edgeRuleFrom k [] = accepted 0
-edgeRuleFrom k (Narrow ∷ cs) = refused 5 k
-edgeRuleFrom k (Wide ∷ cs) = refused 6 k
-edgeRuleFrom k (Two ∷ cs) = edgeRuleFrom (suc k) cs
-edgeRuleFrom k (Three ∷ cs) = edgeRuleFrom (suc k) cs
-edgeRuleFrom k (Four ∷ cs) = edgeRuleFrom (suc k) cs
-
-unfoldable pub edgeRule : List Class → Answer
-edgeRule cs = edgeRuleFrom 0 cs

@@ -2,7 +2,7 @@
 use mathlib.Core.Path.{refl, sym}
 use native.Mathlib.Nat.{add-zero}
 use borrow.Author.Needs.{needs}
-use Rattle.lists.proofs.StoreLaws.{stored-none, stored-one, stored-outside}
+use Rattle.lists.proofs.StoreLaws.{stored-none, stored-one, stored-past-end}
 use Rattle.lists.proofs.put.Statement.{statement}
 use Rattle.lists.proofs.put.Tie as tie
 
@@ -25,7 +25,7 @@ add-result-2 : tie.Need-add-result-2
 add-result-2 c = search needs
 
 returns-2 : tie.Need-returns-2
-returns-2 c = rw (c .before .if1 .taken) (refl, sym (stored-outside _ _ _ (c .if2 .left)))
+returns-2 c = rw (c .before .if1 .taken) (refl, sym (stored-past-end _ _ _ (c .if2 .left)))
 
 returns-3 : tie.Need-returns-3
 returns-3 c = rw (c .if1 .left) (sym (add-zero _), sym (stored-none _ _))

@@ -7,8 +7,7 @@ use native.Mathlib.Omega.{arith}
 use lib.ListN.{length, set, take, length-set}
 use lib.Seq.{take-length}
 use Rattle.lists.specs.Filled.{storedAt}
-use Rattle.lists.proofs.StoreLaws.{stored-none}
-use Rattle.sectors.proofs.StoreLaws.{stored-copies, stored-one-more}
+use Rattle.lists.proofs.StoreLaws.{stored-none, stored-copies, stored-one-more}
 use Rattle.sectors.proofs.put_data.Statement.{statement}
 use Rattle.sectors.proofs.put_data.Tie as tie
 
@@ -47,7 +46,7 @@ loop-again : tie.Need-loop-again Inv-loop μ-loop
 loop-again c =
     let args = c .before .before .before .args in (
       omega arith,
-      cc (stored-copies (c .before .before .loop .k) (args .at) (args .bytes .now) (args .out .now) (omega arith)),
+      cc (stored-copies (c .before .before .loop .k) (args .at) (args .bytes .now) (args .out .now) 0 (omega arith)),
       simp length-set (c .before .before .loop .inv .2),
     )
 

@@ -4,8 +4,7 @@ use mathlib.Core.Path.{_≡_, refl, sym}
 use native.Mathlib.Omega.{arith}
 use lib.ListN.{length, replicate, length-set}
 use Rattle.lists.specs.Filled.{storedAt}
-use Rattle.lists.proofs.StoreLaws.{stored-none}
-use Rattle.sectors.proofs.StoreLaws.{stored-repeats}
+use Rattle.lists.proofs.StoreLaws.{stored-none, stored-repeats}
 use Rattle.sectors.proofs.repeat.Statement.{statement}
 use Rattle.sectors.proofs.repeat.Tie as tie
 

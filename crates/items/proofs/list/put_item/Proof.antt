@@ -7,8 +7,8 @@ use native.Mathlib.Numerals.{add-one}
 use borrow.Author.Needs.{needs}
 use denote.Ref.{now}
 use lib.ListN.{set}
-use lib.Seq.{sets}
-use Rattle.lists.proofs.FilledLaws.{sets-past-end}
+use Rattle.lists.specs.Filled.{storedAt}
+use Rattle.lists.proofs.StoreLaws.{stored-past-end}
 use Rattle.items.specs.Item.{isCheck}
 use Rattle.items.specs.Register.{highByte, lowByte}
 use Rattle.items.specs.Written.{itemBytes}
@@ -20,10 +20,12 @@ use Rattle.items.proofs.list.put_item.Tie as tie
 module _ (old : List ℕ) (at : ℕ) (check : Check) (n : ℕ) where
   two-stores-are-check-bytes : (one two : List ℕ) (high low : ℕ) → isCheck n ≡ true
       → high ≡ highByte (check .register) → low ≡ lowByte (check .register)
-      → one ≡ set old at high → two ≡ set one (at + 1) low → two ≡ sets old at (itemBytes check n)
+      → one ≡ set old at high → two ≡ set one (at + 1) low → two ≡ storedAt old at (itemBytes check n)
+  unfolding storedAt
   two-stores-are-check-bytes one two high low e h l p q = rw (item-bytes-of-check check n e) (cc (add-one at))
 
-  one-store-is-byte : (one : List ℕ) → isCheck n ≡ false → one ≡ set old at n → one ≡ sets old at (itemBytes check n)
+  one-store-is-byte : (one : List ℕ) → isCheck n ≡ false → one ≡ set old at n → one ≡ storedAt old at (itemBytes check n)
+  unfolding storedAt
   one-store-is-byte one e p = rw (item-bytes-of-byte check n e) p
 
 is-check-requires : tie.Need-is-check-requires
@@ -66,7 +68,7 @@ returns c =
 returns-2 : tie.Need-returns-2
 returns-2 c =
     let given = c .before .before .before .before .before .before .args in
-    sym (sets-past-end (now (given .out)) (given .at) (itemBytes (given .check) (given .n)) (c .if2 .left))
+    sym (stored-past-end (now (given .out)) (given .at) (itemBytes (given .check) (given .n)) (c .if2 .left))
 
 same-length-2 : tie.Need-same-length-2
 same-length-2 c = search needs

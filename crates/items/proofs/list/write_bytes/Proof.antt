@@ -8,8 +8,8 @@ use borrow.Author.Count.{falls}
 use borrow.Author.Needs.{needs}
 use denote.Ref.{now}
 use lib.ListN.{length, getD, drop}
-use lib.Seq.{sets, length-sets}
-use Rattle.lists.proofs.FilledLaws.{sets-of-append}
+use Rattle.lists.specs.Filled.{storedAt}
+use Rattle.lists.proofs.StoreLaws.{stored-none, stored-after-stored, stored-length}
 use Rattle.items.specs.Item.{bytesOf, writtenBytes}
 use Rattle.items.specs.Written.{itemBytes, afterBytes, afterItem, writtenFrom}
 use Rattle.items.specs.declared.Check.{Check}
@@ -23,13 +23,13 @@ use Rattle.items.proofs.list.write_bytes.Tie as tie
 stored-then-rest :
     (out next : List ℕ) (at size : ℕ) (items : List ℕ) (k : ℕ) (check after : Check) → k < length items
     → size ≡ bytesOf (getD items k 0)
-    → next ≡ sets out at (itemBytes check (getD items k 0))
+    → next ≡ storedAt out at (itemBytes check (getD items k 0))
     → after ≡ afterItem check (getD items k 0)
-    → sets next (at + size) (writtenFrom after (drop (k + 1) items)) ≡ sets out at (writtenFrom check (drop k items))
+    → storedAt next (at + size) (writtenFrom after (drop (k + 1) items)) ≡ storedAt out at (writtenFrom check (drop k items))
 stored-then-rest out next at size items k check after h p q r =
     let bytes : List ℕ = itemBytes check (getD items k 0) in
     let length-is-size : length bytes ≡ size = length-of-item-bytes check (getD items k 0) ∙ sym p in
-    rw (q, r, ← length-is-size, written-from-place check items k h) (sym (sets-of-append out at bytes _))
+    rw (q, r, ← length-is-size, written-from-place check items k h) (stored-after-stored bytes _ out at _ refl)
 
 -- the register after an item's bytes, and then after those of the rest
 passed-then-rest :
@@ -48,7 +48,7 @@ after-no-bytes check = refl
 abbrev Inv-loop : tie.InvT-loop
 Inv-loop items out₀ table check₀ at₀ k₀ out check at k =
     (k ≤ length items) × (at + writtenBytes (drop k items) ≡ writtenBytes items)
-    × (sets out at (writtenFrom check (drop k items)) ≡ sets out₀ 0 (writtenFrom check₀ items))
+    × (storedAt out at (writtenFrom check (drop k items)) ≡ storedAt out₀ 0 (writtenFrom check₀ items))
     × (afterBytes check (writtenFrom check (drop k items)) ≡ afterBytes check₀ (writtenFrom check₀ items))
 
 abbrev μ-loop : tie.MeasureT-loop
@@ -124,9 +124,9 @@ same-length : tie.Need-same-length Inv-loop μ-loop
 same-length c =
     let head = c .before .loop in
     let given = entry-of (c .before) .args in
-    sym (length-sets (head .out) (head .at) (writtenFrom (head .check) (drop (head .k) (now (given .items)))))
+    sym (stored-length (head .out) (head .at) (writtenFrom (head .check) (drop (head .k) (now (given .items)))))
     ∙ ap length (head .inv .2)
-    ∙ length-sets (now (given .out)) 0 (writtenFrom (given .start) (now (given .items)))
+    ∙ stored-length (now (given .out)) 0 (writtenFrom (given .start) (now (given .items)))
 
 returns : tie.Need-returns Inv-loop μ-loop
 returns c =
@@ -139,7 +139,7 @@ returns c =
       sym (ap (afterBytes (head .check)) none ∙ after-no-bytes (head .check)) ∙ head .inv .3,
       (
         omega (arith, written-bytes-from-end items (head .k) end),
-        ap (sets (head .out) (head .at)) (sym none) ∙ head .inv .2,
+        sym (stored-none (head .out) (head .at)) ∙ ap (storedAt (head .out) (head .at)) (sym none) ∙ head .inv .2,
       ),
     )
 

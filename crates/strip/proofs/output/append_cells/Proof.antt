@@ -1,53 +1,85 @@
 -- Why `strip::append_cells` stores the lines of all cells: what is left of them goes to the place reached. Rests on
 -- no axiom.
-use Prim.Native.Nat.{ℕ, suc, _+_, _-_, _≤_}
+use Prim.Native.Nat.{_+_, _-_, _≤_}
 use mathlib.Core.Path.{_≡_, refl, sym, _∙_, ap}
-use mathlib.Core.List.{List}
 use native.Mathlib.Numerals.{add-one}
 use native.Mathlib.Omega.{arith}
 use borrow.Author.Needs.{needs}
-use lib.ListN.{length, drop, getD, drop-of-length-le}
+use lib.ListN.{length, getD}
 use Rattle.lists.specs.Filled.{storedAt}
 use Rattle.lists.proofs.StoreLaws.{stored-none}
-use Rattle.strip.specs.Output.{cellText, cellsText}
+use Rattle.timing.specs.declared.cursor.Classed.{Classed}
+use Rattle.strip.specs.Output.{cellText, streamText}
+use Rattle.strip.proofs.OutputLaws.{cellsLeft, cellHere, cellsAfter, cells-of-stream, no-cells-left}
 use Rattle.strip.proofs.OutputLaws.{cells-length-next, cells-stored-next}
 use Rattle.strip.proofs.output.append_cells.Statement.{statement}
 use Rattle.strip.proofs.output.append_cells.Tie as tie
 
 abbrev Inv-loop : tie.InvT-loop
-Inv-loop profile stream out₀ at end₀ place₀ out end place =
+Inv-loop stream out₀ at cursor₀ end₀ place₀ out cursor end place =
     (place ≤ length stream)
     × (length out ≡ length out₀)
-    × (end + length (cellsText profile place (drop place stream)) ≡ at + length (cellsText profile 0 stream))
-    × (storedAt out end (cellsText profile place (drop place stream)) ≡ storedAt out₀ at (cellsText profile 0 stream))
+    × (end + length (cellsLeft cursor place stream) ≡ at + length (cellsLeft cursor₀ 0 stream))
+    × (storedAt out end (cellsLeft cursor place stream) ≡ storedAt out₀ at (cellsLeft cursor₀ 0 stream))
 
 abbrev μ-loop : tie.MeasureT-loop
-μ-loop profile stream out₀ at end₀ place₀ out end place = length stream - place
+μ-loop stream out₀ at cursor₀ end₀ place₀ out cursor end place = length stream - place
 
--- the length of the next cell's line
-next : (c : tie.In-loop Inv-loop μ-loop)
-    → let args = c .before .before .before .before .args in
-    let place = c .before .loop .place in
-    length (cellsText (args .profile) place (drop place (args .stream .now)))
-    ≡ length (cellText (args .profile) place (getD (args .stream .now) place 0))
-    + length (cellsText (args .profile) (suc place) (drop (suc place) (args .stream .now)))
-next c =
-    let args = c .before .before .before .before .args in
-    cells-length-next (args .profile) (args .stream .now) (c .before .loop .place) (c .loop-test .taken)
+-- at the start all cells are left
+the-text : (c : tie.After-start Inv-loop μ-loop)
+    → let args = c .before .before .before .args in
+    cellsLeft (c .start .result) 0 (args .stream .now) ≡ streamText (args .profile) (args .stream .now)
+the-text c = cells-of-stream _ _ _ (c .start .ensures)
+
+-- the line of the next cell
+the-cell : (c : tie.After-step Inv-loop μ-loop)
+    → let turn = c .before .before .before in
+    let stream = turn .before .before .before .before .args .stream .now in
+    cellText (turn .loop .place) (c .step .result .class) (getD stream (turn .loop .place) 0)
+    ≡ cellHere (turn .loop .cursor) (turn .loop .place) stream
+the-cell c =
+    let turn = c .before .before .before in
+    let stream = turn .before .before .before .before .args .stream .now in
+    ap (λ (r : Classed). cellText (turn .loop .place) (r .class) (getD stream (turn .loop .place) 0)) (c .step .ensures)
+
+-- its length
+next-length : (c : tie.In-loop Inv-loop μ-loop)
+    → let at = c .before .loop in
+    let stream = c .before .before .before .before .before .args .stream .now in
+    length (cellsLeft (at .cursor) (at .place) stream)
+    ≡ length (cellHere (at .cursor) (at .place) stream) + length (cellsAfter (at .cursor) (at .place) stream)
+next-length c =
+    cells-length-next (c .before .loop .cursor) (c .before .before .before .before .before .args .stream .now)
+    (c .before .loop .place) (c .loop-test .taken)
+
+start-requires : tie.Need-start-requires Inv-loop μ-loop
+start-requires c κs = search needs
 
 loop-holds : tie.Need-loop-holds Inv-loop μ-loop
 loop-holds c = (omega arith, refl, refl, refl)
 
-mul-append-cell : tie.Need-mul-append-cell Inv-loop μ-loop
-mul-append-cell c = search needs
+mul-interval : tie.Need-mul-interval Inv-loop μ-loop
+mul-interval c = search needs
 
-shared-slice-read-append-cell : tie.Need-shared-slice-read-append-cell Inv-loop μ-loop
-shared-slice-read-append-cell c = omega arith
+shared-slice-read-interval : tie.Need-shared-slice-read-interval Inv-loop μ-loop
+shared-slice-read-interval c = omega arith
+
+step-requires : tie.Need-step-requires Inv-loop μ-loop
+step-requires c κs = search needs
 
 append-cell-requires : tie.Need-append-cell-requires Inv-loop μ-loop
 append-cell-requires c κs =
-    let at = c .before .before .before in
-    omega (arith, next (c .before .before), at .loop .inv .1, at .loop .inv .2, at .before .before .before .pre)
+    let turn = c .before .before .before in
+    let at = turn .before in
+    rw (the-cell (c .before))
+    (omega (
+      arith,
+      next-length turn,
+      ap length (the-text (at .before)),
+      at .loop .inv .1,
+      at .loop .inv .2,
+      at .before .before .before .before .pre,
+    ))
 
 add-place : tie.Need-add-place Inv-loop μ-loop
 add-place c = omega arith
@@ -57,16 +89,25 @@ loop-less c = omega arith
 
 loop-again : tie.Need-loop-again Inv-loop μ-loop
 loop-again c =
-    let turn = c .before .before .before .before .before in
+    let stepped = c .before .before .before .before .before in
+    let turn = stepped .before .before in
     let at = turn .before in
-    let args = at .before .before .before .args in
-    let call = c .before .before .append-cell in (
-      omega arith,
+    let call = c .before .before .before .append-cell in
+    let cell = the-cell stepped in
+    let next = ap (λ (r : Classed). r .next) (stepped .step .ensures) in
+    rw (next, add-one (at .loop .place)) (
+      turn .loop-test .taken,
       call .kept .1 .1 .1 .0 ∙ at .loop .inv .1,
-      rw (add-one (at .loop .place)) (omega (arith, next turn, call .ensures .0, at .loop .inv .2)),
-      rw (add-one (at .loop .place), call .ensures .1)
-          (cells-stored-next (args .profile) (args .stream .now) (at .loop .place) (turn .loop-test .taken)
-          (at .loop .out) (at .loop .end) _ (call .ensures .0)
+      omega (
+        arith,
+        next-length turn,
+        ap length cell,
+        call .ensures .0,
+        at .loop .inv .2,
+      ),
+      rw (call .ensures .1, cell)
+          (cells-stored-next _ _ _ (turn .loop-test .taken) (at .loop .out) (at .loop .end) _
+          (rw cell at (call .ensures .0))
           ∙ at .loop .inv .3),
     )
 
@@ -74,12 +115,12 @@ same-length : tie.Need-same-length Inv-loop μ-loop
 same-length c = c .before .loop .inv .1
 
 returns : tie.Need-returns Inv-loop μ-loop
-unfolding cellsText
 returns c =
     let at = c .before in
-    let args = at .before .before .before .args in
-    let none = drop-of-length-le (args .stream .now) (c .loop-test .left) in (
-      omega (arith, ap (λ (ds : List ℕ). length (cellsText (args .profile) (at .loop .place) ds)) none),
+    let stream = at .before .before .before .before .args .stream .now in
+    let none = no-cells-left (at .loop .cursor) stream (at .loop .place) (c .loop-test .left) in
+    rw (← the-text (at .before)) (
+      omega (arith, ap length none, at .loop .inv .2),
       sym (stored-none _ _) ∙ rw none at (at .loop .inv .3),
     )
 
@@ -89,9 +130,11 @@ append-cells-spec =
     (tie.spec
     Inv-loop
     μ-loop
+    start-requires
     loop-holds
-    mul-append-cell
-    shared-slice-read-append-cell
+    mul-interval
+    shared-slice-read-interval
+    step-requires
     append-cell-requires
     add-place
     loop-less

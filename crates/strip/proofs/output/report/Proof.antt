@@ -6,7 +6,7 @@ use native.Mathlib.Omega.{arith}
 use lib.ListN.{length}
 use Rattle.text.specs.Ascii.{ascii}
 use Rattle.text.specs.Line.{lineOf}
-use Rattle.strip.specs.Output.{cellsText}
+use Rattle.strip.specs.Output.{streamText}
 use Rattle.strip.proofs.OutputLaws.{printed-at-front, report-fits, report-length, report-stored}
 use borrow.Author.Needs.{needs}
 use Rattle.strip.proofs.output.report.Statement.{statement}
@@ -16,7 +16,7 @@ use Rattle.strip.proofs.output.report.Tie as tie
 room : (c : tie.After-shared-slice-known)
     → let args = c .before .args in
     length (lineOf (ascii "margin") (args .margin ∷ []))
-    + length (cellsText (args .profile) 0 (args .stream .now))
+    + length (streamText (args .profile) (args .stream .now))
     + length (lineOf (ascii "end") (length (args .stream .now) ∷ []))
     ≤ length (args .out .now)
 room c =

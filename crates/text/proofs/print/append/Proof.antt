@@ -6,8 +6,7 @@ use native.Mathlib.Nat.{add-zero}
 use native.Mathlib.Omega.{arith}
 use lib.ListN.{length, drop, length-set, drop-of-length-le}
 use Rattle.lists.specs.Filled.{storedAt}
-use Rattle.lists.proofs.StoreLaws.{stored-none}
-use Rattle.text.proofs.PrintLaws.{stored-next}
+use Rattle.lists.proofs.StoreLaws.{stored-none, stored-rest}
 use Rattle.text.proofs.print.append.Statement.{statement}
 use Rattle.text.proofs.print.append.Tie as tie
 
@@ -42,7 +41,7 @@ loop-again c =
     let a = at .before .args in (
       omega arith,
       simp length-set (at .loop .inv .1),
-      rw add-one (stored-next _ _ _ _ (c .before .loop-test .taken) ∙ at .loop .inv .2),
+      rw add-one (stored-rest _ _ _ _ 0 (c .before .loop-test .taken) ∙ at .loop .inv .2),
     )
 
 add-result : tie.Need-add-result Inv-loop μ-loop

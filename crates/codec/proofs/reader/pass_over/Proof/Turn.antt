@@ -2,19 +2,17 @@
 -- machine and the same item, so what is left to scan and to store stays what it was. Rests on no axiom.
 use Prim.Native.Nat.{ℕ, suc, _+_, _≤_, _<_}
 use mathlib.Core.Path.{_≡_, refl, sym, ap, _∙_}
-use mathlib.Core.Bool.{Bool, true, false, cond}
 use mathlib.Core.List.{List, [], _∷_, _++_}
 use native.Mathlib.Omega.{arith}
 use native.Mathlib.Numerals.{add-one}
 use lib.ListN.{length, drop, getD, drop-of-length-le}
-use lib.Seq.{drop-cons}
 use Rattle.lists.specs.Filled.{storedAt}
-use Rattle.lists.proofs.StoreLaws.{stored-none, stored-after-stored, stored-length}
+use Rattle.lists.proofs.StoreLaws.{one-given-at-most, stored-none, stored-after-stored, stored-length}
 use Rattle.refusal.specs.declared.Refusal.{Refusal}
-use Rattle.timing.specs.Class.{classOf, classesOf}
-use Rattle.timing.specs.declared.Profile.{Profile}
+use Rattle.timing.specs.Class.{classIn, cursorPast, classesFrom}
+use Rattle.timing.specs.declared.cursor.Cursor.{Cursor}
 use Rattle.timing.specs.declared.Class.{Class}
-use Rattle.timing.proofs.ClassLaws.{classes-of-cons, classes-of-drop, classes-length}
+use Rattle.timing.proofs.ClassLaws.{classes-none, classes-here}
 use Rattle.symbols.specs.Machine.{fresh}
 use Rattle.symbols.specs.Step.{stepped, itemsOf}
 use Rattle.symbols.specs.declared.Cell.{Cell}
@@ -50,82 +48,78 @@ module _ (k : ℕ) (m : Reading) (cs : List Class) where
   goes-on as-long = (refl, refl)
 
 -- a cell closes one byte at most
-one-or-none : (done : Bool) (item : ℕ) → length (cond done (item ∷ []) []) ≤ 1
-one-or-none true item = omega arith
-one-or-none false item = omega arith
-
 one-item-at-most : (m : Reading) → length (itemsOf m) ≤ 1
 unfolding itemsOf
-one-item-at-most m = one-or-none (m .done) (m .item)
+one-item-at-most m = one-given-at-most (m .done) (m .item)
 
 -- ---- the pass so far
 
-module _ (p : Profile) (ds old : List ℕ) where
-  pub record Passing (out : List ℕ) (m : Reading) (count k : ℕ) : Type 0 where
+module _ (start : Cursor) (ds old : List ℕ) where
+  abbrev all : List Class
+  all = classesFrom start ds
+
+  pub record Passing (out : List ℕ) (m : Reading) (cursor : Cursor) (count k : ℕ) : Type 0 where
     pub within : k ≤ length ds
     pub few : count ≤ k
     pub same-length : length out ≡ length old
-    pub to-scan : scanned k m (drop k (classesOf p ds)) ≡ scanned 0 fresh (classesOf p ds)
+    pub to-scan : scanned k m (classesFrom cursor (drop k ds)) ≡ scanned 0 fresh all
     pub to-store
-        : storedAt out count (gathered k m (drop k (classesOf p ds)))
-        ≡ storedAt old 0 (gathered 0 fresh (classesOf p ds))
+        : storedAt out count (gathered k m (classesFrom cursor (drop k ds))) ≡ storedAt old 0 (gathered 0 fresh all)
 
-  pub begins : Passing old fresh 0 0
+  pub begins : Passing old fresh start 0 0
   begins = record { within = omega arith; few = omega arith; same-length = refl; to-scan = refl; to-store = refl }
 
-  class-here
-      : (k : ℕ) → k < length ds → drop k (classesOf p ds) ≡ classOf p (getD ds k 0) ∷ drop (suc k) (classesOf p ds)
-  class-here k h =
-      sym (classes-of-drop p k ds)
-      ∙ ap (classesOf p) (drop-cons ds k 0 h)
-      ∙ classes-of-cons p (getD ds k 0) (drop (suc k) ds)
-      ∙ ap (λ (cs : List Class). classOf p (getD ds k 0) ∷ cs) (classes-of-drop p (suc k) ds)
+  module _ {out : List ℕ} {m : Reading} {cursor : Cursor} {count k : ℕ} (now : Passing out m cursor count k) where
+    abbrev here : Class
+    here = classIn cursor (getD ds k 0)
 
-  module _ {out : List ℕ} {m : Reading} {count k : ℕ} (now : Passing out m count k) where
+    abbrev rest : List Class
+    rest = classesFrom (cursorPast cursor (getD ds k 0)) (drop (suc k) ds)
+
     pub turn-stops
         : (r : Refusal)
         → k < length ds
-        → Refused r ≡ taken (classOf p (getD ds k 0)) k
-        → (Stopped r ≡ scanned 0 fresh (classesOf p ds)) × (out ≡ storedAt old 0 (gathered 0 fresh (classesOf p ds)))
+        → Refused r ≡ taken here k
+        → (Stopped r ≡ scanned 0 fresh all) × (out ≡ storedAt old 0 (gathered 0 fresh all))
     turn-stops r h e =
-        let ends = stops k m (drop (suc k) (classesOf p ds)) (classOf p (getD ds k 0)) r e in (
-          ends .0 ∙ ap (scanned k m) (sym (class-here k h)) ∙ now .to-scan,
+        let ends = stops k m rest here r e in
+        let left = classes-here cursor ds k h in (
+          ends .0 ∙ ap (scanned k m) (sym left) ∙ now .to-scan,
           sym (stored-none out count)
-              ∙ ap (storedAt out count) (sym (ends .1) ∙ ap (gathered k m) (sym (class-here k h)))
+              ∙ ap (storedAt out count) (sym (ends .1) ∙ ap (gathered k m) (sym left))
               ∙ now .to-store,
         )
 
     pub turn-goes-on
         : (x : Cell) (next : Reading) (stored : List ℕ) (count′ : ℕ)
         → k < length ds
-        → Read x ≡ taken (classOf p (getD ds k 0)) k
+        → Read x ≡ taken here k
         → next ≡ stepped m x k
         → count′ ≡ count + length (itemsOf next)
         → stored ≡ storedAt out count (itemsOf next)
-        → Passing stored next count′ (k + 1)
+        → Passing stored next (cursorPast cursor (getD ds k 0)) count′ (k + 1)
     turn-goes-on x next stored count′ h e machine places store =
-        let rest = drop (suc k) (classesOf p ds) in
-        let on = rw (← machine) at (goes-on k m rest (taken-is-read k (classOf p (getD ds k 0)) x e)) in
+        let left = classes-here cursor ds k h in
+        let on = rw (← machine) at (goes-on k m rest (taken-is-read k here x e)) in
         rw add-one
         (record {
           within = h;
           few = let one = one-item-at-most next in let before = now .few in omega arith;
           same-length = ap length store ∙ stored-length out count (itemsOf next) ∙ now .same-length;
-          to-scan = sym (on .0) ∙ ap (scanned k m) (sym (class-here k h)) ∙ now .to-scan;
+          to-scan = sym (on .0) ∙ ap (scanned k m) (sym left) ∙ now .to-scan;
           to-store =
               ap (λ (l : List ℕ). storedAt l count′ (gathered (suc k) next rest)) store
               ∙ stored-after-stored (itemsOf next) (gathered (suc k) next rest) out count count′ places
-              ∙ ap (storedAt out count) (sym (on .1) ∙ ap (gathered k m) (sym (class-here k h)))
+              ∙ ap (storedAt out count) (sym (on .1) ∙ ap (gathered k m) (sym left))
               ∙ now .to-store;
         })
 
     pub pass-ends
-        : length ds ≤ k
-        → (Whole m ≡ scanned 0 fresh (classesOf p ds)) × (out ≡ storedAt old 0 (gathered 0 fresh (classesOf p ds)))
+        : length ds ≤ k → (Whole m ≡ scanned 0 fresh all) × (out ≡ storedAt old 0 (gathered 0 fresh all))
     unfolding scanned gathered
     pass-ends h =
-        let none : drop k (classesOf p ds) ≡ [] =
-        drop-of-length-le (classesOf p ds) {i = k} (let same = classes-length p ds in omega arith) in (
+        let none : classesFrom cursor (drop k ds) ≡ [] =
+        ap (classesFrom cursor) (drop-of-length-le ds {i = k} h) ∙ classes-none cursor in (
           ap (scanned k m) (sym none) ∙ now .to-scan,
           sym (stored-none out count)
               ∙ ap (λ (cs : List Class). storedAt out count (gathered k m cs)) (sym none)

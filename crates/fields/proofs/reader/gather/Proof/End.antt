@@ -10,8 +10,8 @@ use lib.Dec.{eqb}
 use lib.ListN.{length, drop}
 use Rattle.lists.specs.Filled.{storedAt}
 use Rattle.refusal.specs.Answer.{Answer, accepted, refused}
-use Rattle.timing.specs.Class.{classesOf}
-use Rattle.timing.specs.declared.Profile.{Profile}
+use Rattle.timing.specs.Class.{classesFrom}
+use Rattle.timing.specs.declared.cursor.Cursor.{Cursor}
 use Rattle.timing.specs.declared.Class.{Class}
 use Rattle.symbols.specs.Bytes.{itemsRead}
 use Rattle.symbols.specs.Reading.{readBits}
@@ -26,15 +26,16 @@ use Rattle.fields.proofs.FieldLaws.{field-items-of-cells, field-stray-o
 use Rattle.fields.proofs.FrontLaws.{front-is-whole}
 use Rattle.fields.proofs.reader.gather.Proof.Turn.{Gathering}
 
-module _ (p : Profile) (ds old : List ℕ) (n : ℕ) where
+module _ (start : Cursor) (ds old : List ℕ) (n : ℕ) where
   abbrev cs : List Class
-  cs = classesOf p ds
+  cs = classesFrom start ds
 
-  module _ {out : List ℕ} {m : Reading} {count k : ℕ} (so-far : Gathering p ds old n out m count k) where
+  module _ {out : List ℕ} {m : Reading} {cursor : Cursor} {count k : ℕ}
+      (so-far : Gathering start ds old n out m cursor count k) where
     whole : n < m .rows → (fieldCells cs n ≡ so-far .done) × (fieldStop cs n ≡ accepted 0)
     whole h =
         let enough = reads-enough m (so-far .done) (so-far .reads) n h in
-        front-is-whole cs n (so-far .done) (drop k cs) (omega arith) (so-far .front)
+        front-is-whole cs n (so-far .done) (classesFrom cursor (drop k ds)) (omega arith) (so-far .front)
 
     stops-nowhere : n < m .rows → fieldStop cs n .number ≡ 0
     stops-nowhere h = ap (λ (a : Answer). a .number) (whole h .1)

@@ -7,7 +7,6 @@ use native.Mathlib.Numerals.{add-one}
 use native.Mathlib.Omega.{arith}
 use borrow.Author.Tests.{eqb-false}
 use lib.ListN.{length, drop, getD, length-append, drop-of-length-le}
-use lib.Seq.{drop-cons}
 use Rattle.lists.specs.Filled.{storedAt}
 use Rattle.lists.proofs.StoreLaws.{stored-none, stored-after-stored, stored-length}
 use Rattle.refusal.specs.Table.{numberOf, placeOf}
@@ -15,10 +14,10 @@ use Rattle.refusal.specs.Answer.{Answer, refused}
 use Rattle.refusal.specs.declared.Refusal.{Refusal}
 use Rattle.refusal.specs.declared.Refusal.the-variants.{EndsEarly}
 use Rattle.refusal.proofs.AnswerLaws.{number-is-not-zero, refusal-decides}
-use Rattle.timing.specs.Class.{classOf, classesOf}
-use Rattle.timing.specs.declared.Profile.{Profile}
+use Rattle.timing.specs.Class.{classIn, cursorPast, classesFrom}
+use Rattle.timing.specs.declared.cursor.Cursor.{Cursor}
 use Rattle.timing.specs.declared.Class.{Class}
-use Rattle.timing.proofs.ClassLaws.{classes-of-cons, classes-of-drop, classes-length}
+use Rattle.timing.proofs.ClassLaws.{classes-none, classes-here}
 use Rattle.symbols.specs.Bytes.{itemsRead}
 use Rattle.symbols.specs.Reading.{readFrom, readBits}
 use Rattle.symbols.specs.Machine.{fresh}
@@ -36,22 +35,22 @@ use Rattle.fields.specs.FieldRule.{gatherRule}
 use Rattle.fields.proofs.FrontLaws.{wantedOf, Front, front-starts, front-goes-on, front-ends, front-meets-narrow}
 use Rattle.fields.proofs.FrontLaws.{front-meets-wide}
 
-module _ (p : Profile) (ds old : List ℕ) (n : ℕ) where
+module _ (start : Cursor) (ds old : List ℕ) (n : ℕ) where
   abbrev cs : List Class
-  cs = classesOf p ds
+  cs = classesFrom start ds
 
   -- the pass after k intervals
-  pub record Gathering (out : List ℕ) (m : Reading) (count k : ℕ) : Type 0 where
+  pub record Gathering (out : List ℕ) (m : Reading) (cursor : Cursor) (count k : ℕ) : Type 0 where
     pub done : List Cell
     pub reads : Reads m done
     pub placed : length done ≡ k
     pub within : k ≤ length ds
-    pub front : Front cs n done (drop k cs)
+    pub front : Front cs n done (classesFrom cursor (drop k ds))
     pub same-length : length out ≡ length old
     pub counted : count ≡ length (itemsRead (readBits done))
     pub stored : out ≡ storedAt old 0 (itemsRead (readBits done))
 
-  pub begins : Gathering old fresh 0 0
+  pub begins : Gathering old fresh start 0 0
   unfolding itemsRead readBits readFrom
   begins =
       record {
@@ -74,14 +73,14 @@ module _ (p : Profile) (ds old : List ℕ) (n : ℕ) where
   no-items r out e zero =
       absurd (eqb-false (numberOf r) 0 (number-is-not-zero r) (ap (λ (a : Answer). a .number) e ∙ zero))
 
-  class-here : (k : ℕ) → k < length ds → drop k cs ≡ classOf p (getD ds k 0) ∷ drop (suc k) cs
-  class-here k h =
-      sym (classes-of-drop p k ds)
-      ∙ ap (classesOf p) (drop-cons ds k 0 h)
-      ∙ classes-of-cons p (getD ds k 0) (drop (suc k) ds)
-      ∙ ap (λ (l : List Class). classOf p (getD ds k 0) ∷ l) (classes-of-drop p (suc k) ds)
+  module _ {out : List ℕ} {m : Reading} {cursor : Cursor} {count k : ℕ} (so-far : Gathering out m cursor count k) where
+    -- the next interval, and those after it
+    abbrev here : Class
+    here = classIn cursor (getD ds k 0)
 
-  module _ {out : List ℕ} {m : Reading} {count k : ℕ} (so-far : Gathering out m count k) where
+    abbrev rest : List Class
+    rest = classesFrom (cursorPast cursor (getD ds k 0)) (drop (suc k) ds)
+
     pub count-is-small : m .rows ≤ n → n ≤ 1030 → count < 65536
     count-is-small h most =
         let counted = so-far .counted in
@@ -94,21 +93,22 @@ module _ (p : Profile) (ds old : List ℕ) (n : ℕ) where
     pub turn-ends : m .rows ≤ n → length ds ≤ k → refused 11 0 ≡ gatherRule cs n
     unfolding gatherRule
     turn-ends h over =
-        let none : drop k cs ≡ [] = drop-of-length-le cs {i = k} (let same = classes-length p ds in omega arith) in
+        let none : classesFrom cursor (drop k ds) ≡ [] =
+        ap (classesFrom cursor) (drop-of-length-le ds {i = k} over) ∙ classes-none cursor in
         refusal-decides
         EndsEarly
         (fieldStop cs n)
         _
         (sym (front-ends cs n (so-far .done) (wanted h) (rw none at (so-far .front))))
 
-    front-here : k < length ds → Front cs n (so-far .done) (classOf p (getD ds k 0) ∷ drop (suc k) cs)
-    front-here h = rw (class-here k h) at (so-far .front)
+    front-here : k < length ds → Front cs n (so-far .done) (here ∷ rest)
+    front-here h = rw (classes-here cursor ds k h) at (so-far .front)
 
     pub turn-stops
         : (r : Refusal)
         → m .rows ≤ n
         → k < length ds
-        → Refused r ≡ taken (classOf p (getD ds k 0)) k
+        → Refused r ≡ taken here k
         → refused (numberOf r) (placeOf r) ≡ gatherRule cs n
     unfolding gatherRule
     turn-stops r h inside e =
@@ -119,10 +119,10 @@ module _ (p : Profile) (ds old : List ℕ) (n : ℕ) where
         (taken-is-refused
         k
         (λ (c : Class) (s : Refusal).
-        Front cs n (so-far .done) (c ∷ drop (suc k) cs) → refused (numberOf s) (placeOf s) ≡ fieldStop cs n)
+        Front cs n (so-far .done) (c ∷ rest) → refused (numberOf s) (placeOf s) ≡ fieldStop cs n)
         (λ f. ap (refused 5) (sym (so-far .placed)) ∙ sym (front-meets-narrow cs n (so-far .done) (wanted h) _ f))
         (λ f. ap (refused 6) (sym (so-far .placed)) ∙ sym (front-meets-wide cs n (so-far .done) (wanted h) _ f))
-        (classOf p (getD ds k 0))
+        here
         r
         e
         (front-here inside))
@@ -132,11 +132,11 @@ module _ (p : Profile) (ds old : List ℕ) (n : ℕ) where
         → m .rows ≤ n
         → k < length ds
         → length ds ≤ 8241
-        → Read x ≡ taken (classOf p (getD ds k 0)) k
+        → Read x ≡ taken here k
         → next ≡ stepped m x k
         → count′ ≡ count + length (itemsOf next)
         → new ≡ storedAt out count (itemsOf next)
-        → Gathering new next count′ (k + 1)
+        → Gathering new next (cursorPast cursor (getD ds k 0)) count′ (k + 1)
     turn-goes-on x next new count′ h inside most e steps places store =
         let more : List Cell = so-far .done ++ (x ∷ []) in
         let room : length (so-far .done) < 2 ^ 32 = let at = so-far .placed in omega arith in
@@ -153,8 +153,7 @@ module _ (p : Profile) (ds old : List ℕ) (n : ℕ) where
           placed = length-append (so-far .done) (x ∷ []) ∙ (let at = so-far .placed in omega arith);
           within = inside;
           front =
-              front-goes-on cs n (so-far .done) (wanted h) (taken-is-read k _ x e) (drop (suc k) cs)
-              (front-here inside);
+              front-goes-on cs n (so-far .done) (wanted h) (taken-is-read k _ x e) rest (front-here inside);
           same-length = ap length store ∙ stored-length out count (itemsOf next) ∙ so-far .same-length;
           counted =
               places
