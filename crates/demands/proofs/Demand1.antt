@@ -22,7 +22,8 @@ use Rattle.items.specs.Rule.{listRule}
 use Rattle.lengths.specs.Stream.{byteStream, streamOf}
 use Rattle.lengths.specs.Margin.{marginOf, marginRule}
 use Rattle.codec.specs.Writer.{streamRule, writeRule}
-use Rattle.codec.specs.Reader.{cellsRead, itemsOfStream, readRule}
+use Rattle.intervals.specs.Cells.{cellsRead}
+use Rattle.codec.specs.Reader.{itemsOfStream, readRule}
 use Rattle.fields.specs.Lock.{lockAt, firstLock, lockFrom, countedFrom, searchRule, findRule}
 use Rattle.fields.specs.Field.{fieldStop, fieldStray, fieldStrayPlace}
 use Rattle.fields.specs.FieldRule.{gatherRule, deliverRule, checkedRule, fieldRule}

@@ -13,7 +13,7 @@ use borrow.Author.Tests.{ltb-true, ltb-false, eqb-false, ne-eqb}
 use Rattle.lists.specs.Place.{everywhere}
 use Rattle.lists.specs.Filled.{filled}
 use Rattle.lists.proofs.PlaceLaws.{everywhere-passes-at-first, everywhere-in-rest}
-use Rattle.lists.proofs.FilledLaws.{front-of-filled}
+use Rattle.lists.proofs.StoreLaws.{front-of-filled}
 use Rattle.refusal.specs.Answer.{Answer, refuseIf, firstRefusal, settled}
 use Rattle.refusal.proofs.AnswerLaws.{acceptance-fills-the-buffer}
 use Rattle.demands.specs.Order.{Order, accept, turn, at0, Nowhere, InTurn, NoCause, numbersOf, OneOf, Answers}

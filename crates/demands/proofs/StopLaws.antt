@@ -12,7 +12,8 @@ use lib.Seq.{take-length}
 use Rattle.lists.specs.Place.{anywhere, lowest}
 use Rattle.lists.proofs.PlaceLaws.{lowest-of-none}
 use Rattle.refusal.specs.Answer.{Answer, firstRefusal}
-use Rattle.timing.specs.Class.{classNumber, edgeRule}
+use Rattle.timing.specs.Class.{classNumber}
+use Rattle.intervals.specs.Cells.{edgeRule}
 use Rattle.timing.specs.declared.Class.{Class}
 use Rattle.timing.specs.declared.Class.the-variants.{Narrow, Two, Wide}
 use Rattle.symbols.specs.Bits.{O}

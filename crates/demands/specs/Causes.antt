@@ -16,7 +16,8 @@ use Rattle.timing.specs.declared.Class.the-variants.{Narrow, Two, Three, Four, 
 use Rattle.symbols.specs.Reading.{readBits}
 use Rattle.symbols.specs.Strip.{isRagged, bytesRead, isStray, strayPlace}
 use Rattle.lengths.specs.Stream.{streamOf}
-use Rattle.codec.specs.Reader.{cellsOfClasses, cellsRead, itemsOfStream}
+use Rattle.intervals.specs.Cells.{cellsOfClasses, cellsRead}
+use Rattle.codec.specs.Reader.{itemsOfStream}
 use Rattle.fields.specs.Lock.{lockAt}
 use Rattle.fields.specs.Field.{bitsWanted, fieldStray, fieldStrayPlace}
 use Rattle.sectors.specs.Sector.{isMisfit, sectorItems}

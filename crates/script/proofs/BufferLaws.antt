@@ -11,8 +11,7 @@ use lib.ListN.{length, take, drop, length-append, take-append-drop}
 use lib.Seq.{length-take-le, take-all}
 use borrow.Author.Tests.{ltb-true, ltb-false}
 use Rattle.lists.specs.Filled.{filled, storedAt}
-use Rattle.lists.proofs.FilledLaws.{sets-past-end}
-use Rattle.lists.proofs.StoreLaws.{stored-after-stored, stored-at-front-fills, stored-length, stored-none}
+use Rattle.lists.proofs.StoreLaws.{stored-after-stored, stored-at-front-fills, stored-length, stored-none, stored-past-end}
 use Rattle.script.specs.Read.{ItemsRead, Stored, within}
 use Rattle.script.specs.declared.ItemLine.the-variants.{Items, Faulty}
 
@@ -41,10 +40,6 @@ nothing-is-left buffer n buffer₀ n₀ items left =
     record { size = sym (add-zero n) ∙ left .0; output = sym (stored-none buffer n) ∙ left .1 }
 
 -- a run from the front
-past-end : (l : List ℕ) (i : ℕ) (vs : List ℕ) → length l ≤ i → storedAt l i vs ≡ l
-unfolding storedAt
-past-end l i vs h = sets-past-end l i vs h
-
 stored-beyond : (buffer items : List ℕ) → length buffer ≤ length items
     → storedAt buffer 0 items ≡ filled (within buffer items) buffer
 stored-beyond buffer items h =
@@ -54,7 +49,7 @@ stored-beyond buffer items h =
     let same : length front ≡ room = stored-length buffer 0 (take room items) in
     ap (storedAt buffer 0) (sym (take-append-drop room items))
     ∙ sym (stored-after-stored (take room items) (drop room items) buffer 0 room (sym size ∙ sym (zero-add _)))
-    ∙ past-end front room (drop room items) (omega arith)
+    ∙ stored-past-end front room (drop room items) (omega arith)
     ∙ stored-at-front-fills (take room items) buffer (omega arith)
 
 pub stored-as-far-as-there-is-room : (buffer items : List ℕ)

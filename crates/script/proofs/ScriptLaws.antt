@@ -15,7 +15,7 @@ use Rattle.refusal.specs.declared.Counted.the-variants.{Count, Refused as NotCo
 use Rattle.refusal.proofs.AnswerLaws.{refusal-decides, refusal-keeps-the-buffer, accepted-later}
 use Rattle.refusal.proofs.AnswerLaws.{acceptance-fills-the-buffer}
 use Rattle.lists.specs.Filled.{filled}
-use Rattle.lists.proofs.FilledLaws.{front-of-filled}
+use Rattle.lists.proofs.StoreLaws.{front-of-filled}
 use Rattle.timing.specs.declared.Profile.{Profile}
 use Rattle.text.specs.Ascii.{lineFeed}
 use Rattle.text.specs.Pieces.{piecesOf, upTo}
