@@ -7,10 +7,14 @@ use mathlib.Core.List.{List}
 use mathlib.Core.Logic.{⊎-elim}
 use native.Mathlib.Nat.{eq-or-lt-of-le, eq-zero-or-pos}
 use native.Mathlib.Omega.{arith}
-use lib.ListN.{length}
+use lib.ListN.{length, drop}
 use Rattle.refusal.specs.Answer.{Answer, accepted}
+use Rattle.refusal.proofs.AnswerLaws.{first-refusal-passes}
+use Rattle.timing.specs.Profile.{profileRule}
+use Rattle.timing.specs.Class.{classesOf}
+use Rattle.timing.specs.declared.Profile.{Profile}
 use Rattle.timing.specs.declared.Class.{Class}
-use Rattle.fields.specs.Lock.{lockAt, firstLock, lockFrom}
+use Rattle.fields.specs.Lock.{lockAt, firstLock, lockFrom, searchRule, findRule}
 use Rattle.fields.proofs.FinderLaws.{lock-is-within, no-lock-past-end}
 
 -- a lock stands at place t, and at none before it from place k on
@@ -115,3 +119,14 @@ module _ (cs : List Class) where
       (λ past. no-lock-past-end cs j (omega arith))
       (λ inside. none-found (length cs - k) k e j (omega arith) low)
       (eq-zero-or-pos (length cs - j))
+
+-- ---- the finder's answer
+
+-- the first lock of the intervals from `start` on, where the profile is accepted
+pub first-lock-is-found
+    : (p : Profile) (ds : List ℕ) (start k : ℕ)
+    → profileRule p .number ≡ 0
+    → lockFrom (classesOf p (drop start ds)) 0 ≡ accepted k
+    → findRule p ds start ≡ accepted (start + k)
+unfolding findRule searchRule
+first-lock-is-found p ds start k accepts e = first-refusal-passes (profileRule p) _ accepts ∙ rw e

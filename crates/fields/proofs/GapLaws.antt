@@ -2,7 +2,7 @@
 -- enough, with a mark A1 after it, has its first lock at the mark, since within the run no mark begins. Rests on no
 -- axiom.
 use Prim.Native.Nat.{ℕ, suc, _+_, _-_, _<_, _≤_}
-use mathlib.Core.Path.{_≡_, refl, sym, ap, ap₂, _∙_}
+use mathlib.Core.Path.{_≡_, refl, sym, ap, _∙_}
 use mathlib.Core.Bool.{Bool, true, false, cond, _&&_, true≢false}
 use mathlib.Core.List.{List, [], _∷_, _++_, append-assoc}
 use native.Mathlib.Omega.{arith}
@@ -149,3 +149,9 @@ lock-after-gap gap m rest e =
     ∙ ap (lockAfter all) (omega arith)
     ∙ lock-after-run gap m rest
     ∙ ap accepted (omega arith)
+
+-- a run and a mark with nothing before them
+pub lock-after-sync
+    : (m : ℕ) (rest : List Class) → lockFrom (replicate (m + 64) Two ++ markA1 rest) 0 ≡ accepted (m + 64)
+unfolding passes
+lock-after-sync m rest = lock-after-gap [] m rest refl ∙ ap accepted (omega arith)

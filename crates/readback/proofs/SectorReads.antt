@@ -2,13 +2,11 @@
 -- cells are a run that ends at the marks; after it the cells are those of a list that begins with the field, so the
 -- field reader gives its bytes; and the gap after the ID has no run before the data's sync. Rests on no axiom.
 use Prim.Native.Nat.{ℕ, _+_}
-use mathlib.Core.Path.{_≡_, refl, sym, ap, ap₂, _∙_}
+use mathlib.Core.Path.{_≡_, refl, sym, ap, _∙_}
 use mathlib.Core.List.{List, [], _∷_, _++_, map}
 use native.Mathlib.Omega.{arith}
 use lib.ListN.{length, drop, replicate}
 use Rattle.refusal.specs.Answer.{accepted}
-use Rattle.refusal.proofs.AnswerLaws.{first-refusal-passes}
-use Rattle.timing.specs.Profile.{profileRule}
 use Rattle.timing.specs.Class.{classesOf}
 use Rattle.timing.specs.declared.Profile.{Profile}
 use Rattle.timing.specs.declared.Class.{Class}
@@ -22,9 +20,10 @@ use Rattle.symbols.specs.declared.Cell.{Cell}
 use Rattle.symbols.proofs.ReadingLaws.{last-is-no-gap}
 use Rattle.intervals.proofs.CellLaws.{classOfCell}
 use Rattle.lengths.specs.Stream.{streamOf}
-use Rattle.fields.specs.Lock.{lockFrom, searchRule, findRule}
+use Rattle.fields.specs.Lock.{lockFrom}
 use Rattle.fields.specs.Field.{fieldCells, fieldUsed}
-use Rattle.fields.proofs.GapLaws.{passes, lock-after-gap}
+use Rattle.fields.proofs.GapLaws.{lock-after-sync, lock-after-gap}
+use Rattle.fields.proofs.FirstLockLaws.{first-lock-is-found}
 use Rattle.fields.proofs.WrittenFieldLaws.{restOfCells, used-and-rest, rest-of-field-is-read}
 use Rattle.sectors.specs.Sector.{sectorSize, sectorItems}
 use Rattle.sectors.proofs.SectorCounts.{size-of-code, size-at-most-1024}
@@ -72,14 +71,6 @@ module _
     classes-are : classesOf p changed ≡ classesFor (replicate 12 0x00 ++ fromId)
     classes-are = moved-has-classes p accepts items changed moved ∙ ap classesFor sector-is
 
-    found
-        : (start k place : ℕ)
-        → lockFrom (classesOf p (drop start changed)) 0 ≡ accepted k
-        → start + k ≡ place
-        → findRule p changed start ≡ accepted place
-    unfolding findRule searchRule
-    found start k place e sum = first-refusal-passes (profileRule p) _ accepts ∙ rw e (ap accepted sum)
-
     -- ---- the ID
 
     id-place : idPlace ≡ 96
@@ -90,11 +81,10 @@ module _
     after-sync = classes-are ∙ sync-classes fromId
 
     first-lock : lockFrom (classesOf p changed) 0 ≡ accepted 96
-    unfolding passes
     first-lock =
         let (rest, mark) = mark-classes _ in
         ap (λ (cs : List Class). lockFrom cs 0) (after-sync ∙ ap (λ (cs : List Class). replicate 96 Two ++ cs) mark)
-        ∙ lock-after-gap [] 32 rest refl
+        ∙ lock-after-sync 32 rest
 
     id-classes : classesOf p (drop 96 changed) ≡ map classOfCell (cells fromId)
     id-classes =
@@ -166,10 +156,6 @@ module _
         (after-id ∙ ap (λ (cs : List Class). gapClasses last ++ (replicate 95 Two ++ cs)) mark)
         ∙ lock-after-gap (gapClasses last) 31 rest (no-run-in-gap last)
 
-    second-place : 96 + used + (length (gapClasses last) + 95) ≡ place
-    unfolding place
-    second-place = omega arith
-
     -- ---- the data
 
     -- the classes before the data's marks
@@ -212,13 +198,15 @@ module _
         data-classes
 
     pub sector-reads : SectorReads track side sector code bytes p changed
-    unfolding idField dataField used
+    unfolding idField dataField used place
     sector-reads =
         record {
           written = sector-is-listed track side sector code bytes made;
-          id-lock = rw id-place (found 0 96 96 first-lock refl);
+          id-lock = rw id-place (first-lock-is-found p changed 0 96 accepts first-lock);
           id-reads = rw id-place id-is-read;
-          data-lock = rw (id-place, data-place) (found (96 + used) _ place second-lock second-place);
+          data-lock =
+              rw (id-place, data-place)
+              (first-lock-is-found p changed (96 + used) _ accepts second-lock ∙ ap accepted (omega arith));
           data-reads = rw data-place data-is-read;
         }
 

@@ -1,6 +1,6 @@
 -- Why `fields::finder::begins_with` answers `beginsWith`: each turn takes one class and one number of the pattern off
 -- the front, and the ways out are the definition's cases. Rests on no axiom.
-use Prim.Native.Nat.{ℕ, suc, _+_, _-_, _<_, _≤_}
+use Prim.Native.Nat.{ℕ, _+_, _-_, _<_, _≤_}
 use mathlib.Core.Path.{_≡_, refl, sym, ap, _∙_}
 use mathlib.Core.Bool.{Bool, true, false}
 use mathlib.Core.List.{List}
@@ -11,7 +11,6 @@ use borrow.Author.Tests.{eq-eqb, ne-eqb}
 use lib.ListN.{length, getD, drop, drop-of-length-le}
 use lib.Seq.{drop-cons}
 use Rattle.timing.specs.Class.{classesFrom, classIn, cursorPast, classNumber}
-use Rattle.timing.specs.declared.Class.{Class}
 use Rattle.timing.specs.declared.cursor.Cursor.{Cursor}
 use Rattle.timing.specs.declared.cursor.Classed.{Classed}
 use Rattle.timing.proofs.ClassLaws.{classes-none, classes-here}

@@ -1,16 +1,13 @@
 -- Why `fields::finder::scan` answers `lockFrom`: each turn keeps the run and passes over no lock, and the ways out are
 -- a lock and the end of the list. Rests on no axiom.
 mod Turn
-use Prim.Native.Nat.{ℕ, _+_, _-_, _<_, _≤_}
+use Prim.Native.Nat.{ℕ, _+_, _-_, _≤_}
 use mathlib.Core.Path.{_≡_, refl, sym, ap, _∙_}
-use mathlib.Core.Bool.{Bool}
 use mathlib.Core.List.{List}
 use native.Mathlib.Omega.{arith}
 use borrow.Author.Needs.{needs}
 use lib.ListN.{length, drop}
-use Rattle.timing.specs.Class.{classesFrom, classNumber}
-use Rattle.timing.specs.declared.cursor.Cursor.{Cursor}
-use Rattle.timing.specs.declared.cursor.Classed.{Classed}
+use Rattle.timing.specs.Class.{classesFrom}
 use Rattle.fields.specs.Lock.{markAhead, PassesTwos}
 use Rattle.fields.proofs.LockLaws.{part-to-end}
 use Rattle.fields.proofs.RunLaws.{passes-none, passes-one-more}
