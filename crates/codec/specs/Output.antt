@@ -1,4 +1,5 @@
--- What the writer leaves after some bits. No lemmas here.
+-- Machine, not meaning: laws tie it to Writer (`proofs/InkLaws`, `proofs/WriterLaws`). No lemmas here.
+-- What the writer leaves after some bits.
 use Prim.Native.Nat.{ℕ, _+_}
 use mathlib.Core.Path.{_≡_}
 use mathlib.Core.List.{List}

@@ -1,4 +1,5 @@
--- The strip reader's passes: the reading machine of the crate symbols over the classes of a strip. No lemmas here.
+-- Machine, not meaning: laws tie it to Reader (`proofs/ScanLaws`, `proofs/ReaderLaws`). No lemmas here.
+-- The strip reader's passes: the reading machine of the crate symbols over the classes of a strip.
 use Prim.Native.Nat.{ℕ, suc}
 use mathlib.Core.List.{List, [], _∷_, _++_}
 use Rattle.refusal.specs.declared.Refusal.the-variants.{IntervalTooShort, IntervalTooLong}

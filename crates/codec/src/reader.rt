@@ -19,6 +19,12 @@ use symbols::Reading;
 use timing::Cursor;
 use timing::Profile;
 
+// The most intervals of a strip: 6,400 bytes and the two closing 0s.
+const MAX_INTERVALS: usize = 51202;
+
+// The most bytes read, and the lead's row.
+const MAX_ROWS: u32 = 6401;
+
 // How far a pass came: through all its intervals, or to one that is too short or too long.
 pub enum Scan {
     Whole(Reading),
@@ -61,7 +67,7 @@ fn conclude(m: Reading) -> Counted
     if m.register != 0b10 {
         return Counted::Refused(Refusal::NotWholeBytes);
     }
-    if 6401 < m.rows {
+    if MAX_ROWS < m.rows {
         return Counted::Refused(Refusal::TooLong);
     }
     if m.stray == 1 {
@@ -104,7 +110,7 @@ pub fn read(p: Profile, intervals: &[u16], out: &mut [u16]) -> Counted
     match timing::check(p) {
         Verdict::Refused(refusal) => Counted::Refused(refusal),
         Verdict::Accepted => {
-            if 51202 < intervals.len() {
+            if MAX_INTERVALS < intervals.len() {
                 return Counted::Refused(Refusal::TooLong);
             }
             read_strip(p, intervals, out)

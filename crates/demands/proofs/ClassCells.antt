@@ -10,7 +10,7 @@ use Rattle.symbols.specs.Reading.{units}
 use Rattle.symbols.specs.declared.Cell.{Cell}
 use Rattle.symbols.specs.declared.Cell.the-variants.{Short, Medium, Long}
 use Rattle.intervals.proofs.CellLaws.{classOfCell}
-use Rattle.lengths.specs.Near.{classOfUnits}
+use Rattle.lengths.specs.Units.{classOfUnits}
 
 -- the class that units ask for has their number
 pub number-of-units : (xs : List Cell) → map classNumber (map classOfUnits (map units xs)) ≡ map units xs

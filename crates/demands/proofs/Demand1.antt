@@ -152,7 +152,7 @@ lock-in-turn cs start =
     inr (
       λ k none. none .0 _ (lock-from-found cs 0 found .stands),
       ap (λ (t : Bool). cond t (accepted (start + lockFrom cs 0 .count)) (lockFrom cs 0) .number)
-      (eq-eqb (lockFrom cs 0 .number) 0 found),
+          (eq-eqb (lockFrom cs 0 .number) 0 found),
     ))
     (λ adrift.
     let same = ap (countedFrom start) adrift in

@@ -19,7 +19,8 @@ use Rattle.items.specs.Written.{written}
 use Rattle.symbols.specs.Cells.{writtenCells}
 use Rattle.symbols.proofs.RoundTripLaws.{cells-are-read}
 use Rattle.lengths.specs.Stream.{byteStream, streamOf}
-use Rattle.lengths.specs.Near.{Near, classOfUnits}
+use Rattle.lengths.specs.Units.{classOfUnits}
+use Rattle.lengths.proofs.NearLaws.{Near}
 use Rattle.lengths.specs.Margin.{IsMargin, marginOf, marginRule}
 use Rattle.lengths.proofs.WindowLaws.{near-stream-has-classes}
 use Rattle.lengths.proofs.MarginLaws.{Broken, margin-leaves-room, above-margin-is-broken}

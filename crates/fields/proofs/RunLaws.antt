@@ -13,7 +13,7 @@ use Rattle.timing.specs.declared.Class.the-variants.{Narrow, Two}
 use Rattle.timing.specs.declared.cursor.Cursor.{Cursor}
 use Rattle.timing.specs.declared.cursor.Classed.{Classed}
 use Rattle.timing.proofs.ClassLaws.{classes-here}
-use Rattle.fields.specs.Lock.{PassesTwos}
+use Rattle.fields.specs.Scan.{PassesTwos}
 use Rattle.fields.proofs.LockLaws.{number-2-is-two}
 use Rattle.fields.proofs.FinderLaws.{Twos}
 

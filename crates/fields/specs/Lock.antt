@@ -1,18 +1,15 @@
 -- Document 01, "Finding and reading a field": where a lock stands, and what the finder answers. No lemmas here.
-use Prim.Native.Nat.{ℕ, zero, suc, _+_, _-_, _<_, _≤_}
-use mathlib.Core.Path.{_≡_}
+use Prim.Native.Nat.{ℕ, zero, suc, _+_, _-_}
 use mathlib.Core.Bool.{Bool, true, false, cond, _&&_}
-use mathlib.Core.List.{List, [], _∷_, _++_}
+use mathlib.Core.List.{List, [], _∷_}
 use lib.Dec.{eqb, leb}
-use lib.ListN.{length, getD, drop, replicate}
+use lib.ListN.{length, drop, replicate}
 use Rattle.lists.specs.Place.{anywhere}
 use Rattle.refusal.specs.Answer.{Answer, accepted, refused, firstRefusal}
 use Rattle.timing.specs.Profile.{profileRule}
-use Rattle.timing.specs.Class.{classIn, classesFrom, classesOf, classNumber}
+use Rattle.timing.specs.Class.{classesOf, classNumber}
 use Rattle.timing.specs.declared.Profile.{Profile}
-use Rattle.timing.specs.declared.cursor.Cursor.{Cursor}
 use Rattle.timing.specs.declared.Class.{Class}
-use Rattle.timing.specs.declared.Class.the-variants.{Two}
 
 -- the classes at the front of a list have the numbers of a pattern
 unfoldable pub beginsWith : List ℕ → List Class → Bool
@@ -53,14 +50,3 @@ searchRule p ds start = countedFrom start (lockFrom (classesOf p (drop start ds)
 -- 1, 2, 10, else the place
 unfoldable pub findRule : Profile → List ℕ → ℕ → Answer
 findRule p ds start = firstRefusal (profileRule p) (searchRule p ds start)
-
--- intervals of class 2 from one place up to another, and where the classing stands before and after them
-pub record PassesTwos (before : Cursor) (ds : List ℕ) (from : ℕ) (after : Cursor) (end : ℕ) : Type 0 where
-  pub low : from ≤ end
-  pub high : end ≤ length ds
-  pub classes : classesFrom before (drop from ds) ≡ replicate (end - from) Two ++ classesFrom after (drop end ds)
-
--- a run passed over up to its end: the interval there is of another class, or none stands after it
-pub record PassesRun (before : Cursor) (ds : List ℕ) (from : ℕ) (after : Cursor) (end : ℕ) : Type 0 where
-  pub twos : PassesTwos before ds from after end
-  pub ends : suc end < length ds → classNumber (classIn after (getD ds end 0)) ≡ 2 → ⊥

@@ -18,6 +18,9 @@ use symbols::Reading;
 use timing::Cursor;
 use timing::Profile;
 
+// The most bytes of a field: a sector of 1,024, its marks and its check bytes.
+const MAX_FIELD_BYTES: usize = 1030;
+
 // What a field reads as: how many items, how many intervals they used, and whether the register is zero after them.
 pub enum FieldRead {
     Field {
@@ -114,7 +117,7 @@ fn read_checked(p: Profile, intervals: &[u16], n: usize, out: &mut [u16]) -> Fie
     ensures output { λ _. ⌜
         now (out .exit) ≡ checkedOutput (classesOf p (now (intervals .entry))) n (now (out .entry)) ⌝ }
 {
-    let mut buffer = [0u16; 1030];
+    let mut buffer = [0u16; MAX_FIELD_BYTES];
     match gather(p, front(intervals, 8 * n + 1), n as u32, &mut buffer) {
         Counted::Refused(refusal) => FieldRead::Refused(refusal),
         Counted::Count(used) => deliver(&buffer[..n], used, out),
@@ -129,7 +132,7 @@ pub fn read_field(p: Profile, intervals: &[u16], n: usize, out: &mut [u16]) -> F
     match timing::check(p) {
         Verdict::Refused(refusal) => FieldRead::Refused(refusal),
         Verdict::Accepted => {
-            if (n < 1) | (1030 < n) {
+            if (n < 1) | (MAX_FIELD_BYTES < n) {
                 return FieldRead::Refused(Refusal::CountOutOfRange);
             }
             read_checked(p, intervals, n, out)

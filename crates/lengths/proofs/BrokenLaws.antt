@@ -11,7 +11,7 @@ use Rattle.timing.specs.declared.Class.{Class}
 use Rattle.timing.specs.declared.Class.the-variants.{Narrow}
 use Rattle.timing.proofs.ClassLaws.{class-at}
 use Rattle.lengths.specs.Stream.{byteStream}
-use Rattle.lengths.specs.Near.{Near}
+use Rattle.lengths.proofs.NearLaws.{Near}
 use Rattle.lengths.proofs.NearLaws.{near-with-one-moved}
 use Rattle.lengths.proofs.MarginLaws.{Broken}
 

@@ -5,7 +5,13 @@ use native.Mathlib.Omega.{arith}
 use mathlib.Core.Path.{_≡_, refl, ap}
 use mathlib.Core.List.{List, [], _∷_}
 use lib.ListN.{length, getD, set}
-use Rattle.lengths.specs.Near.{Near}
+
+-- as many intervals in the same order, each longer or shorter by up to m
+unfoldable pub Near : ℕ → List ℕ → List ℕ → Type 0
+Near m [] [] = Unit
+Near m [] (l ∷ ls) = ⊥
+Near m (d ∷ ds) [] = ⊥
+Near m (d ∷ ds) (l ∷ ls) = (d ≤ l + m) × (l ≤ d + m) × Near m ds ls
 
 pub near-streams-are-equally-long : (m : ℕ) (ds ls : List ℕ) → Near m ds ls → length ds ≡ length ls
 unfolding Near

@@ -11,7 +11,8 @@ use Rattle.timing.specs.declared.Profile.{Profile}
 use Rattle.timing.specs.declared.Class.{Class}
 use Rattle.symbols.specs.Cells.{writtenCells}
 use Rattle.lengths.specs.Stream.{byteStream}
-use Rattle.lengths.specs.Near.{Near, classOfUnits}
+use Rattle.lengths.specs.Units.{classOfUnits}
+use Rattle.lengths.proofs.NearLaws.{Near}
 use Rattle.timing.proofs.ProfileLaws.{Kept}
 use Rattle.timing.proofs.ClassLaws.{class-below-b23-is-two, class-below-b34-is-three, class-below-rpt-is-four}
 use Rattle.timing.proofs.ClassLaws.{classes-of-none, classes-of-cons}

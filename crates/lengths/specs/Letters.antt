@@ -1,4 +1,5 @@
--- The letters of a written byte as a program has them, by the bits of two numbers. No lemmas here.
+-- Machine, not meaning: laws tie it to `writtenBits` (`proofs/LetterLaws`). No lemmas here.
+-- The letters of a written byte as a program has them, by the bits of two numbers.
 use Prim.Native.Nat.{ℕ, _+_, _/_, _%_, _^_}
 use mathlib.Core.Bool.{Bool, cond}
 use lib.Dec.{eqb}

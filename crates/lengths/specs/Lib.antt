@@ -1,6 +1,6 @@
 pub mod Lengths
 pub mod Stream
-pub mod Near
+pub mod Units
 pub mod Margin
 pub mod Claims
 pub mod Pen

@@ -1,5 +1,5 @@
--- The writer's machine: it takes the bits after the lead 0 one by one and gives each length as soon as it is known. No
--- lemmas here. The compare point of a transition depends on the symbol after it, so a length is given one pair late;
+-- Machine, not meaning: laws tie it to Stream (`proofs/PenLaws`: `pen-gives-the-stream`). No lemmas here.
+-- The writer's pen takes the bits after the lead 0 one by one and gives each length as soon as it is known. The compare point of a transition depends on the symbol after it, so a length is given one pair late;
 -- one 0 more than the two closing ones gives the last, since after the last transition the symbol counts as 1.
 use Prim.Native.Nat.{ℕ, _+_, _≤_}
 use mathlib.Core.Path.{_≡_}

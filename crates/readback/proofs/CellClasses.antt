@@ -22,7 +22,7 @@ use Rattle.symbols.proofs.RoundTripLaws.{cells-are-read, read-of-write}
 use Rattle.symbols.proofs.MiddleLaws.{cellsBefore, cells-after-byte}
 use Rattle.symbols.proofs.FormatLaws.{cells-of-zero-bytes, cells-of-mark-A1, gapCells, gapAfter, gap-is-read}
 use Rattle.intervals.proofs.CellLaws.{classOfCell}
-use Rattle.lengths.specs.Near.{classOfUnits}
+use Rattle.lengths.specs.Units.{classOfUnits}
 use Rattle.fields.proofs.GapLaws.{markA1, passes}
 use Rattle.demands.proofs.ClassCells.{classes-of-cells}
 use Rattle.readback.specs.SectorReads.{placeAfter}

@@ -1,4 +1,5 @@
--- What the functions that read the input leave in the buffers that they are lent. No lemmas here.
+-- Machine, not meaning: what the functions that read the input leave in the buffers that they are lent. Input and Line say what
+-- the input means. No lemmas here.
 use Prim.Native.Nat.{ℕ, _+_}
 use mathlib.Core.Path.{_≡_}
 use mathlib.Core.Bool.{Bool, true, false, _&&_}

@@ -1,4 +1,5 @@
--- What the printing functions leave in the output that they are lent. No lemmas here.
+-- Machine, not meaning: what the printing functions leave in the output that they are lent. Output and Program say what is
+-- printed. No lemmas here.
 use Prim.Native.Nat.{ℕ, _≤_}
 use mathlib.Core.Path.{_≡_}
 use mathlib.Core.List.{List}

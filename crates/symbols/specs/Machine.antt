@@ -1,4 +1,5 @@
--- The machine that reads cells one by one: what `Reading` holds after each. No lemmas here.
+-- Machine, not meaning: laws tie it to Reading, Bytes and Strip (`proofs/AnswerLaws`: `strip-by-ran`). No lemmas here.
+-- The machine that reads cells one by one: what `Reading` holds after each.
 -- A byte's bits stand in its register after a 1, so the register also tells how many they are: of eight bits it is
 -- 256 or more.
 use Prim.Native.Nat.{ℕ, _+_, _/_, _%_, _^_}

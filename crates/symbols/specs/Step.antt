@@ -1,4 +1,5 @@
--- One cell more for the machine that reads cells, and what it gives at the end. No lemmas here.
+-- Machine, not meaning: laws tie it to Reading, Bytes and Strip (`proofs/AnswerLaws`: `strip-by-ran`). No lemmas here.
+-- One cell more for the machine that reads cells, and what it gives at the end.
 use Prim.Native.Nat.{ℕ, suc, _+_, _-_, _*_, _%_}
 use mathlib.Core.Bool.{cond, not}
 use mathlib.Core.List.{List, [], _∷_, _++_}

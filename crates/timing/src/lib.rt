@@ -7,7 +7,7 @@ ghost use mathlib.Core.Path.{_≡_};
 ghost use Prim.Native.Nat.{_*_, _<_};
 ghost use Rattle.refusal.specs.Answer.{countedAnswer};
 ghost use Rattle.timing.specs.Numbers.{fromNumbers, numbersOf};
-ghost use Rattle.timing.specs.Class.{classOf, classNumber, classRule};
+ghost use Rattle.timing.specs.Class.{classNumber, classRule};
 
 mod cursor;
 
@@ -98,14 +98,6 @@ pub enum Class {
     Three,
     Four,
     Wide,
-}
-
-// The class of an interval by itself.
-pub fn classify(p: Profile, interval: u16) -> Class
-    ensures { λ r. ⌜ r ≡ classOf p interval ⌝ }
-{
-    let class = Cursor::start(p).step(interval).class;
-    class
 }
 
 impl Class {

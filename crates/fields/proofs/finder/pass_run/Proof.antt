@@ -7,7 +7,7 @@ use borrow.Author.Needs.{needs}
 use lib.ListN.{length}
 use Rattle.timing.specs.Class.{classNumber}
 use Rattle.timing.specs.declared.cursor.Classed.{Classed}
-use Rattle.fields.specs.Lock.{PassesTwos}
+use Rattle.fields.specs.Scan.{PassesTwos}
 use Rattle.fields.proofs.RunLaws.{passes-none, passes-one-more}
 use Rattle.fields.proofs.finder.pass_run.Statement.{statement}
 use Rattle.fields.proofs.finder.pass_run.Tie as tie

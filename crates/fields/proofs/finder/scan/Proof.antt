@@ -8,7 +8,8 @@ use native.Mathlib.Omega.{arith}
 use borrow.Author.Needs.{needs}
 use lib.ListN.{length, drop}
 use Rattle.timing.specs.Class.{classesFrom}
-use Rattle.fields.specs.Lock.{markAhead, PassesTwos}
+use Rattle.fields.specs.Lock.{markAhead}
+use Rattle.fields.specs.Scan.{PassesTwos}
 use Rattle.fields.proofs.LockLaws.{part-to-end}
 use Rattle.fields.proofs.RunLaws.{passes-none, passes-one-more}
 use Turn.{Scan, AtMark, scan-starts, scan-at, scan-breaks, scan-runs-on, scan-ends-adrift, mark-is-missed, mark-is-found}

@@ -17,7 +17,8 @@ use Rattle.timing.specs.declared.Class.the-variants.{Narrow, Two}
 use Rattle.timing.specs.declared.cursor.Cursor.{Cursor}
 use Rattle.timing.specs.declared.cursor.Classed.{Classed}
 use Rattle.timing.proofs.ClassLaws.{classes-here, classes-count}
-use Rattle.fields.specs.Lock.{markAhead, PassesTwos, lockAt, lockFrom}
+use Rattle.fields.specs.Lock.{markAhead, lockAt, lockFrom}
+use Rattle.fields.specs.Scan.{PassesTwos}
 use Rattle.fields.proofs.FinderLaws.{Twos, lock-stands, broken-run-has-no-lock, no-lock-without-mark}
 use Rattle.fields.proofs.FinderLaws.{no-lock-past-end, search-goes-on, broken-run-is-passed}
 use Rattle.fields.proofs.FinderLaws.{longer-run-is-passed, first-64-are-passed}
