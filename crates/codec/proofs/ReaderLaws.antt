@@ -20,7 +20,7 @@ use Rattle.timing.specs.declared.Profile.{Profile}
 use Rattle.timing.proofs.ClassLaws.{classes-length}
 use Rattle.symbols.specs.Reading.{readBits}
 use Rattle.symbols.specs.Strip.{isRagged, isStray, bytesRead, strayPlace, stripRule, stripItems}
-use Rattle.symbols.specs.Machine.{fresh}
+use Rattle.symbols.specs.Machine.{freshReading}
 use Rattle.symbols.specs.Step.{stripAnswer}
 use Rattle.symbols.specs.declared.Cell.{Cell}
 use Rattle.symbols.specs.declared.Reading.{Reading}
@@ -77,12 +77,12 @@ module _ (p : Profile) (ds old : List ℕ) (accepts : profileRule p .number ≡ 
 
   pub stopped-answers
       : (r : Refusal)
-      → Stopped r ≡ scanned 0 fresh (classesOf p ds)
+      → Stopped r ≡ scanned 0 freshReading (classesOf p ds)
       → refused (numberOf r) (placeOf r) ≡ readRule p ds (length old)
   stopped-answers r e =
       refusal-decides r (edgeRule (classesOf p ds)) _ (stopped-is-refused (classesOf p ds) r e) ∙ from-edges
 
-  module _ (m : Reading) (whole : Whole m ≡ scanned 0 fresh (classesOf p ds)) where
+  module _ (m : Reading) (whole : Whole m ≡ scanned 0 freshReading (classesOf p ds)) where
     few-cells : length (cellsRead p ds) ≤ 2 ^ 32
     unfolding cellsRead
     few-cells = let most = cells-at-most-classes (classesOf p ds) in let same = classes-length p ds in omega arith
@@ -99,7 +99,7 @@ module _ (p : Profile) (ds old : List ℕ) (accepts : profileRule p .number ≡ 
         (ap (λ (a : Answer). a .number) (sym (whole-is-accepted (classesOf p ds) m whole))))
         ∙ from-edges
 
-    gathers-items : gathered 0 fresh (classesOf p ds) ≡ items
+    gathers-items : gathered 0 freshReading (classesOf p ds) ≡ items
     unfolding cellsRead itemsOfStream
     gathers-items = whole-gathers (classesOf p ds) m whole ∙ sym (strip-by-ran (cellsRead p ds) few-cells .1)
 
@@ -128,7 +128,7 @@ module _ (p : Profile) (ds old : List ℕ) (accepts : profileRule p .number ≡ 
       pub room-accepts
           : n ≤ length old
           → (stored : List ℕ)
-          → stored ≡ storedAt old 0 (gathered 0 fresh (classesOf p ds))
+          → stored ≡ storedAt old 0 (gathered 0 freshReading (classesOf p ds))
           → (accepted n ≡ readRule p ds (length old)) × (stored ≡ readOutput p ds old)
       unfolding readOutput
       room-accepts h stored e =

@@ -10,8 +10,8 @@ use Rattle.refusal.specs.Answer.{Answer, accepted, refused}
 use Rattle.refusal.specs.declared.Refusal.{Refusal}
 use Rattle.timing.specs.declared.Class.{Class}
 use Rattle.timing.specs.declared.Class.the-variants.{Narrow, Two, Three, Four, Wide}
-use Rattle.symbols.specs.Machine.{fresh}
-use Rattle.symbols.specs.Step.{stepped, ran, ranItems, itemsOf, stripAnswer}
+use Rattle.symbols.specs.Machine.{freshReading}
+use Rattle.symbols.specs.Step.{stepped, ran, ranItems, itemClosed, stripAnswer}
 use Rattle.symbols.specs.declared.Cell.the-variants.{Short, Medium, Long}
 use Rattle.symbols.specs.declared.Reading.{Reading}
 use Rattle.intervals.specs.Cells.{edgeRule, edgeRuleFrom, cellsOfClasses}
@@ -35,13 +35,13 @@ scan-answers-edge-rule k m (Wide ∷ cs) = refl
 
 -- a pass that stopped gives the rule's refusal, and one that did not its acceptance
 pub stopped-is-refused
-    : (cs : List Class) (r : Refusal) → Stopped r ≡ scanned 0 fresh cs → refused (numberOf r) (placeOf r) ≡ edgeRule cs
+    : (cs : List Class) (r : Refusal) → Stopped r ≡ scanned 0 freshReading cs → refused (numberOf r) (placeOf r) ≡ edgeRule cs
 unfolding edgeRule
-stopped-is-refused cs r e = ap answerOf e ∙ scan-answers-edge-rule 0 fresh cs
+stopped-is-refused cs r e = ap answerOf e ∙ scan-answers-edge-rule 0 freshReading cs
 
-pub whole-is-accepted : (cs : List Class) (m : Reading) → Whole m ≡ scanned 0 fresh cs → accepted 0 ≡ edgeRule cs
+pub whole-is-accepted : (cs : List Class) (m : Reading) → Whole m ≡ scanned 0 freshReading cs → accepted 0 ≡ edgeRule cs
 unfolding edgeRule
-whole-is-accepted cs m e = ap answerOf e ∙ scan-answers-edge-rule 0 fresh cs
+whole-is-accepted cs m e = ap answerOf e ∙ scan-answers-edge-rule 0 freshReading cs
 
 -- a whole pass is the machine's run over the cells
 whole-is-run-from
@@ -54,8 +54,8 @@ whole-is-run-from k m n (Three ∷ cs) e = whole-is-run-from (suc k) (stepped m 
 whole-is-run-from k m n (Four ∷ cs) e = whole-is-run-from (suc k) (stepped m Long k) n cs e
 whole-is-run-from k m n (Wide ∷ cs) e = absurd (let z : _≡_ {A = ℕ} 0 1 = cc in omega arith)
 
-pub whole-is-run : (cs : List Class) (m : Reading) → Whole m ≡ scanned 0 fresh cs → m ≡ ran fresh 0 (cellsOfClasses cs)
-whole-is-run cs m e = whole-is-run-from 0 fresh m cs e
+pub whole-is-run : (cs : List Class) (m : Reading) → Whole m ≡ scanned 0 freshReading cs → m ≡ ran freshReading 0 (cellsOfClasses cs)
+whole-is-run cs m e = whole-is-run-from 0 freshReading m cs e
 
 -- and what it gathers is what the run gives
 whole-gathers-from
@@ -66,18 +66,18 @@ unfolding scanned gathered ranItems cellsOfClasses
 whole-gathers-from k m n [] e = refl
 whole-gathers-from k m n (Narrow ∷ cs) e = absurd (let z : _≡_ {A = ℕ} 0 1 = cc in omega arith)
 whole-gathers-from k m n (Two ∷ cs) e =
-    ap (λ (l : List ℕ). itemsOf (stepped m Short k) ++ l) (whole-gathers-from (suc k) (stepped m Short k) n cs e)
+    ap (λ (l : List ℕ). itemClosed (stepped m Short k) ++ l) (whole-gathers-from (suc k) (stepped m Short k) n cs e)
 whole-gathers-from k m n (Three ∷ cs) e =
-    ap (λ (l : List ℕ). itemsOf (stepped m Medium k) ++ l) (whole-gathers-from (suc k) (stepped m Medium k) n cs e)
+    ap (λ (l : List ℕ). itemClosed (stepped m Medium k) ++ l) (whole-gathers-from (suc k) (stepped m Medium k) n cs e)
 whole-gathers-from k m n (Four ∷ cs) e =
-    ap (λ (l : List ℕ). itemsOf (stepped m Long k) ++ l) (whole-gathers-from (suc k) (stepped m Long k) n cs e)
+    ap (λ (l : List ℕ). itemClosed (stepped m Long k) ++ l) (whole-gathers-from (suc k) (stepped m Long k) n cs e)
 whole-gathers-from k m n (Wide ∷ cs) e = absurd (let z : _≡_ {A = ℕ} 0 1 = cc in omega arith)
 
 pub whole-gathers
     : (cs : List Class) (m : Reading)
-    → Whole m ≡ scanned 0 fresh cs
-    → gathered 0 fresh cs ≡ ranItems fresh 0 (cellsOfClasses cs)
-whole-gathers cs m e = whole-gathers-from 0 fresh m cs e
+    → Whole m ≡ scanned 0 freshReading cs
+    → gathered 0 freshReading cs ≡ ranItems freshReading 0 (cellsOfClasses cs)
+whole-gathers cs m e = whole-gathers-from 0 freshReading m cs e
 
 -- ---- what a whole strip reads as, by the machine at its end
 

@@ -4,7 +4,7 @@ use Prim.Native.Nat.{ℕ, suc}
 use mathlib.Core.List.{List, [], _∷_, _++_}
 use Rattle.refusal.specs.declared.Refusal.the-variants.{IntervalTooShort, IntervalTooLong}
 use Rattle.timing.specs.declared.Class.{Class}
-use Rattle.symbols.specs.Step.{stepped, itemsOf}
+use Rattle.symbols.specs.Step.{stepped, itemClosed}
 use Rattle.symbols.specs.declared.Cell.{Cell}
 use Rattle.symbols.specs.declared.Reading.{Reading}
 use Rattle.intervals.specs.Cells.{byClass}
@@ -24,4 +24,4 @@ scanned k m (c ∷ cs) =
 unfoldable pub gathered : ℕ → Reading → List Class → List ℕ
 gathered k m [] = []
 gathered k m (c ∷ cs) =
-    byClass c [] (λ (x : Cell). itemsOf (stepped m x k) ++ gathered (suc k) (stepped m x k) cs) []
+    byClass c [] (λ (x : Cell). itemClosed (stepped m x k) ++ gathered (suc k) (stepped m x k) cs) []

@@ -6,7 +6,7 @@ ghost use Rattle.lists.specs.Filled.{storedAt};
 ghost use Rattle.refusal.specs.Answer.{countedAnswer};
 ghost use Rattle.timing.specs.Profile.{profileRule};
 ghost use Rattle.timing.specs.Class.{classesOf};
-ghost use Rattle.symbols.specs.Machine.{fresh};
+ghost use Rattle.symbols.specs.Machine.{freshReading};
 ghost use Rattle.symbols.specs.Step.{stripAnswer};
 ghost use Rattle.codec.specs.Scan.{scanned, gathered};
 ghost use Rattle.codec.specs.Reader.{readRule, readOutput};
@@ -34,9 +34,9 @@ pub enum Scan {
 // One pass over a strip of at most 51,202 intervals: the items that have room are stored from the front on.
 fn pass_over(p: Profile, intervals: &[u16], out: &mut [u16]) -> Scan
     requires { ⌜ length (now intervals) ≤ 51202 ⌝ }
-    ensures scan { λ r. ⌜ r ≡ scanned 0 fresh (classesOf p (now (intervals .entry))) ⌝ }
+    ensures scan { λ r. ⌜ r ≡ scanned 0 freshReading (classesOf p (now (intervals .entry))) ⌝ }
     ensures output { λ _. ⌜
-        now (out .exit) ≡ storedAt (now (out .entry)) 0 (gathered 0 fresh (classesOf p (now (intervals .entry)))) ⌝ }
+        now (out .exit) ≡ storedAt (now (out .entry)) 0 (gathered 0 freshReading (classesOf p (now (intervals .entry)))) ⌝ }
 {
     let mut m = Reading::new();
     let mut cursor = Cursor::start(p);

@@ -48,11 +48,11 @@ fn write_part(p: Profile, start: Part, items: &[u16], out: &mut [u16]) -> Part
 }
 
 // The place after the 64 items from k on, or after as many as there are.
-fn part_end(k: usize, length: usize) -> usize
-    requires { ⌜ k < length ⌝ }
-    ensures { λ r. ⌜ r ≡ min (k + 64) length ⌝ }
+fn part_end(k: usize, end: usize) -> usize
+    requires { ⌜ k < end ⌝ }
+    ensures { λ r. ⌜ r ≡ min (k + 64) end ⌝ }
 {
-    if length - k <= 64 { length } else { k + 64 }
+    if end - k <= 64 { end } else { k + 64 }
 }
 
 // The bits of a list's written bytes, from the front of the output on.

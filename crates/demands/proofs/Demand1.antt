@@ -29,7 +29,7 @@ use Rattle.fields.specs.Field.{fieldStop, fieldStray, fieldStrayPlace}
 use Rattle.fields.specs.FieldRule.{gatherRule, deliverRule, checkedRule, fieldRule}
 use Rattle.fields.proofs.FirstLockLaws.{lock-from-found, adrift-has-no-lock}
 use Rattle.sectors.specs.Sector.{isMisfit, sectorItems, sectorRule}
-use Rattle.demands.specs.Order.{Order, accept, turn, at0, InTurn, numbersOf, Answers}
+use Rattle.demands.specs.Order.{Order, accept, turn, at0, InTurn, orderNumbers, Answers}
 use Rattle.demands.specs.Causes.{profileOrder, writerOrder, stripOrder, finderOrder, fieldOrder, makerOrder}
 use Rattle.demands.specs.Demand1.{Demand1}
 use Rattle.demands.proofs.OrderLaws.{turn-by-test, turn-before, means-itself, means-below, means-not}
@@ -54,11 +54,11 @@ unfolding InTurn
 accepted-in-turn n = refl
 
 margin : (p : Profile) → Answers (profileOrder p accept) (marginRule p)
-unfolding marginRule numbersOf everywhere
+unfolding marginRule orderNumbers everywhere
 margin p = answers refl (profile-in-turn p accept (accepted (marginOf p)) (accepted-in-turn (marginOf p)))
 
 class : (p : Profile) (d : ℕ) → Answers (profileOrder p accept) (classRule p d)
-unfolding classRule numbersOf everywhere
+unfolding classRule orderNumbers everywhere
 class p d =
     let n = classNumber (classOf p d) in
     answers refl (profile-in-turn p accept (accepted n) (accepted-in-turn n))
@@ -66,7 +66,7 @@ class p d =
 -- ---- writer
 
 writer : (p : Profile) (items : List ℕ) (room : ℕ) → Answers (writerOrder p items room) (writeRule p items room)
-unfolding writeRule listRule streamRule streamOf numbersOf everywhere
+unfolding writeRule listRule streamRule streamOf orderNumbers everywhere
 writer p items room =
     let stream = byteStream p (written items) in
     answers refl
@@ -81,7 +81,7 @@ writer p items room =
 maker
     : (track side sector code : ℕ) (bytes : List ℕ) (room : ℕ)
     → Answers (makerOrder track side sector code bytes room) (sectorRule track side sector code bytes room)
-unfolding sectorRule numbersOf everywhere
+unfolding sectorRule orderNumbers everywhere
 maker track side sector code bytes room =
     let n = length (sectorItems track side sector code bytes) in
     answers refl
@@ -91,7 +91,7 @@ maker track side sector code bytes room =
 -- ---- strip reader
 
 strip-reader : (p : Profile) (ds : List ℕ) (room : ℕ) → Answers (stripOrder p ds room) (readRule p ds room)
-unfolding readRule stripRule numbersOf everywhere
+unfolding readRule stripRule orderNumbers everywhere
 strip-reader p ds room =
     let bits = readBits (cellsRead p ds) in
     let n = length (itemsOfStream p ds) in
@@ -118,7 +118,7 @@ room-for-its-list-is-enough p ds room enough =
 -- ---- field reader
 
 field-reader : (p : Profile) (ds : List ℕ) (n room : ℕ) → Answers (fieldOrder p ds n room) (fieldRule p ds n room)
-unfolding fieldRule checkedRule gatherRule deliverRule numbersOf everywhere
+unfolding fieldRule checkedRule gatherRule deliverRule orderNumbers everywhere
 field-reader p ds n room =
     let cs = classesOf p ds in
     answers refl
@@ -166,7 +166,7 @@ lock-in-turn cs start =
     (lock-or-adrift cs (length cs - 0) 0)
 
 finder : (p : Profile) (ds : List ℕ) (start : ℕ) → Answers (finderOrder p ds start) (findRule p ds start)
-unfolding findRule searchRule numbersOf everywhere
+unfolding findRule searchRule orderNumbers everywhere
 finder p ds start = answers refl (profile-in-turn p _ _ (lock-in-turn (classesOf p (drop start ds)) start))
 
 pub demand-1 : Demand1

@@ -16,7 +16,7 @@ use Rattle.lists.proofs.PlaceLaws.{everywhere-passes-at-first, everywhere-in-re
 use Rattle.lists.proofs.StoreLaws.{front-of-filled}
 use Rattle.refusal.specs.Answer.{Answer, refuseIf, firstRefusal, settled}
 use Rattle.refusal.proofs.AnswerLaws.{acceptance-fills-the-buffer}
-use Rattle.demands.specs.Order.{Order, accept, turn, at0, Nowhere, InTurn, NoCause, numbersOf, OneOf, Answers}
+use Rattle.demands.specs.Order.{Order, accept, turn, at0, Nowhere, InTurn, NoCause, orderNumbers, OneOf, Answers}
 use Rattle.demands.specs.Order.{Lent}
 
 -- ---- a test in its turn
@@ -100,8 +100,8 @@ means-at false place = record { holds = λ e. absurd (false≢true e); fails = �
 
 -- ---- all that an answer in turn says
 
-named : (order : Order) (a : Answer) → InTurn order a → OneOf (a .number) (0 ∷ numbersOf order)
-unfolding InTurn OneOf numbersOf
+named : (order : Order) (a : Answer) → InTurn order a → OneOf (a .number) (0 ∷ orderNumbers order)
+unfolding InTurn OneOf orderNumbers
 named accept a e = inl e
 named (turn n Cause later) a q =
     ⊎-elim
@@ -120,22 +120,22 @@ accepted-if-no-cause (turn n Cause later) a q none =
 
 no-cause-if-accepted
     : (order : Order) (a : Answer)
-    → everywhere (ltb 0) (numbersOf order) ≡ true
+    → everywhere (ltb 0) (orderNumbers order) ≡ true
     → InTurn order a
     → a .number ≡ 0
     → NoCause order
-unfolding InTurn NoCause numbersOf
+unfolding InTurn NoCause orderNumbers
 no-cause-if-accepted accept a positive q e = tt
 no-cause-if-accepted (turn n Cause later) a positive q e =
-    let some = ltb-true 0 n (everywhere-passes-at-first (ltb 0) n (numbersOf later) positive) in
+    let some = ltb-true 0 n (everywhere-passes-at-first (ltb 0) n (orderNumbers later) positive) in
     ⊎-elim
     (λ here. absurd (let same = here .1 in omega arith))
-    (λ on. (on .0, no-cause-if-accepted later a (everywhere-in-rest (ltb 0) n (numbersOf later) positive) (on .1) e))
+    (λ on. (on .0, no-cause-if-accepted later a (everywhere-in-rest (ltb 0) n (orderNumbers later) positive) (on .1) e))
     q
 
 pub answers
     : {order : Order} {a : Answer}
-    → everywhere (ltb 0) (numbersOf order) ≡ true
+    → everywhere (ltb 0) (orderNumbers order) ≡ true
     → InTurn order a
     → Answers order a
 answers {order} {a} positive q =

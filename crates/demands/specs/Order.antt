@@ -32,9 +32,9 @@ NoCause accept = Unit
 NoCause (turn n Cause later) = Nowhere Cause × NoCause later
 
 -- the numbers that an order names
-unfoldable pub numbersOf : Order → List ℕ
-numbersOf accept = []
-numbersOf (turn n Cause later) = n ∷ numbersOf later
+unfoldable pub orderNumbers : Order → List ℕ
+orderNumbers accept = []
+orderNumbers (turn n Cause later) = n ∷ orderNumbers later
 
 unfoldable pub OneOf : ℕ → List ℕ → Type 0
 OneOf n [] = ⊥
@@ -45,7 +45,7 @@ pub record Answers (order : Order) (answer : Answer) : Type 0 where
   -- each cause has its number, its place and its turn
   pub in-turn : InTurn order answer
   -- no number but those that the order names
-  pub named : OneOf (answer .number) (0 ∷ numbersOf order)
+  pub named : OneOf (answer .number) (0 ∷ orderNumbers order)
   -- accepted: every other input, and no other
   pub accepted-if-no-cause : NoCause order → answer .number ≡ 0
   pub no-cause-if-accepted : answer .number ≡ 0 → NoCause order

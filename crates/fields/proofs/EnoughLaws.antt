@@ -10,9 +10,11 @@ use Rattle.timing.specs.declared.Class.{Class}
 use Rattle.symbols.specs.Bits.{Bit}
 use Rattle.symbols.specs.Reading.{given, lastAfter, readFrom}
 use Rattle.symbols.specs.declared.Cell.{Cell}
+use Rattle.symbols.proofs.CellLaws.{given-at-most-two}
+use Rattle.symbols.proofs.UnitLaws.{given-at-least-one}
 use Rattle.intervals.proofs.CellLaws.{by-each-class, classOfCell, cell-is-read}
 use Rattle.fields.specs.Field.{wantedAfter, cellsTaken, stopFrom}
-use Rattle.fields.proofs.TakenLaws.{given-at-least-one, given-at-most-two, read-one-more, read-none}
+use Rattle.fields.proofs.TakenLaws.{read-one-more, read-none}
 use Rattle.fields.proofs.TakenLaws.{taken-one-more, stop-one-more, taken-none, stop-none}
 
 -- ---- as many bits as are wanted, or one more

@@ -15,7 +15,7 @@ use Rattle.symbols.specs.Bits.{Bit, O}
 use Rattle.symbols.specs.Bytes.{itemOf, rowsOf, straysOf, isGap, itemsRead, straysRead}
 use Rattle.symbols.specs.Reading.{readBits, sources}
 use Rattle.symbols.specs.Strip.{isStray, strayPlace}
-use Rattle.symbols.specs.Machine.{fresh}
+use Rattle.symbols.specs.Machine.{freshReading}
 use Rattle.symbols.specs.Step.{ran}
 use Rattle.symbols.proofs.PlaceLaws.{rows-append, rows-of-few}
 use Rattle.symbols.proofs.UnitLaws.{cells-at-most-bits}
@@ -86,9 +86,9 @@ module _ (cs : List Class) (n : ℕ) (whole : fieldStop cs n .number ≡ 0) wher
       let enough = field-bits-enough .enough in
       let one-over = field-bits-enough .one-over in
       let few = cells-at-most-bits O cells in
-      let reads = reads-ran fresh [] cells reads-fresh (omega arith) in
-      let rows = reads-rows (ran fresh 0 cells) cells reads in
-      let count = reads-items-count (ran fresh 0 cells) cells reads in
+      let reads = reads-ran freshReading [] cells reads-fresh (omega arith) in
+      let rows = reads-rows (ran freshReading 0 cells) cells reads in
+      let count = reads-items-count (ran freshReading 0 cells) cells reads in
       ap length field-items-of-cells ∙ count ∙ omega arith
 
 -- the intervals used are the least number whose bits are the lead and n bytes or more

@@ -3,6 +3,7 @@
 use Prim.Native.Nat.{ℕ, zero, suc, _≤_}
 use mathlib.Core.Path.{_≡_}
 use mathlib.Core.Bool.{Bool, true, false, cond, _||_, true≢false}
+use mathlib.Mathlib.Data.Bool.Basic.{or-eq-false-eq-eq-false-and-eq-false}
 use mathlib.Core.List.{List, [], _∷_}
 use native.Mathlib.Omega.{arith}
 use borrow.Author.Tests.{ltb-false}
@@ -24,10 +25,6 @@ use Rattle.fields.specs.Field.{wantedAfter, bitsWanted, cellsTaken, fiel
 use Rattle.fields.specs.FieldRule.{FieldAnswer, fieldTurnedAway, checkedRule, checkedReading}
 use Rattle.fields.specs.FieldRule.{checkedOutput, fieldRule, fieldReading, fieldOutput}
 use Rattle.fields.proofs.TakenLaws.{taken-one-more}
-
-or-false-right : (a b : Bool) → (a || b) ≡ false → b ≡ false
-or-false-right true b h = absurd (true≢false h)
-or-false-right false b h = h
 
 module _ (p : Profile) (ds : List ℕ) (n : ℕ) (old : List ℕ) where
   abbrev Settles : FieldAnswer → List ℕ → Type 0
@@ -57,7 +54,7 @@ module _ (p : Profile) (ds : List ℕ) (n : ℕ) (old : List ℕ) where
     checked-settles h = (rw (← fair, h), rw (← fair, h))
 
 pub count-in-range : (n : ℕ) → outside 1 1030 n ≡ false → n ≤ 1030
-count-in-range n h = ltb-false 1030 n (or-false-right (ltb n 1) (ltb 1030 n) h)
+count-in-range n h = ltb-false 1030 n (or-eq-false-eq-eq-false-and-eq-false (ltb n 1) (ltb 1030 n) .0 h .1)
 
 -- ---- the used intervals are in the list
 

@@ -7,14 +7,14 @@ use native.Mathlib.Omega.{arith}
 use lib.ListN.{length, take}
 use Rattle.refusal.specs.Answer.{Answer, accepted}
 use Rattle.timing.specs.declared.Class.{Class}
-use Rattle.symbols.specs.Bits.{Bit, O, I, G}
+use Rattle.symbols.specs.Bits.{Bit}
 use Rattle.symbols.specs.Reading.{given, lastAfter, readFrom}
 use Rattle.symbols.specs.declared.Cell.{Cell}
-use Rattle.symbols.specs.declared.Cell.the-variants.{Short, Medium, Long}
+use Rattle.symbols.proofs.UnitLaws.{given-at-least-one}
 use Rattle.intervals.proofs.CellLaws.{ReadAs, by-each-class, by-class-read}
 use Rattle.fields.specs.Field.{wantedAfter, cellsTaken, stopFrom}
 
--- ---- a cell gives one bit or two
+-- ---- one cell more
 
 pub read-one-more
     : (b : Bit) (c : Cell) (cs : List Cell) → readFrom b (c ∷ cs) ≡ given b c ++ readFrom (lastAfter b c) cs
@@ -24,30 +24,6 @@ read-one-more b c cs = refl
 pub read-none : (b : Bit) → readFrom b [] ≡ []
 unfolding readFrom
 read-none b = refl
-
-pub given-at-least-one : (b : Bit) (c : Cell) → 1 ≤ length (given b c)
-unfolding given
-given-at-least-one O Short = omega arith
-given-at-least-one O Medium = omega arith
-given-at-least-one O Long = omega arith
-given-at-least-one I Short = omega arith
-given-at-least-one I Medium = omega arith
-given-at-least-one I Long = omega arith
-given-at-least-one G Short = omega arith
-given-at-least-one G Medium = omega arith
-given-at-least-one G Long = omega arith
-
-pub given-at-most-two : (b : Bit) (c : Cell) → length (given b c) ≤ 2
-unfolding given
-given-at-most-two O Short = omega arith
-given-at-most-two O Medium = omega arith
-given-at-most-two O Long = omega arith
-given-at-most-two I Short = omega arith
-given-at-most-two I Medium = omega arith
-given-at-most-two I Long = omega arith
-given-at-most-two G Short = omega arith
-given-at-most-two G Medium = omega arith
-given-at-most-two G Long = omega arith
 
 -- ---- one interval more
 

@@ -27,7 +27,7 @@ use Rattle.symbols.specs.Bytes.{itemsRead, straysRead}
 use Rattle.symbols.specs.Strip.{isStray}
 use Rattle.symbols.specs.declared.Cell.{Cell}
 use Rattle.symbols.proofs.BytesLaws.{length-of-bits, items-of-whole-bytes, whole-bytes-have-no-stray}
-use Rattle.symbols.proofs.MiddleLaws.{bits-append}
+use Rattle.symbols.proofs.BytesLaws.{bits-of-append}
 use Rattle.symbols.proofs.ReadingLaws.{read-append, last-of-snoc, beginsWithOne, no-one-after-zero}
 use Rattle.intervals.proofs.CellLaws.{classOfCell}
 use Rattle.fields.specs.Field.{bitsWanted, fieldStop, fieldCells, fieldUsed, fieldBits}
@@ -58,7 +58,7 @@ module _ (us vs : List ℕ) (xs : List Cell) (reads : readBits xs ≡ O ∷ allB
   bits-in-front : readBits xs ≡ (O ∷ allBits us) ++ (allBits vs ++ (O ∷ []))
   bits-in-front =
       reads
-      ∙ ap (λ (bs : List Bit). O ∷ bs ++ (O ∷ [])) (bits-append us vs)
+      ∙ ap (λ (bs : List Bit). O ∷ bs ++ (O ∷ [])) (bits-of-append us vs)
       ∙ ap (λ (bs : List Bit). O ∷ bs) (append-assoc (allBits us) (allBits vs) (O ∷ []))
 
   front-length : length (O ∷ allBits us) ≡ bitsWanted n

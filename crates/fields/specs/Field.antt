@@ -7,7 +7,7 @@ use lib.ListN.{length, getD, take}
 use Rattle.lists.specs.Place.{anywhere, lowest, passed}
 use Rattle.refusal.specs.Answer.{Answer, accepted, refused}
 use Rattle.timing.specs.declared.Class.{Class}
-use Rattle.items.specs.Written.{fresh, afterBytes}
+use Rattle.items.specs.Written.{freshCheck, afterBytes}
 use Rattle.symbols.specs.Bits.{Bit, O}
 use Rattle.symbols.specs.Reading.{given, lastAfter, readBits, sources}
 use Rattle.symbols.specs.Bytes.{itemsRead, straysRead}
@@ -60,7 +60,7 @@ fieldItems cs n = itemsRead (fieldBits cs n)
 
 -- the register is zero after items
 unfoldable pub holdsAfter : List ℕ → Bool
-holdsAfter items = eqb (afterBytes fresh items .register) 0
+holdsAfter items = eqb (afterBytes freshCheck items .register) 0
 
 unfoldable pub fieldHolds : List Class → ℕ → Bool
 fieldHolds cs n = holdsAfter (fieldItems cs n)

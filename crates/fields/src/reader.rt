@@ -149,10 +149,6 @@ pub fn read_rest<'a>(p: Profile, intervals: &'a [u16], n: usize, out: &mut [u16]
 {
     match read_field(p, intervals, n, out) {
         FieldRead::Refused(_) => intervals,
-        FieldRead::Field {
-            count: _,
-            used,
-            holds: _,
-        } => &intervals[used..],
+        FieldRead::Field { used, .. } => &intervals[used..],
     }
 }

@@ -2,7 +2,7 @@
 use mathlib.Core.Path.{refl}
 use mathlib.Core.List.{[]}
 use native.Mathlib.Omega.{arith}
-use Rattle.fifo.specs.State.{fresh}
+use Rattle.fifo.specs.State.{freshFifo}
 use Rattle.fifo.specs.Runs.{firstFault}
 use Rattle.fifo.specs.Claims.{FifoLaw}
 use Rattle.fifo.proofs.RunLaws.{run-keeps-mode, run-keeps-items, run-holds-at-most-two, run-keeps-first-fault}
@@ -11,8 +11,8 @@ pub fifo-law : FifoLaw
 unfolding firstFault
 fifo-law =
     record {
-      one-mode = λ m os. run-keeps-mode (fresh m) os;
-      in-order = λ m os. run-keeps-items (fresh m) os;
-      at-most-two = λ m os. run-holds-at-most-two (fresh m) os (omega arith);
-      first-fault = λ m os. run-keeps-first-fault [] (fresh m) os refl;
+      one-mode = λ m os. run-keeps-mode (freshFifo m) os;
+      in-order = λ m os. run-keeps-items (freshFifo m) os;
+      at-most-two = λ m os. run-holds-at-most-two (freshFifo m) os (omega arith);
+      first-fault = λ m os. run-keeps-first-fault [] (freshFifo m) os refl;
     }

@@ -13,7 +13,7 @@ use Rattle.fifo.specs.Sides.{Side, Processor, Chip, puts, takes, faultBi
 use Rattle.fifo.specs.Rules.{withBit, withItems, isFull, gives, foreign}
 use Rattle.fifo.specs.Rules.{putting, taking, putRule, takeRule, ruleOf}
 use Rattle.fifo.specs.Rules.{Operation, Put, TakeData, TakeMark, ChipPut, ChipTake, ReadError}
-use Rattle.fifo.specs.Runs.{ran, acceptedBy, isEmpty, takenBy, itemsAccepted, itemsTaken}
+use Rattle.fifo.specs.Runs.{stateAfter, acceptedBy, isEmpty, takenBy, itemsAccepted, itemsTaken}
 use Rattle.fifo.specs.Runs.{faultOfTake, faultOf, readsRegister, faultsSince, firstFault}
 use Rattle.fifo.proofs.StateLaws.{no-bit-keeps-register}
 
@@ -76,14 +76,14 @@ operation-keeps (ChipPut n) s = put-keeps (s .mode) (s .error) Chip (puts (s .mo
 operation-keeps ChipTake s = take-keeps (s .mode) (s .error) Chip (takes (s .mode) Chip) noBit (s .items)
 operation-keeps ReadError s = record { mode = refl; items = append-nil (s .items); few = λ h. h; error = refl }
 
-pub run-keeps-mode : (s : State) (os : List Operation) → ran s os .mode ≡ s .mode
-unfolding ran
+pub run-keeps-mode : (s : State) (os : List Operation) → stateAfter s os .mode ≡ s .mode
+unfolding stateAfter
 run-keeps-mode s [] = refl
 run-keeps-mode s (o ∷ os) = run-keeps-mode (ruleOf o s .next) os ∙ operation-keeps o s .mode
 
 pub run-keeps-items : (s : State) (os : List Operation)
-    → s .items ++ itemsAccepted s os ≡ itemsTaken s os ++ ran s os .items
-unfolding ran itemsAccepted itemsTaken
+    → s .items ++ itemsAccepted s os ≡ itemsTaken s os ++ stateAfter s os .items
+unfolding stateAfter itemsAccepted itemsTaken
 run-keeps-items s [] = append-nil (s .items)
 run-keeps-items s (o ∷ os) =
     let next = ruleOf o s .next in
@@ -91,10 +91,10 @@ run-keeps-items s (o ∷ os) =
     ∙ ap (λ (ns : List ℕ). ns ++ itemsAccepted next os) (operation-keeps o s .items)
     ∙ append-assoc (takenBy o s) (next .items) (itemsAccepted next os)
     ∙ ap (λ (ns : List ℕ). takenBy o s ++ ns) (run-keeps-items next os)
-    ∙ sym (append-assoc (takenBy o s) (itemsTaken next os) (ran next os .items))
+    ∙ sym (append-assoc (takenBy o s) (itemsTaken next os) (stateAfter next os .items))
 
-pub run-holds-at-most-two : (s : State) (os : List Operation) → length (s .items) ≤ 2 → length (ran s os .items) ≤ 2
-unfolding ran
+pub run-holds-at-most-two : (s : State) (os : List Operation) → length (s .items) ≤ 2 → length (stateAfter s os .items) ≤ 2
+unfolding stateAfter
 run-holds-at-most-two s [] h = h
 run-holds-at-most-two s (o ∷ os) h = run-holds-at-most-two (ruleOf o s .next) os (operation-keeps o s .few h)
 
@@ -116,8 +116,8 @@ register-holds-first-fault true e fs f h = refl
 register-holds-first-fault false e fs f h = rw h (sym (first-fault-of-one-more fs f))
 
 pub run-keeps-first-fault : (fs : List ℕ) (s : State) (os : List Operation) → s .error ≡ firstFault fs
-    → ran s os .error ≡ firstFault (faultsSince fs s os)
-unfolding ran faultsSince
+    → stateAfter s os .error ≡ firstFault (faultsSince fs s os)
+unfolding stateAfter faultsSince
 run-keeps-first-fault fs s [] h = h
 run-keeps-first-fault fs s (o ∷ os) h =
     run-keeps-first-fault (cond (readsRegister o) [] (fs ++ (faultOf o s ∷ []))) (ruleOf o s .next) os

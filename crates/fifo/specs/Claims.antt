@@ -3,18 +3,18 @@ use Prim.Native.Nat.{_≤_}
 use mathlib.Core.Path.{_≡_}
 use mathlib.Core.List.{List, [], _++_}
 use lib.ListN.{length}
-use Rattle.fifo.specs.State.{Mode, fresh}
+use Rattle.fifo.specs.State.{Mode, freshFifo}
 use Rattle.fifo.specs.Rules.{Operation}
-use Rattle.fifo.specs.Runs.{ran, itemsAccepted, itemsTaken, faultsSince, firstFault}
+use Rattle.fifo.specs.Runs.{stateAfter, itemsAccepted, itemsTaken, faultsSince, firstFault}
 
 pub record FifoLaw : Type 0 where
   -- the mode stays as it was chosen
-  pub one-mode : (m : Mode) (os : List Operation) → ran (fresh m) os .mode ≡ m
+  pub one-mode : (m : Mode) (os : List Operation) → stateAfter (freshFifo m) os .mode ≡ m
   -- first in, first out: the items accepted are those taken and then those still held, in order
   pub in-order : (m : Mode) (os : List Operation)
-      → itemsAccepted (fresh m) os ≡ itemsTaken (fresh m) os ++ ran (fresh m) os .items
+      → itemsAccepted (freshFifo m) os ≡ itemsTaken (freshFifo m) os ++ stateAfter (freshFifo m) os .items
   -- at most two items are held
-  pub at-most-two : (m : Mode) (os : List Operation) → length (ran (fresh m) os .items) ≤ 2
+  pub at-most-two : (m : Mode) (os : List Operation) → length (stateAfter (freshFifo m) os .items) ≤ 2
   -- the register holds the first fault since it was last read
   pub first-fault : (m : Mode) (os : List Operation)
-      → ran (fresh m) os .error ≡ firstFault (faultsSince [] (fresh m) os)
+      → stateAfter (freshFifo m) os .error ≡ firstFault (faultsSince [] (freshFifo m) os)

@@ -50,8 +50,8 @@ unfoldable pub takeRule : Side → ℕ → State → Outcome
 takeRule side mark s = cond (takes (s .mode) side) (taking (faultBit side) mark (s .items) s) (gives 0 s)
 
 -- the register is read, which clears it
-abbrev pub readRule : State → Outcome
-readRule s = gives (s .error) (record { mode = s .mode; items = s .items; error = 0 })
+abbrev pub readErrorRule : State → Outcome
+readErrorRule s = gives (s .error) (record { mode = s .mode; items = s .items; error = 0 })
 
 -- the processor puts, and takes at the data and at the mark location; the chip puts and takes; the register is read
 pub data Operation : Type 0 where
@@ -67,4 +67,4 @@ ruleOf TakeData s = takeRule Processor markBit s
 ruleOf TakeMark s = takeRule Processor noBit s
 ruleOf (ChipPut n) s = putRule Chip n s
 ruleOf ChipTake s = takeRule Chip noBit s
-ruleOf ReadError s = readRule s
+ruleOf ReadError s = readErrorRule s

@@ -10,9 +10,9 @@ use Rattle.fifo.specs.Rules.{isFull, ruleOf}
 use Rattle.fifo.specs.Rules.{Operation, Put, TakeData, TakeMark, ChipPut, ChipTake, ReadError}
 
 -- the state after the operations
-unfoldable pub ran : State → List Operation → State
-ran s [] = s
-ran s (o ∷ os) = ran (ruleOf o s .next) os
+unfoldable pub stateAfter : State → List Operation → State
+stateAfter s [] = s
+stateAfter s (o ∷ os) = stateAfter (ruleOf o s .next) os
 
 -- an item is accepted if the mode gives the put to that side, the number is an item, and there is room
 abbrev pub acceptedFrom : Side → ℕ → State → List ℕ

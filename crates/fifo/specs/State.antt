@@ -24,21 +24,21 @@ pub record Outcome : Type 0 where
   pub answer : Answer
   pub next : State
 
--- empty and with register 0 when fresh
-abbrev pub fresh : Mode → State
-fresh m = record { mode = m; items = []; error = 0 }
+-- empty and with register 0 when freshFifo
+abbrev pub freshFifo : Mode → State
+freshFifo m = record { mode = m; items = []; error = 0 }
 
 -- 0 is write mode, any other number read mode
 unfoldable pub modeOf : ℕ → Mode
 modeOf n = cond (eqb n 0) WriteMode ReadMode
 
 -- 0 is empty, 1 one item, any other number two
-unfoldable pub itemsOf : ℕ → ℕ → ℕ → List ℕ
-itemsOf held first second = cond (eqb held 0) [] (cond (eqb held 1) (first ∷ []) (first ∷ second ∷ []))
+unfoldable pub heldItems : ℕ → ℕ → ℕ → List ℕ
+heldItems held first second = cond (eqb held 0) [] (cond (eqb held 1) (first ∷ []) (first ∷ second ∷ []))
 
 -- the state that a value of the struct stands for
 abbrev pub stateOf : Fifo → State
-stateOf f = record { mode = modeOf (f .mode); items = itemsOf (f .held) (f .first) (f .second); error = f .error }
+stateOf f = record { mode = modeOf (f .mode); items = heldItems (f .held) (f .first) (f .second); error = f .error }
 
 -- the outcome that an answer of the code stands for
 abbrev pub outcomeOf : FifoAnswer → Outcome

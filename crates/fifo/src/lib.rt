@@ -1,7 +1,7 @@
 // Document 01, "FIFO and error register": two items between the processor and the chip, as a value. Each operation
 // takes the FIFO and hands back the next one beside what it gives.
 ghost use mathlib.Core.Path.{_≡_};
-ghost use Rattle.fifo.specs.State.{fresh, modeOf, stateOf, outcomeOf};
+ghost use Rattle.fifo.specs.State.{freshFifo, modeOf, stateOf, outcomeOf};
 ghost use Rattle.fifo.specs.Rules.{Put, TakeData, TakeMark, ChipPut, ChipTake, ReadError, ruleOf};
 
 mod steps;
@@ -43,7 +43,7 @@ const NO_FAULT: u16 = 0;
 impl Fifo {
     // Empty, with register 0, in the mode that `mode` says.
     pub fn new(mode: u16) -> Fifo
-        ensures state { λ r. ⌜ stateOf r ≡ fresh (modeOf mode) ⌝ }
+        ensures state { λ r. ⌜ stateOf r ≡ freshFifo (modeOf mode) ⌝ }
     {
         Fifo {
             mode,

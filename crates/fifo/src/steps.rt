@@ -1,7 +1,7 @@
 // What put and take do where the mode gives them to the side that asks.
 ghost use mathlib.Core.Path.{_≡_};
 ghost use mathlib.Core.List.{tail};
-ghost use Rattle.fifo.specs.State.{itemsOf, stateOf, outcomeOf};
+ghost use Rattle.fifo.specs.State.{heldItems, stateOf, outcomeOf};
 ghost use Rattle.fifo.specs.Rules.{putting, taking, withBit, withItems, gives, foreign};
 use crate::Fifo;
 use crate::FifoAnswer;
@@ -46,7 +46,7 @@ fn with_fault(fifo: Fifo, bit: u16) -> Fifo
 }
 
 fn with_items(fifo: Fifo, held: u16, first: u16, second: u16) -> Fifo
-    ensures { λ r. ⌜ stateOf r ≡ withItems (itemsOf held first second) (stateOf fifo) ⌝ }
+    ensures { λ r. ⌜ stateOf r ≡ withItems (heldItems held first second) (stateOf fifo) ⌝ }
 {
     Fifo {
         mode: fifo.mode,

@@ -10,16 +10,16 @@ use Rattle.ism.specs.declared.IsmProfile.{IsmProfile}
 use Rattle.ism.specs.declared.IsmAnswer.{IsmAnswer}
 
 -- its numbers, in document 01's order
-abbrev pub numbersOf : IsmProfile → List ℕ
-numbersOf p =
+abbrev pub profileNumbersOf : IsmProfile → List ℕ
+profileNumbersOf p =
     p .t1 ∷ p .t0 ∷ p .early ∷ p .normal ∷ p .late ∷ p .min ∷ p .b23 ∷ p .b34 ∷ p .rpt ∷ []
 
 abbrev pub profileOf : IsmProfile → Profile
-profileOf p = fromNumbers (numbersOf p)
+profileOf p = fromNumbers (profileNumbersOf p)
 
 -- number, place and count of document 01, the rest 0
-abbrev pub given : Answer → IsmAnswer
-given a = record { number = a .number; place = a .place; count = a .count; used = 0; holds = 0 }
+abbrev pub answerOf : Answer → IsmAnswer
+answerOf a = record { number = a .number; place = a .place; count = a .count; used = 0; holds = 0 }
 
 -- a yes or no as a number
 abbrev pub asNumber : Bool → ℕ
@@ -27,8 +27,8 @@ asNumber true = 1
 asNumber false = 0
 
 -- the field reader's, with the intervals used and whether the register is zero
-abbrev pub givenField : FieldAnswer → IsmAnswer
-givenField f =
+abbrev pub fieldAnswerOf : FieldAnswer → IsmAnswer
+fieldAnswerOf f =
     record {
       number = f .answer .number;
       place = f .answer .place;

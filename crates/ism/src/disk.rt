@@ -4,7 +4,7 @@ ghost use lib.ListN.{length};
 ghost use Rattle.fields.specs.Lock.{findRule};
 ghost use Rattle.fields.specs.FieldRule.{fieldAnswer, fieldReading, fieldOutput};
 ghost use Rattle.sectors.specs.Sector.{sectorRule, sectorOutput};
-ghost use Rattle.ism.specs.Answers.{profileOf, given, givenField};
+ghost use Rattle.ism.specs.Answers.{profileOf, answerOf, fieldAnswerOf};
 use crate::IsmAnswer;
 use crate::IsmProfile;
 use crate::answer;
@@ -13,13 +13,13 @@ use fields::reader::FieldRead;
 
 #[no_mangle]
 pub extern "C" fn ism_find(p: IsmProfile, intervals: &[u16], start: u64) -> IsmAnswer
-    ensures { λ r. ⌜ r ≡ given (findRule (profileOf p) (now (intervals .entry)) start) ⌝ }
+    ensures { λ r. ⌜ r ≡ answerOf (findRule (profileOf p) (now (intervals .entry)) start) ⌝ }
 {
     answer(fields::finder::find_lock(profile(p), intervals, start as usize))
 }
 
 fn field_answer(read: FieldRead) -> IsmAnswer
-    ensures { λ r. ⌜ r ≡ givenField (fieldAnswer read) ⌝ }
+    ensures { λ r. ⌜ r ≡ fieldAnswerOf (fieldAnswer read) ⌝ }
 {
     match read {
         FieldRead::Field { count, used, holds } => IsmAnswer {
@@ -47,7 +47,7 @@ pub extern "C" fn ism_read_field(
     out: &mut [u16],
 ) -> IsmAnswer
     ensures answer { λ r. ⌜
-        r ≡ givenField (fieldReading (profileOf p) (now (intervals .entry)) bytes (length (now (out .entry)))) ⌝ }
+        r ≡ fieldAnswerOf (fieldReading (profileOf p) (now (intervals .entry)) bytes (length (now (out .entry)))) ⌝ }
     ensures output { λ _. ⌜
         now (out .exit) ≡ fieldOutput (profileOf p) (now (intervals .entry)) bytes (now (out .entry)) ⌝ }
 {
@@ -65,7 +65,7 @@ pub extern "C" fn ism_make_sector(
     out: &mut [u16],
 ) -> IsmAnswer
     ensures answer { λ r. ⌜
-        r ≡ given (sectorRule track side sector code (now (bytes .entry)) (length (now (out .entry)))) ⌝ }
+        r ≡ answerOf (sectorRule track side sector code (now (bytes .entry)) (length (now (out .entry)))) ⌝ }
     ensures output { λ _. ⌜
         now (out .exit) ≡ sectorOutput track side sector code (now (bytes .entry)) (now (out .entry)) ⌝ }
 {

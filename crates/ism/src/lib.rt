@@ -7,7 +7,7 @@ ghost use Rattle.timing.specs.Class.{classRule};
 ghost use Rattle.lengths.specs.Margin.{marginRule};
 ghost use Rattle.codec.specs.Writer.{writeRule, writeOutput};
 ghost use Rattle.codec.specs.Reader.{readRule, readOutput};
-ghost use Rattle.ism.specs.Answers.{profileOf, given};
+ghost use Rattle.ism.specs.Answers.{profileOf, answerOf};
 use refusal::Counted;
 use timing::Profile;
 
@@ -55,7 +55,7 @@ fn profile(p: IsmProfile) -> Profile
 }
 
 fn answer(counted: Counted) -> IsmAnswer
-    ensures { λ r. ⌜ r ≡ given (countedAnswer counted) ⌝ }
+    ensures { λ r. ⌜ r ≡ answerOf (countedAnswer counted) ⌝ }
 {
     match counted {
         Counted::Count(count) => IsmAnswer {
@@ -77,21 +77,21 @@ fn answer(counted: Counted) -> IsmAnswer
 
 #[no_mangle]
 pub extern "C" fn ism_margin(p: IsmProfile) -> IsmAnswer
-    ensures { λ r. ⌜ r ≡ given (marginRule (profileOf p)) ⌝ }
+    ensures { λ r. ⌜ r ≡ answerOf (marginRule (profileOf p)) ⌝ }
 {
     answer(lengths::margin(profile(p)))
 }
 
 #[no_mangle]
 pub extern "C" fn ism_class(p: IsmProfile, interval: u16) -> IsmAnswer
-    ensures { λ r. ⌜ r ≡ given (classRule (profileOf p) interval) ⌝ }
+    ensures { λ r. ⌜ r ≡ answerOf (classRule (profileOf p) interval) ⌝ }
 {
     answer(timing::class_number(profile(p), interval))
 }
 
 #[no_mangle]
 pub extern "C" fn ism_write(p: IsmProfile, items: &[u16], out: &mut [u16]) -> IsmAnswer
-    ensures answer { λ r. ⌜ r ≡ given (writeRule (profileOf p) (now (items .entry)) (length (now (out .entry)))) ⌝ }
+    ensures answer { λ r. ⌜ r ≡ answerOf (writeRule (profileOf p) (now (items .entry)) (length (now (out .entry)))) ⌝ }
     ensures output { λ _. ⌜ now (out .exit) ≡ writeOutput (profileOf p) (now (items .entry)) (now (out .entry)) ⌝ }
 {
     let counted = codec::writer::write(profile(p), items, out);
@@ -100,7 +100,7 @@ pub extern "C" fn ism_write(p: IsmProfile, items: &[u16], out: &mut [u16]) -> Is
 
 #[no_mangle]
 pub extern "C" fn ism_read(p: IsmProfile, intervals: &[u16], out: &mut [u16]) -> IsmAnswer
-    ensures answer { λ r. ⌜ r ≡ given (readRule (profileOf p) (now (intervals .entry)) (length (now (out .entry)))) ⌝ }
+    ensures answer { λ r. ⌜ r ≡ answerOf (readRule (profileOf p) (now (intervals .entry)) (length (now (out .entry)))) ⌝ }
     ensures output { λ _. ⌜ now (out .exit) ≡ readOutput (profileOf p) (now (intervals .entry)) (now (out .entry)) ⌝ }
 {
     let counted = codec::reader::read(profile(p), intervals, out);

@@ -1,13 +1,13 @@
 // The FIFO's operations.
 ghost use mathlib.Core.Path.{_≡_};
-ghost use Rattle.fifo.specs.State.{stateOf, outcomeOf, fresh, modeOf};
+ghost use Rattle.fifo.specs.State.{stateOf, outcomeOf, freshFifo, modeOf};
 ghost use Rattle.fifo.specs.Rules.{ruleOf, Put, TakeData, TakeMark, ChipPut, ChipTake, ReadError};
 use fifo::Fifo;
 use fifo::FifoAnswer;
 
 #[no_mangle]
 pub extern "C" fn ism_fifo_new(mode: u16) -> Fifo
-    ensures { λ r. ⌜ stateOf r ≡ fresh (modeOf mode) ⌝ }
+    ensures { λ r. ⌜ stateOf r ≡ freshFifo (modeOf mode) ⌝ }
 {
     Fifo::new(mode)
 }

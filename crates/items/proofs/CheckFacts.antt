@@ -4,7 +4,7 @@ use mathlib.Core.Path.{_≡_, refl, sym, ap, _∙_}
 use mathlib.Core.List.{List, [], _∷_, _++_, append-assoc}
 use Rattle.items.specs.Item.{isMark, isCheck}
 use Rattle.items.specs.Register.{fed, shiftedBy, shifted}
-use Rattle.items.specs.Written.{fresh, beforeMark, afterMark, afterData, afterByte, afterBytes, checkBytes}
+use Rattle.items.specs.Written.{freshCheck, beforeMark, afterMark, afterData, afterByte, afterBytes, checkBytes}
 use Rattle.items.specs.Written.{itemBytes, writtenFrom, written}
 use Rattle.items.specs.declared.Check.{Check}
 use Rattle.items.proofs.CheckLaws.{unmarked, fresh-bound, crc-of-check-bytes-is-zero}
@@ -13,13 +13,13 @@ use Rattle.items.proofs.WrittenLaws.{written-from-of-append}
 -- ---- fixed lists
 
 -- the mark bytes at the head of a field
-pub three-marks-A1-give-CDB4 : afterBytes fresh (0x1a1 ∷ 0x1a1 ∷ 0x1a1 ∷ []) .register ≡ 0xcdb4
+pub three-marks-A1-give-CDB4 : afterBytes freshCheck (0x1a1 ∷ 0x1a1 ∷ 0x1a1 ∷ []) .register ≡ 0xcdb4
 unfolding afterBytes afterByte afterMark afterData beforeMark isMark fed shiftedBy shifted
 three-marks-A1-give-CDB4 = refl
 
 -- the published check value of this polynomial and start: the digits 1 to 9 as ASCII
 pub crc-of-nine-digits-is-29B1 :
-    afterBytes fresh (0x31 ∷ 0x32 ∷ 0x33 ∷ 0x34 ∷ 0x35 ∷ 0x36 ∷ 0x37 ∷ 0x38 ∷ 0x39 ∷ []) .register ≡ 0x29b1
+    afterBytes freshCheck (0x31 ∷ 0x32 ∷ 0x33 ∷ 0x34 ∷ 0x35 ∷ 0x36 ∷ 0x37 ∷ 0x38 ∷ 0x39 ∷ []) .register ≡ 0x29b1
 unfolding afterBytes afterByte afterMark afterData beforeMark isMark fed shiftedBy shifted
 crc-of-nine-digits-is-29B1 = refl
 
@@ -36,13 +36,13 @@ unfolding writtenFrom itemBytes isCheck
 written-from-of-check-at-end c ns = written-from-of-append c ns (512 ∷ [])
 
 written-of-check-at-end : (ns : List ℕ)
-    → written (ns ++ (512 ∷ [])) ≡ written ns ++ checkBytes (afterBytes fresh (written ns))
+    → written (ns ++ (512 ∷ [])) ≡ written ns ++ checkBytes (afterBytes freshCheck (written ns))
 unfolding written
-written-of-check-at-end ns = written-from-of-check-at-end fresh ns
+written-of-check-at-end ns = written-from-of-check-at-end freshCheck ns
 
-pub register-after-check-order-is-zero : (ns : List ℕ) → afterBytes fresh (written (ns ++ (512 ∷ []))) ≡ unmarked 0
+pub register-after-check-order-is-zero : (ns : List ℕ) → afterBytes freshCheck (written (ns ++ (512 ∷ []))) ≡ unmarked 0
 register-after-check-order-is-zero ns =
-    ap (afterBytes fresh) (written-of-check-at-end ns) ∙ crc-of-check-bytes-is-zero fresh (written ns) fresh-bound
+    ap (afterBytes freshCheck) (written-of-check-at-end ns) ∙ crc-of-check-bytes-is-zero freshCheck (written ns) fresh-bound
 
 pub second-check-order-running-writes-zeros : (ns : List ℕ)
     → written (ns ++ (512 ∷ 512 ∷ [])) ≡ written (ns ++ (512 ∷ [])) ++ (0 ∷ 0 ∷ [])

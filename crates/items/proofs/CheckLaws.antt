@@ -10,7 +10,7 @@ use lib.ListN.{length, getD, drop, drop-of-length-le}
 use lib.Seq.{drop-cons}
 use Rattle.items.specs.Item.{isMark}
 use Rattle.items.specs.Register.{fed, highByte, lowByte}
-use Rattle.items.specs.Written.{fresh, beforeMark, afterMark, afterData, afterByte, afterBytes, checkBytes}
+use Rattle.items.specs.Written.{freshCheck, beforeMark, afterMark, afterData, afterByte, afterBytes, checkBytes}
 use Rattle.items.specs.Written.{itemBytes, afterCheck, afterItem}
 use Rattle.items.specs.declared.Check.{Check}
 use Rattle.items.proofs.ItemLaws.{data-is-no-mark}
@@ -28,7 +28,7 @@ high-byte-bound r h = omega arith
 pub low-byte-bound : (r : ℕ) → lowByte r < 256
 low-byte-bound r = omega arith
 
-pub fresh-bound : fresh .register < 0x10000
+pub fresh-bound : freshCheck .register < 0x10000
 fresh-bound = omega arith
 
 pub after-byte-bound : (c : Check) (w : ℕ) → afterByte c w .register < 0x10000
@@ -77,7 +77,7 @@ unmarked-after-data c ws w h =
 
 -- so the register of the mark bytes that follow is that of a list of their own
 pub mark-starts-again : (c : Check) (w : ℕ) (ws : List ℕ) → isMark w ≡ true → c .marked ≡ false
-    → afterBytes c (w ∷ ws) ≡ afterBytes fresh (w ∷ ws)
+    → afterBytes c (w ∷ ws) ≡ afterBytes freshCheck (w ∷ ws)
 unfolding afterBytes afterByte afterMark beforeMark
 mark-starts-again c w ws mark unmarked = rw (mark, unmarked)
 

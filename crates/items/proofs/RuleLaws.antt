@@ -3,6 +3,7 @@
 use Prim.Native.Nat.{ℕ, _≤_, _<_}
 use mathlib.Core.Path.{_≡_, refl, sym, ap, _∙_}
 use mathlib.Core.Bool.{Bool, true, false, cond, _||_, or-true, true≢false}
+use mathlib.Mathlib.Data.Bool.Basic.{or-eq-false-eq-eq-false-and-eq-false}
 use mathlib.Core.List.{List}
 use native.Mathlib.Omega.{arith}
 use lib.Dec.{ltb}
@@ -74,10 +75,6 @@ module _ (ns : List ℕ) where
 
 -- ---- accepted lists
 
-neither : (a b : Bool) → (a || b) ≡ false → (a ≡ false) × (b ≡ false)
-neither true b h = absurd (true≢false h)
-neither false b h = (refl, h)
-
 pub record Listed (items : List ℕ) : Type 0 where
   pub few-items : length items ≤ 6400
   pub few-bytes : writtenBytes items ≤ 6400
@@ -87,7 +84,7 @@ pub listed : (items : List ℕ) → listRule items .number ≡ 0 → Listed item
 unfolding listRule
 listed items h =
     let counts = refuse-if-accepts (ltb 6400 (length items) || ltb 6400 (writtenBytes items)) 3 0 _ h in
-    let few = neither (ltb 6400 (length items)) (ltb 6400 (writtenBytes items)) (counts .0) in
+    let few = or-eq-false-eq-eq-false-and-eq-false (ltb 6400 (length items)) (ltb 6400 (writtenBytes items)) .0 (counts .0) in
     let foreign = refuse-if-accepts (anywhere isForeign items) 2 (lowest isForeign items) _ (counts .1) in
     record {
       few-items = ltb-false 6400 (length items) (few .0);

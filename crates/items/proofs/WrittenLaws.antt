@@ -14,7 +14,7 @@ use Rattle.lists.specs.Filled.{storedAt}
 use Rattle.lists.proofs.StoreLaws.{front-of-stored}
 use Rattle.items.specs.Item.{isByte, isCheck, isItem, isForeign, bytesOf, writtenBytes}
 use Rattle.items.specs.Register.{highByte, lowByte}
-use Rattle.items.specs.Written.{fresh, afterByte, afterBytes, checkBytes, itemBytes, afterCheck, afterItem}
+use Rattle.items.specs.Written.{freshCheck, afterByte, afterBytes, checkBytes, itemBytes, afterCheck, afterItem}
 use Rattle.items.specs.Written.{writtenFrom, written}
 use Rattle.items.specs.declared.Check.{Check}
 use Rattle.items.proofs.ItemLaws.{check-or-not, data-is-byte, item-but-no-check-is-byte, not-foreign-is-item}
@@ -91,7 +91,7 @@ length-of-written-from c (n ∷ ns) =
 
 pub length-of-written : (ns : List ℕ) → length (written ns) ≡ writtenBytes ns
 unfolding written
-length-of-written ns = length-of-written-from fresh ns
+length-of-written ns = length-of-written-from freshCheck ns
 
 -- ---- one list after another
 
@@ -118,7 +118,7 @@ written-from-are-bytes c (n ∷ ns) h e =
 
 pub written-are-bytes : (ns : List ℕ) → anywhere isForeign ns ≡ false → everywhere isByte (written ns) ≡ true
 unfolding written
-written-are-bytes ns e = written-from-are-bytes fresh ns fresh-bound e
+written-are-bytes ns e = written-from-are-bytes freshCheck ns fresh-bound e
 
 pub written-from-of-no-check : (c : Check) (ns : List ℕ) → anywhere isCheck ns ≡ false → writtenFrom c ns ≡ ns
 written-from-of-no-check c [] e = written-from-none c
@@ -129,7 +129,7 @@ written-from-of-no-check c (n ∷ ns) e =
 
 pub written-of-no-check : (ns : List ℕ) → anywhere isCheck ns ≡ false → written ns ≡ ns
 unfolding written
-written-of-no-check ns e = written-from-of-no-check fresh ns e
+written-of-no-check ns e = written-from-of-no-check freshCheck ns e
 
 -- ---- in a buffer that they fit, they fill the front
 

@@ -9,8 +9,8 @@ use Rattle.items.specs.Register.{allOnes, fed, highByte, lowByte}
 use Rattle.items.specs.declared.Check.{Check}
 
 -- all ones at the start of a list
-abbrev pub fresh : Check
-fresh = record { register = allOnes; marked = false }
+abbrev pub freshCheck : Check
+freshCheck = record { register = allOnes; marked = false }
 
 -- the register that a mark byte passes through: all ones again before one that does not follow a mark byte
 unfoldable pub beforeMark : Check → ℕ
@@ -52,4 +52,4 @@ writtenFrom c [] = []
 writtenFrom c (n ∷ ns) = itemBytes c n ++ writtenFrom (afterItem c n) ns
 
 unfoldable pub written : List ℕ → List ℕ
-written ns = writtenFrom fresh ns
+written ns = writtenFrom freshCheck ns

@@ -12,7 +12,7 @@ ghost use mathlib.Core.Path.{_≡_};
 ghost use lib.ListN.{length, drop};
 ghost use Rattle.items.specs.Item.{isMark, isCheck, isItem, bytesOf};
 ghost use Rattle.items.specs.Register.{registerTable, highByte, lowByte};
-ghost use Rattle.items.specs.Written.{fresh, beforeMark, afterByte, afterBytes, afterCheck, afterItem};
+ghost use Rattle.items.specs.Written.{freshCheck, beforeMark, afterByte, afterBytes, afterCheck, afterItem};
 
 pub fn is_mark(n: u16) -> bool
     ensures { λ r. ⌜ r ≡ isMark n ⌝ }
@@ -53,7 +53,7 @@ pub struct Check {
 
 impl Check {
     pub fn fresh() -> Self
-        ensures { λ r. ⌜ r ≡ fresh ⌝ }
+        ensures { λ r. ⌜ r ≡ freshCheck ⌝ }
     {
         Check {
             register: 0xffff,

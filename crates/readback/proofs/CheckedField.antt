@@ -13,7 +13,7 @@ use Rattle.timing.specs.Class.{classesOf}
 use Rattle.timing.specs.declared.Profile.{Profile}
 use Rattle.items.specs.Item.{isByte}
 use Rattle.items.specs.Register.{highByte, lowByte}
-use Rattle.items.specs.Written.{fresh, afterBytes, checkBytes}
+use Rattle.items.specs.Written.{freshCheck, afterBytes, checkBytes}
 use Rattle.items.specs.declared.Check.{Check}
 use Rattle.items.proofs.ItemLaws.{data-is-byte}
 use Rattle.items.proofs.CheckLaws.{fresh-bound, after-bytes-bound, high-byte-bound, low-byte-bound}
@@ -29,17 +29,17 @@ use Rattle.readback.specs.SectorReads.{withCheck, ReadsField}
 
 module _ (ws : List ℕ) where
   checked-length : length (withCheck ws) ≡ length ws + 2
-  checked-length = length-append ws (checkBytes (afterBytes fresh ws))
+  checked-length = length-append ws (checkBytes (afterBytes freshCheck ws))
 
-  zero-after : afterBytes fresh (withCheck ws) .register ≡ 0
-  zero-after = ap (λ (c : Check). c .register) (crc-of-check-bytes-is-zero fresh ws fresh-bound)
+  zero-after : afterBytes freshCheck (withCheck ws) .register ≡ 0
+  zero-after = ap (λ (c : Check). c .register) (crc-of-check-bytes-is-zero freshCheck ws fresh-bound)
 
   checked-bytes : everywhere isByte ws ≡ true → everywhere isByte (withCheck ws) ≡ true
   unfolding everywhere
   checked-bytes e =
-      let bound = after-bytes-bound fresh ws fresh-bound in
-      let r : ℕ = afterBytes fresh ws .register in
-      everywhere-of-append isByte ws (checkBytes (afterBytes fresh ws))
+      let bound = after-bytes-bound freshCheck ws fresh-bound in
+      let r : ℕ = afterBytes freshCheck ws .register in
+      everywhere-of-append isByte ws (checkBytes (afterBytes freshCheck ws))
       ∙ rw (e, data-is-byte (highByte r) (high-byte-bound r bound), data-is-byte (lowByte r) (low-byte-bound r))
 
   pub checked-field-is-read

@@ -11,7 +11,7 @@ use Rattle.lists.specs.Place.{anywhere, everywhere}
 use Rattle.lists.proofs.PlaceLaws.{anywhere-of-none, anywhere-of-failing, anywhere-of-append}
 use Rattle.lists.proofs.PlaceLaws.{everywhere-of-passing, everywhere-of-append, everywhere-of-replicate}
 use Rattle.items.specs.Item.{isByte, isMark, isCheck, isItem, isForeign, writtenBytes}
-use Rattle.items.specs.Written.{fresh, afterBytes, checkBytes, writtenFrom, written}
+use Rattle.items.specs.Written.{freshCheck, afterBytes, checkBytes, writtenFrom, written}
 use Rattle.items.specs.Rule.{listRule}
 use Rattle.items.specs.declared.Check.{Check}
 use Rattle.items.proofs.ItemLaws.{data-is-byte, bytes-are-items, bytes-have-no-check, item-is-not-foreign}
@@ -132,7 +132,7 @@ module _ (track side sector code : ℕ) (bytes : List ℕ) where
     sector-written =
         let last : List ℕ = replicate 54 0x4e in
         let (after-id, first) =
-        gap-and-field fresh (replicate 11 0x00) idBytes (middleGap ++ (((A1 ∷ dataBytes) ++ (512 ∷ [])) ++ last))
+        gap-and-field freshCheck (replicate 11 0x00) idBytes (middleGap ++ (((A1 ∷ dataBytes) ++ (512 ∷ [])) ++ last))
         (data-repeated 12 0x00 00-is-byte) id-bytes in
         let (after-data, second) =
         gap-and-field after-id (replicate 22 0x4e ++ replicate 11 0x00) dataBytes last middle-gap-bytes data-bytes in

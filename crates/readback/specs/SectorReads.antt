@@ -11,7 +11,7 @@ use Rattle.refusal.specs.Answer.{accepted}
 use Rattle.timing.specs.Class.{classesOf}
 use Rattle.timing.specs.declared.Profile.{Profile}
 use Rattle.items.specs.Item.{isByte}
-use Rattle.items.specs.Written.{fresh, afterBytes, checkBytes}
+use Rattle.items.specs.Written.{freshCheck, afterBytes, checkBytes}
 use Rattle.items.specs.Rule.{listRule}
 use Rattle.symbols.specs.Bits.{O, allBits}
 use Rattle.symbols.specs.Cells.{symbolsOf, cellsOf}
@@ -29,7 +29,7 @@ placeAfter us = length (cellsOf (symbolsOf (O ∷ allBits us)))
 
 -- bytes and the two check bytes of the register after them
 abbrev pub withCheck : List ℕ → List ℕ
-withCheck ws = ws ++ checkBytes (afterBytes fresh ws)
+withCheck ws = ws ++ checkBytes (afterBytes freshCheck ws)
 
 -- the field reader at the front of ds, with n: it gives these items, the register being zero after them, given room
 -- for them

@@ -21,7 +21,7 @@ use Rattle.text.specs.Ascii.{lineFeed}
 use Rattle.text.specs.Pieces.{piecesOf, upTo}
 use Rattle.text.proofs.PieceLaws.{up-to-length, up-to-front, pieces-first, pieces-last, pieces-some}
 use Rattle.script.specs.Line.{isItemLine, lineItems}
-use Rattle.script.specs.Input.{garbledFrom, itemsOf}
+use Rattle.script.specs.Input.{garbledFrom, itemsOfLines}
 use Rattle.script.specs.Read.{LinesRead, LinesStored, Stored, within}
 use Rattle.script.proofs.BufferLaws.{stored-as-far-as-there-is-room}
 
@@ -67,8 +67,8 @@ module _ (line rest : List ℕ) where
       → garbledFrom n (line ∷ piecesOf lineFeed rest) ≡ garbledFrom (suc n) (piecesOf lineFeed rest)
   garbled-after-good n h = garbled-next n ∙ rw h
 
-  pub items-next : itemsOf (line ∷ piecesOf lineFeed rest) ≡ lineItems line ++ itemsOf (piecesOf lineFeed rest)
-  unfolding itemsOf
+  pub items-next : itemsOfLines (line ∷ piecesOf lineFeed rest) ≡ lineItems line ++ itemsOfLines (piecesOf lineFeed rest)
+  unfolding itemsOfLines
   items-next = rw (pieces-some lineFeed rest .2)
 
 -- what stands after the last line feed
@@ -82,8 +82,8 @@ pub garbled-at-the-end : (n : ℕ) (text : List ℕ) (at : ℕ)
 unfolding garbledFrom piecesOf
 garbled-at-the-end n text at h = rw (drop-of-length-le text h)
 
-pub items-at-the-end : (text : List ℕ) (at : ℕ) → length text ≤ at → itemsOf (piecesOf lineFeed (drop at text)) ≡ []
-unfolding itemsOf piecesOf
+pub items-at-the-end : (text : List ℕ) (at : ℕ) → length text ≤ at → itemsOfLines (piecesOf lineFeed (drop at text)) ≡ []
+unfolding itemsOfLines piecesOf
 items-at-the-end text at h = rw (drop-of-length-le text h)
 
 -- lines that were read, and lines of which one is faulty
@@ -98,14 +98,14 @@ lines-refused lines before after n e =
 
 pub lines-read : (lines : List (List ℕ)) (before after : List ℕ) (n : ℕ)
     → garbledFrom 2 lines ≡ accepted 0
-    → Stored before 0 (itemsOf lines) n after
+    → Stored before 0 (itemsOfLines lines) n after
     → LinesRead lines before (Count n) after
 lines-read lines before after n e s =
-    record { answer = rw e (ap accepted (s .size ∙ zero-add (length (itemsOf lines)))); output = λ h. s .output }
+    record { answer = rw e (ap accepted (s .size ∙ zero-add (length (itemsOfLines lines)))); output = λ h. s .output }
 
 -- lines that were first read with no room for any item, and then with a buffer
 pub lines-not-stored : (lines : List (List ℕ)) (before : List ℕ) (r : Refusal)
-    → refused (numberOf r) (placeOf r) ≡ firstRefusal (garbledFrom 2 lines) (accepted (length (itemsOf lines)))
+    → refused (numberOf r) (placeOf r) ≡ firstRefusal (garbledFrom 2 lines) (accepted (length (itemsOfLines lines)))
     → LinesStored lines before (Refused r) before
 lines-not-stored lines before r first =
     let garbled = refused-earlier r (garbledFrom 2 lines) _ first in
@@ -116,19 +116,19 @@ lines-not-stored lines before r first =
 
 module _
     (lines : List (List ℕ)) (before after : List ℕ) (count : ℕ)
-    (first : accepted count ≡ firstRefusal (garbledFrom 2 lines) (accepted (length (itemsOf lines))))
-    (second : garbledFrom 2 lines .number ≡ 0 → after ≡ storedAt before 0 (itemsOf lines))
+    (first : accepted count ≡ firstRefusal (garbledFrom 2 lines) (accepted (length (itemsOfLines lines))))
+    (second : garbledFrom 2 lines .number ≡ 0 → after ≡ storedAt before 0 (itemsOfLines lines))
   where
-    counted : (garbledFrom 2 lines .number ≡ 0) × (count ≡ length (itemsOf lines))
+    counted : (garbledFrom 2 lines .number ≡ 0) × (count ≡ length (itemsOfLines lines))
     counted = accepted-later (garbledFrom 2 lines) count _ first
 
-    stored-lines : (n : ℕ) → n ≡ length (within before (itemsOf lines)) → LinesStored lines before (Count n) after
+    stored-lines : (n : ℕ) → n ≡ length (within before (itemsOfLines lines)) → LinesStored lines before (Count n) after
     stored-lines n size =
         record {
           answer = ap accepted size ∙ sym (first-refusal-passes (garbledFrom 2 lines) _ (counted .0));
           output =
               second (counted .0)
-              ∙ stored-as-far-as-there-is-room before (itemsOf lines)
+              ∙ stored-as-far-as-there-is-room before (itemsOfLines lines)
               ∙ sym (acceptance-fills-the-buffer (garbledFrom 2 lines) _ before (counted .0));
         }
 
@@ -136,9 +136,9 @@ module _
       pub more-lines-than-room : room < count → LinesStored lines before (Count room) after
       more-lines-than-room h =
           stored-lines room
-          (same ∙ sym (length-take-le (length before) (itemsOf lines) (omega (arith, counted .1))))
+          (same ∙ sym (length-take-le (length before) (itemsOfLines lines) (omega (arith, counted .1))))
 
       pub room-for-all-lines : count ≤ room → LinesStored lines before (Count count) after
       room-for-all-lines h =
           stored-lines count
-          (counted .1 ∙ ap length (sym (take-all (length before) (itemsOf lines) (omega (arith, counted .1)))))
+          (counted .1 ∙ ap length (sym (take-all (length before) (itemsOfLines lines) (omega (arith, counted .1)))))

@@ -21,7 +21,7 @@ use Rattle.text.specs.Ascii.{lineFeed}
 use Rattle.text.specs.Pieces.{piecesOf, upTo}
 use Rattle.text.proofs.PieceLaws.{up-to-length, up-to-front, pieces-first, pieces-last, pieces-some}
 use Rattle.script.specs.Line.{isProfileLine, profileOf, profileRead}
-use Rattle.script.specs.Input.{garbledFrom, garbledLines, inputRule, profileIn, itemsOf, itemsIn}
+use Rattle.script.specs.Input.{garbledFrom, garbledLines, inputRule, profileIn, itemsOfLines, itemsIn}
 use Rattle.script.specs.Read.{LinesStored, ScriptRead, scriptAnswer, within}
 use Rattle.script.specs.declared.ProfileLine.the-variants.{Given as Profiled, Faulty}
 use Rattle.script.specs.declared.Script.{Script}
@@ -86,9 +86,9 @@ module _ (text : List ℕ) (end : ℕ) (h : length text ≤ 16384) (e : end ≡ 
   unfolding garbledLines
   profile-leaves-the-lines k f = by-lines ∙ rw (pieces-after k, pieces-some lineFeed (drop (end + 1) text) .2, f)
 
-  pub items-of-the-lines : end < length text → itemsIn text ≡ itemsOf (piecesOf lineFeed (drop (end + 1) text))
+  pub items-of-the-lines : end < length text → itemsIn text ≡ itemsOfLines (piecesOf lineFeed (drop (end + 1) text))
   unfolding itemsIn
-  items-of-the-lines k = ap (λ (lines : List (List ℕ)). itemsOf (drop 1 lines)) (pieces-after k)
+  items-of-the-lines k = ap (λ (lines : List (List ℕ)). itemsOfLines (drop 1 lines)) (pieces-after k)
 
   pub profile-of-the-input : profileOf (take end text) ≡ profileIn text
   unfolding profileIn
@@ -108,7 +108,7 @@ script-refused text before r e =
 -- an input whose lines were read
 module _
     (text before after : List ℕ) (lines : List (List ℕ)) (c : Counted)
-    (rule : inputRule text ≡ garbledFrom 2 lines) (items : itemsIn text ≡ itemsOf lines)
+    (rule : inputRule text ≡ garbledFrom 2 lines) (items : itemsIn text ≡ itemsOfLines lines)
     (read : LinesStored lines before c after)
   where
     same-answer : countedAnswer c ≡ firstRefusal (inputRule text) (accepted (length (within before (itemsIn text))))

@@ -33,11 +33,11 @@ unfoldable pub profileIn : List ℕ → Profile
 profileIn text = profileOf (upTo lineFeed text)
 
 -- the items of lines
-unfoldable pub itemsOf : List (List ℕ) → List ℕ
-itemsOf [] = []
-itemsOf (rest ∷ []) = []
-itemsOf (line ∷ next ∷ lines) = lineItems line ++ itemsOf (next ∷ lines)
+unfoldable pub itemsOfLines : List (List ℕ) → List ℕ
+itemsOfLines [] = []
+itemsOfLines (rest ∷ []) = []
+itemsOfLines (line ∷ next ∷ lines) = lineItems line ++ itemsOfLines (next ∷ lines)
 
 -- the items of the lines after the first
 unfoldable pub itemsIn : List ℕ → List ℕ
-itemsIn text = itemsOf (drop 1 (piecesOf lineFeed text))
+itemsIn text = itemsOfLines (drop 1 (piecesOf lineFeed text))

@@ -16,7 +16,7 @@ use Rattle.text.specs.Ascii.{tab}
 use Rattle.text.specs.Pieces.{piecesOf}
 use Rattle.text.specs.Decimal.{isDecimal, valueOf}
 use Rattle.script.specs.Line.{isItemLine, lineItems, areBytes, raised}
-use Rattle.script.specs.Input.{garbledFrom, inputRule, profileIn, itemsOf, itemsIn}
+use Rattle.script.specs.Input.{garbledFrom, inputRule, profileIn, itemsOfLines, itemsIn}
 use Rattle.script.specs.declared.ItemLine.{ItemLine}
 use Rattle.script.specs.declared.ItemLine.the-variants.{Items, Faulty}
 use Rattle.script.specs.declared.Script.{Script}
@@ -56,8 +56,8 @@ LineRead line before place r after = ItemsRead (isItemLine line) (lineItems line
 
 -- the lines from line 2 on are counted where none is faulty, and their items are then stored
 pub record LinesRead (lines : List (List ℕ)) (before : List ℕ) (r : Counted) (after : List ℕ) : Type 0 where
-  pub answer : countedAnswer r ≡ firstRefusal (garbledFrom 2 lines) (accepted (length (itemsOf lines)))
-  pub output : garbledFrom 2 lines .number ≡ 0 → after ≡ storedAt before 0 (itemsOf lines)
+  pub answer : countedAnswer r ≡ firstRefusal (garbledFrom 2 lines) (accepted (length (itemsOfLines lines)))
+  pub output : garbledFrom 2 lines .number ≡ 0 → after ≡ storedAt before 0 (itemsOfLines lines)
 
 -- as much of a list as a buffer has room for
 abbrev pub within : List ℕ → List ℕ → List ℕ
@@ -65,8 +65,8 @@ within buffer list = take (length buffer) list
 
 -- the same with a count of the items that have room, and a buffer that a refusal leaves as it was
 pub record LinesStored (lines : List (List ℕ)) (before : List ℕ) (r : Counted) (after : List ℕ) : Type 0 where
-  pub answer : countedAnswer r ≡ firstRefusal (garbledFrom 2 lines) (accepted (length (within before (itemsOf lines))))
-  pub output : after ≡ settled (garbledFrom 2 lines) (within before (itemsOf lines)) before
+  pub answer : countedAnswer r ≡ firstRefusal (garbledFrom 2 lines) (accepted (length (within before (itemsOfLines lines))))
+  pub output : after ≡ settled (garbledFrom 2 lines) (within before (itemsOfLines lines)) before
 
 abbrev pub scriptAnswer : Script → Answer
 scriptAnswer (Given p n) = accepted n

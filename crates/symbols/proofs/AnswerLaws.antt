@@ -5,6 +5,7 @@ use mathlib.Core.Path.{_≡_, refl, ap, sym, _∙_}
 use mathlib.Core.Bool.{Bool, true, false, cond, not, _||_, true≢false}
 use mathlib.Core.Logic.{_⊎_, inl, inr}
 use mathlib.Core.List.{List, [], _∷_, map, cons≢nil}
+use mathlib.Mathlib.Data.Bool.Basic.{or-eq-false-eq-eq-false-and-eq-false}
 use native.Mathlib.Nat.{mul-mod-right}
 use native.Mathlib.Omega.{arith}
 use native.Mathlib.Decide.{decLt}
@@ -23,7 +24,6 @@ use Rattle.symbols.specs.Strip.{endsInOne, isRagged, bytesRead, strayPla
 use Rattle.symbols.specs.Step.{stripAnswer}
 use Rattle.symbols.specs.declared.Cell.{Cell}
 use Rattle.symbols.specs.declared.Reading.{Reading}
-use Rattle.symbols.proofs.TestLaws.{neither}
 use Rattle.symbols.proofs.RegisterLaws.{number-at-least}
 use Rattle.symbols.proofs.MachineLaws.{padded, places}
 use Rattle.symbols.proofs.ReadsLaws.{Reads, closedItems, rows-so-far, items-so-far, rows-count}
@@ -137,7 +137,7 @@ module _ (m : Reading) (cs : List Cell) (r : Reads m cs) where
   pub reads-bytes : isRagged (readBits cs) ≡ false → bytesRead (readBits cs) ≡ m .rows - 1
   unfolding isRagged
   reads-bytes h =
-      let n = neither (not (eqb (length (readBits cs) % 8) 2)) (endsInOne (readBits cs)) h .0 in
+      let n = or-eq-false-eq-eq-false-and-eq-false (not (eqb (length (readBits cs) % 8) 2)) (endsInOne (readBits cs)) .0 h .0 in
       let two = eqb-true (length (readBits cs) % 8) 2 (not-false _ n) in
       omega (arith, bits-counted, r .few)
 

@@ -4,6 +4,7 @@ use Prim.Native.Nat.{ℕ, _*_, _%_}
 use mathlib.Core.Path.{_≡_, refl, ap, sym, _∙_}
 use mathlib.Core.Bool.{Bool, true, false, cond}
 use mathlib.Core.List.{List, [], _∷_, _++_, map, append-assoc}
+use mathlib.Mathlib.Data.Bool.Basic.{or-eq-false-eq-eq-false-and-eq-false}
 use native.Mathlib.Omega.{arith}
 use lib.ListN.{length, length-append}
 use Rattle.lists.specs.Place.{anywhere, everywhere, passed}
@@ -12,7 +13,7 @@ use Rattle.lists.proofs.PlaceLaws.{everywhere-passes-at-first, everywhere-in-re
 use Rattle.items.specs.Item.{isMark, isByte}
 use Rattle.symbols.specs.Bits.{Bit, O, byteBits, markBits, withGaps, writtenBits, allBits}
 use Rattle.symbols.specs.Bytes.{itemOf, rowStrays, rowsOf, straysOf, itemsRead, straysRead}
-use Rattle.symbols.proofs.TestLaws.{holds, held, neither}
+use Rattle.symbols.proofs.TestLaws.{holds, held}
 use Rattle.symbols.proofs.PlaceLaws.{anywhere-append}
 use Rattle.symbols.proofs.RowLaws.{item-of-written-byte, written-byte-has-no-stray}
 use Rattle.symbols.proofs.RowLaws.{row-is-a-byte, written-of-row}
@@ -131,7 +132,7 @@ whole (a ∷ b ∷ c ∷ d ∷ e ∷ f ∷ g ∷ []) n fair = absurd (omega arit
 whole (a ∷ b ∷ c ∷ d ∷ e ∷ f ∷ g ∷ h ∷ bs) n fair =
     let row = a ∷ b ∷ c ∷ d ∷ e ∷ f ∷ g ∷ h ∷ [] in
     let parts =
-    neither (anywhere passed (rowStrays row)) (anywhere passed (straysOf (rowsOf bs)))
+    or-eq-false-eq-eq-false-and-eq-false (anywhere passed (rowStrays row)) (anywhere passed (straysOf (rowsOf bs))) .0
     (sym (anywhere-append passed (rowStrays row) (straysOf (rowsOf bs))) ∙ fair)
     in
     whole-row a b c d e f g h bs (parts .0) (whole bs (omega arith) (parts .1))

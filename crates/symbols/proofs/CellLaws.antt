@@ -66,17 +66,17 @@ sound-grown rest b c t (inl e) h =
 sound-grown rest b c t (inr e) h =
     sound-append O rest (given b c) t (rw e (sound-more b c h .1))
 
-pub more-at-most : (b : Bit) (c : Cell) → length (given b c) ≤ 2
+pub given-at-most-two : (b : Bit) (c : Cell) → length (given b c) ≤ 2
 unfolding given
-more-at-most O Short = omega arith
-more-at-most O Medium = omega arith
-more-at-most O Long = omega arith
-more-at-most I Short = omega arith
-more-at-most I Medium = omega arith
-more-at-most I Long = omega arith
-more-at-most G Short = omega arith
-more-at-most G Medium = omega arith
-more-at-most G Long = omega arith
+given-at-most-two O Short = omega arith
+given-at-most-two O Medium = omega arith
+given-at-most-two O Long = omega arith
+given-at-most-two I Short = omega arith
+given-at-most-two I Medium = omega arith
+given-at-most-two I Long = omega arith
+given-at-most-two G Short = omega arith
+given-at-most-two G Medium = omega arith
+given-at-most-two G Long = omega arith
 
 pub bits-at-most : (b : Bit) (cs : List Cell) → length (readFrom b cs) ≤ 2 * length cs
 unfolding readFrom
@@ -85,7 +85,7 @@ bits-at-most b (c ∷ cs) =
     omega (
       arith,
       length-append (given b c) (readFrom (lastAfter b c) cs),
-      more-at-most b c,
+      given-at-most-two b c,
       bits-at-most (lastAfter b c) cs,
     )
 

@@ -14,12 +14,8 @@ use Rattle.symbols.specs.Cells.{pairSymbols, symbolsFrom, symbolsOf, cel
 use Rattle.symbols.specs.Cells.{cellsOf, writtenSymbols, writtenCells}
 use Rattle.symbols.specs.Reading.{units, readBits}
 use Rattle.symbols.specs.declared.Cell.{Cell}
+use Rattle.symbols.proofs.BytesLaws.{bits-of-append}
 use Rattle.symbols.proofs.RoundTripLaws.{read-of-write}
-
-pub bits-append : (us ws : List ℕ) → allBits (us ++ ws) ≡ allBits us ++ allBits ws
-unfolding allBits
-bits-append [] ws = refl
-bits-append (u ∷ us) ws = rw (bits-append us ws, append-assoc)
 
 symbols-append :
     (b z : Bit) (xs ys : List Bit)
@@ -54,7 +50,7 @@ pub cells-after-zeros :
     → writtenCells (us ++ ws) ≡ cellsBefore us ++ writtenCells ws
 unfolding writtenCells writtenSymbols bitsOf cellsBefore cellsOf symbolsOf
 cells-after-zeros us ws bs h =
-    rw (bits-append us ws, h, append-assoc bs, append-assoc bs) (cells-at-zeros O bs (allBits ws ++ (O ∷ O ∷ [])))
+    rw (bits-of-append us ws, h, append-assoc bs, append-assoc bs) (cells-at-zeros O bs (allBits ws ++ (O ∷ O ∷ [])))
 
 -- a data byte that is a multiple of 4 ends in two 0s
 data-bits-end-in-zeros : (w : ℕ) → w < 256 → w % 4 ≡ 0 → (bs : List Bit) × (writtenBits w ≡ bs ++ (O ∷ O ∷ []))
@@ -74,7 +70,7 @@ unfolding allBits
 cells-after-byte us ws w h e =
     let z = data-bits-end-in-zeros w h e in
     let ends =
-    bits-append us (w ∷ []) ∙ ap (λ (x : List Bit). allBits us ++ x) (append-nil (writtenBits w) ∙ z .1)
+    bits-of-append us (w ∷ []) ∙ ap (λ (x : List Bit). allBits us ++ x) (append-nil (writtenBits w) ∙ z .1)
     ∙ sym (append-assoc (allBits us) (z .0) (O ∷ O ∷ []))
     in
     rw (← append-snoc us w ws) (cells-after-zeros (us ++ (w ∷ [])) ws (allBits us ++ z .0) ends)

@@ -16,7 +16,7 @@ use Rattle.symbols.specs.Bits.{Bit, O, lastOf}
 use Rattle.symbols.specs.Bytes.{digit, numberFrom, isGap, itemsRead}
 use Rattle.symbols.specs.Reading.{readBits}
 use Rattle.symbols.specs.Machine.{opened, wholeByte, nextRegister, pushed}
-use Rattle.symbols.specs.Step.{itemsOf}
+use Rattle.symbols.specs.Step.{itemClosed}
 use Rattle.symbols.specs.declared.Cell.{Cell}
 use Rattle.symbols.specs.declared.Reading.{Reading}
 use Rattle.symbols.proofs.ReadingLaws.{last-of-snoc}
@@ -28,7 +28,7 @@ use Rattle.symbols.proofs.ReadsLaws.{Reads, closedItems, items-so-far, 
 
 -- the invariant after the cells cs, and the items, of which those of the rows in front were there before
 abbrev pub After : Reading → List Cell → List Bit → Type 0
-After m cs before = Reads m cs × (itemsRead (readBits cs) ≡ closedItems before ++ itemsOf m)
+After m cs before = Reads m cs × (itemsRead (readBits cs) ≡ closedItems before ++ itemClosed m)
 
 last-apart :
     (bs : List Bit) (n : ℕ) → length bs ≡ suc n
@@ -67,7 +67,7 @@ module _
     (room : m .rows + 1 < 2 ^ 32)
   where
     pushed-open : length all < 8 → After (pushed m (numberFrom 1 all)) cs before
-    unfolding pushed opened itemsOf
+    unfolding pushed opened itemClosed
     pushed-open few =
         rw (lt-ltb (numberFrom 1 all) 256 (register-below all few)) (
           record {

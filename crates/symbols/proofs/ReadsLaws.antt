@@ -13,8 +13,8 @@ use Rattle.lists.specs.Place.{anywhere}
 use Rattle.symbols.specs.Bits.{Bit, O, lastOf}
 use Rattle.symbols.specs.Bytes.{digit, numberFrom, isGap, itemOf, rowsOf, straysOf, itemsRead}
 use Rattle.symbols.specs.Reading.{readFrom, readBits, sources}
-use Rattle.symbols.specs.Machine.{fresh, closed, opened}
-use Rattle.symbols.specs.Step.{itemsOf}
+use Rattle.symbols.specs.Machine.{freshReading, closed, opened}
+use Rattle.symbols.specs.Step.{itemClosed}
 use Rattle.symbols.specs.declared.Cell.{Cell}
 use Rattle.symbols.specs.declared.Reading.{Reading}
 use Rattle.symbols.proofs.PlaceLaws.{rows-append, rows-of-few}
@@ -33,8 +33,8 @@ pub record Reads (m : Reading) (cs : List Cell) : Type 0 where
   pub joined : (rest ≡ []) ⊎ (lastOf O rest ≡ lastOf O (readBits cs))
 
 -- before any cell
-pub reads-fresh : Reads fresh []
-unfolding fresh padded places readBits readFrom sources numberFrom gapCode sound follows lastOf rowsOf straysOf anywhere
+pub reads-fresh : Reads freshReading []
+unfolding freshReading padded places readBits readFrom sources numberFrom gapCode sound follows lastOf rowsOf straysOf anywhere
 reads-fresh =
     record {
       before = [];
@@ -126,8 +126,8 @@ module _
     (plain : anywhere isGap rest ≡ false)
   where
     closed-items-grown :
-        (next : ℕ) → closedItems (before ++ row) ≡ closedItems before ++ itemsOf (closed m (numberFrom 0 row) next)
-    unfolding closedItems itemsOf closed
+        (next : ℕ) → closedItems (before ++ row) ≡ closedItems before ++ itemClosed (closed m (numberFrom 0 row) next)
+    unfolding closedItems itemClosed closed
     closed-items-grown next =
         let item : itemOf row ≡ cond (eqb (m .gap) 0) (numberFrom 0 row) (numberFrom 0 row + 256) =
         rw (gap-of-row m cs before row rest r eight plain) (verdict m cs before row rest r eight plain .item)
@@ -147,7 +147,7 @@ module _
         → (rest ≡ []) ⊎ (lastOf O rest ≡ lastOf O (readBits cs))
         → m .last ≡ digit (lastOf O (readBits cs)) → m .rows + 1 < 2 ^ 32
         → Reads (closed m (numberFrom 0 row) next)
-        cs × (itemsRead (readBits cs) ≡ closedItems before ++ itemsOf (closed m (numberFrom 0 row) next))
+        cs × (itemsRead (readBits cs) ≡ closedItems before ++ itemClosed (closed m (numberFrom 0 row) next))
     unfolding closed
     row-closes next number few fair joined last room =
         let new = row-closed m cs before row rest r eight plain fair room next in (

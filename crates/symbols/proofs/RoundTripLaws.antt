@@ -5,6 +5,7 @@ use Prim.Native.Nat.{ℕ, _+_, _*_, _%_, _≤_}
 use mathlib.Core.Path.{_≡_, refl, ap, sym, _∙_}
 use mathlib.Core.Bool.{Bool, true, false, not, true≢false}
 use mathlib.Core.List.{List, [], _∷_, _++_, map, append-assoc}
+use mathlib.Mathlib.Data.Bool.Basic.{or-eq-false-eq-eq-false-and-eq-false}
 use native.Mathlib.Omega.{arith}
 use borrow.Author.Tests.{le-ltb, eq-eqb, eqb-true, ltb-false, not-false}
 use lib.Dec.{eqb, ltb}
@@ -19,7 +20,6 @@ use Rattle.symbols.specs.Bytes.{isGap, itemOf, rowsOf, itemsRead, strays
 use Rattle.symbols.specs.Strip.{isRagged, endsInOne, bytesRead, isStray, strayPlace, stripRule, stripItems}
 use Rattle.symbols.specs.declared.Cell.{Cell}
 use Rattle.symbols.specs.declared.Cell.the-variants.{Short, Medium, Long}
-use Rattle.symbols.proofs.TestLaws.{neither}
 use Rattle.symbols.proofs.ReadingLaws.{units-injective, cells-of-read, last-is-no-gap, last-of-snoc}
 use Rattle.symbols.proofs.TokenLaws.{written-bits-are-read}
 use Rattle.symbols.proofs.BytesLaws.{length-of-bits, rows-of-bytes, items-of-rows}
@@ -130,7 +130,7 @@ module _
   where
     ends : (not (eqb (length (O ∷ bs) % 8) 2) ≡ false) × (endsInOne (O ∷ bs) ≡ false)
     unfolding isRagged
-    ends = neither (not (eqb (length (O ∷ bs) % 8) 2)) (endsInOne (O ∷ bs)) whole-bytes
+    ends = or-eq-false-eq-eq-false-and-eq-false (not (eqb (length (O ∷ bs) % 8) 2)) (endsInOne (O ∷ bs)) .0 whole-bytes
 
     rows : Whole bs
     unfolding isStray straysRead anywhere

@@ -9,7 +9,7 @@ use lib.Seq.{append-snoc}
 use Rattle.symbols.specs.Bytes.{itemsRead}
 use Rattle.symbols.specs.Reading.{readFrom, readBits}
 use Rattle.symbols.specs.Strip.{stripRule, stripItems}
-use Rattle.symbols.specs.Machine.{fresh}
+use Rattle.symbols.specs.Machine.{freshReading}
 use Rattle.symbols.specs.Step.{stepped, ran, ranItems, stripAnswer}
 use Rattle.symbols.specs.declared.Cell.{Cell}
 use Rattle.symbols.specs.declared.Reading.{Reading}
@@ -43,9 +43,9 @@ items-ran m cs (d ∷ ds) r h =
 -- a whole strip
 pub strip-by-ran :
     (cs : List Cell) → length cs ≤ 2 ^ 32
-    → (stripRule cs ≡ stripAnswer (ran fresh 0 cs)) × (stripItems cs ≡ ranItems fresh 0 cs)
+    → (stripRule cs ≡ stripAnswer (ran freshReading 0 cs)) × (stripItems cs ≡ ranItems freshReading 0 cs)
 unfolding stripItems itemsRead readBits readFrom
 strip-by-ran cs h = (
-  rule-of-reads (ran fresh 0 cs) cs (reads-ran fresh [] cs reads-fresh (omega arith)),
-  items-ran fresh [] cs reads-fresh (omega arith),
+  rule-of-reads (ran freshReading 0 cs) cs (reads-ran freshReading [] cs reads-fresh (omega arith)),
+  items-ran freshReading [] cs reads-fresh (omega arith),
 )

@@ -13,13 +13,13 @@ use Rattle.symbols.specs.Bits.{Bit, O, I, G, lastOf}
 use Rattle.symbols.specs.Bytes.{digit, numberFrom, isGap, itemsRead}
 use Rattle.symbols.specs.Reading.{given, lastAfter, readBits}
 use Rattle.symbols.specs.Machine.{pushed}
-use Rattle.symbols.specs.Step.{itemsOf, turned, withLast, gapAt, noted, stepped}
+use Rattle.symbols.specs.Step.{itemClosed, turned, withLast, gapAt, noted, stepped}
 use Rattle.symbols.specs.declared.Cell.{Cell}
 use Rattle.symbols.specs.declared.Cell.the-variants.{Short, Medium, Long}
 use Rattle.symbols.specs.declared.Reading.{Reading}
 use Rattle.symbols.proofs.ReadingLaws.{last-is-no-gap}
 use Rattle.symbols.proofs.RegisterLaws.{number-append, sound}
-use Rattle.symbols.proofs.CellLaws.{last-of-more, last-append, sound-grown, more-at-most, bits-at-most}
+use Rattle.symbols.proofs.CellLaws.{last-of-more, last-append, sound-grown, given-at-most-two, bits-at-most}
 use Rattle.symbols.proofs.CellLaws.{number-of-short, number-of-medium, number-of-long}
 use Rattle.symbols.proofs.CellLaws.{last-after-short, last-after-medium}
 use Rattle.symbols.proofs.CellLaws.{last-after-long, short-is-plain, medium-is-plain}
@@ -64,7 +64,7 @@ module _ (m : Reading) (cs : List Cell) (c : Cell) (reads : Reads m cs) (room : 
       rw number
       (pushed-letters m₁ (cs ++ (c ∷ [])) (reads .before) all r (last ∙ ap digit (sym last-grown)) joined-grown
       (last-is-no-gap (cs ++ (c ∷ []))) (omega (arith, rows-room))
-      (omega (arith, length-append (reads .rest) (more cs c), more-at-most (lastOf O (readBits cs)) c, reads .few)))
+      (omega (arith, length-append (reads .rest) (more cs c), given-at-most-two (lastOf O (readBits cs)) c, reads .few)))
 
   register-grown : numberFrom 1 all ≡ numberFrom (m .register) (more cs c)
   register-grown =
@@ -159,5 +159,5 @@ module _ (m : Reading) (cs : List Cell) (reads : Reads m cs) (room : length cs <
 
   pub items-step :
       (c : Cell)
-      → itemsRead (readBits (cs ++ (c ∷ []))) ≡ itemsRead (readBits cs) ++ itemsOf (stepped m c (length cs))
+      → itemsRead (readBits (cs ++ (c ∷ []))) ≡ itemsRead (readBits cs) ++ itemClosed (stepped m c (length cs))
   items-step c = rw (items-so-far m cs (reads .before) (reads .rest) (reads .row) (reads .few)) (step-kept c .1)

@@ -22,10 +22,6 @@ pub either-of : {C : Type 0} (a b : Bool) → T (a || b) → (T a → C) → (T 
 either-of true b t f g = f t
 either-of false b t f g = g t
 
-pub neither : (a b : Bool) → (a || b) ≡ false → (a ≡ false) × (b ≡ false)
-neither true b h = absurd (true≢false h)
-neither false b h = (refl, h)
-
 pub holds : (a : Bool) → a ≡ true → T a
 holds true h = tt
 holds false h = true≢false (sym h)

@@ -97,10 +97,10 @@ module _ (cs : List Cell) where
 
 -- Counts
 
-given-is-something : (b : Bit) (c : Cell) → 1 ≤ length (given b c)
-given-is-something b Short = omega (arith, units-of-cell b Short, digit-is-small b)
-given-is-something b Medium = omega (arith, units-of-cell b Medium, digit-is-small b)
-given-is-something b Long = omega (arith, units-of-cell b Long, digit-is-small b)
+pub given-at-least-one : (b : Bit) (c : Cell) → 1 ≤ length (given b c)
+given-at-least-one b Short = omega (arith, units-of-cell b Short, digit-is-small b)
+given-at-least-one b Medium = omega (arith, units-of-cell b Medium, digit-is-small b)
+given-at-least-one b Long = omega (arith, units-of-cell b Long, digit-is-small b)
 
 -- each cell gives a bit or two
 pub cells-at-most-bits : (b : Bit) (cs : List Cell) → length cs ≤ length (readFrom b cs)
@@ -110,7 +110,7 @@ cells-at-most-bits b (c ∷ cs) =
     omega (
       arith,
       length-append (given b c) (readFrom (lastAfter b c) cs),
-      given-is-something b c,
+      given-at-least-one b c,
       cells-at-most-bits (lastAfter b c) cs,
     )
 

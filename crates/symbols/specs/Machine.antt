@@ -8,8 +8,8 @@ use lib.Dec.{eqb, ltb}
 use Rattle.symbols.specs.declared.Reading.{Reading}
 
 -- seven 0s of a byte that the lead closes
-unfoldable pub fresh : Reading
-fresh =
+unfoldable pub freshReading : Reading
+freshReading =
     record {
       register = 0b1000_0000;
       last = 0;

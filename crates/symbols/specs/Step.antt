@@ -65,8 +65,8 @@ unfoldable pub stepped : Reading → Cell → ℕ → Reading
 stepped m c at = pushed (readyFor m c at) (wordAfter m c)
 
 -- the item that the last cell gave, if it closed a byte
-unfoldable pub itemsOf : Reading → List ℕ
-itemsOf m = ifGiven (m .done) (m .item)
+unfoldable pub itemClosed : Reading → List ℕ
+itemClosed m = ifGiven (m .done) (m .item)
 
 -- cells read one after the other, the first at place k
 unfoldable pub ran : Reading → ℕ → List Cell → Reading
@@ -76,7 +76,7 @@ ran m k (c ∷ cs) = ran (stepped m c k) (suc k) cs
 -- the items that they give
 unfoldable pub ranItems : Reading → ℕ → List Cell → List ℕ
 ranItems m k [] = []
-ranItems m k (c ∷ cs) = itemsOf (stepped m c k) ++ ranItems (stepped m c k) (suc k) cs
+ranItems m k (c ∷ cs) = itemClosed (stepped m c k) ++ ranItems (stepped m c k) (suc k) cs
 
 -- the strip reader's answer at the end, from 7 on: one bit 0 after whole bytes leaves 1 0 in the register
 unfoldable pub stripAnswer : Reading → Answer

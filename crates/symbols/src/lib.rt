@@ -1,6 +1,6 @@
 // Document 01, "From bits to cells": bits, symbols and cells of written bytes, and the reading of cells.
 ghost use mathlib.Core.Path.{_≡_};
-ghost use Rattle.symbols.specs.Machine.{fresh, closed, pushed};
+ghost use Rattle.symbols.specs.Machine.{freshReading, closed, pushed};
 ghost use Rattle.symbols.specs.Step.{noted, wordAfter, readyFor, stepped};
 
 mod register;
@@ -36,7 +36,7 @@ pub struct Reading {
 
 impl Reading {
     pub fn new() -> Reading
-        ensures { λ r. ⌜ r ≡ fresh ⌝ }
+        ensures { λ r. ⌜ r ≡ freshReading ⌝ }
     {
         Reading {
             register: 0b1000_0000,

@@ -5,6 +5,7 @@ use Prim.Native.Nat.{ℕ, suc, _+_, _≤_, _<_}
 use mathlib.Core.Path.{_≡_, refl, ap, ap₂, _∙_}
 use mathlib.Core.Bool.{Bool, true, false, cond, _||_, true≢false}
 use mathlib.Core.List.{List, [], _∷_}
+use mathlib.Mathlib.Data.Bool.Basic.{or-eq-false-eq-eq-false-and-eq-false}
 use native.Mathlib.Nat.{add-suc, suc-add, add-zero}
 use native.Mathlib.Omega.{arith}
 use lib.Dec.{ltb}
@@ -28,22 +29,15 @@ numbers-have-ranges p = refl
 
 -- ---- no test passed
 
-or-false-left : (a b : Bool) → (a || b) ≡ false → a ≡ false
-or-false-left true b h = absurd (true≢false h)
-or-false-left false b h = refl
-
-or-false-right : (a b : Bool) → (a || b) ≡ false → b ≡ false
-or-false-right true b h = absurd (true≢false h)
-or-false-right false b h = h
-
 pub none-outside-all-inside : (rs : List Range) (ns : List ℕ) → anywhere passed (outsideOf rs ns) ≡ false → Inside rs ns
 none-outside-all-inside [] ns e = tt
 none-outside-all-inside (range ∷ rs) [] e = tt
 none-outside-all-inside (range ∷ rs) (n ∷ ns) e =
     let here = nowhere-fails-at-first passed (outside (range .low) (range .high) n) (outsideOf rs ns) e in
-    let later = nowhere-in-rest passed (outside (range .low) (range .high) n) (outsideOf rs ns) e in (
-      ltb-false n (range .low) (or-false-left (ltb n (range .low)) (ltb (range .high) n) here),
-      ltb-false (range .high) n (or-false-right (ltb n (range .low)) (ltb (range .high) n) here),
+    let later = nowhere-in-rest passed (outside (range .low) (range .high) n) (outsideOf rs ns) e in
+    let within = or-eq-false-eq-eq-false-and-eq-false (ltb n (range .low)) (ltb (range .high) n) .0 here in (
+      ltb-false n (range .low) (within .0),
+      ltb-false (range .high) n (within .1),
       none-outside-all-inside rs ns later,
     )
 

@@ -2,7 +2,7 @@
 use mathlib.Core.Path.{ap, _∙_}
 use Rattle.timing.specs.declared.Profile.{Profile}
 use Rattle.timing.specs.Class.{classRule}
-use Rattle.ism.specs.Answers.{given}
+use Rattle.ism.specs.Answers.{answerOf}
 use borrow.Author.Needs.{needs}
 use Rattle.ism.proofs.ism_class.Statement.{statement}
 use Rattle.ism.proofs.ism_class.Tie as tie
@@ -19,8 +19,8 @@ answer-requires c κs = search needs
 returns : tie.Need-returns
 returns c =
     c .answer .ensures
-    ∙ ap given (c .before .class-number .ensures)
-    ∙ ap (λ (q : Profile). given (classRule q (c .before .before .before .args .interval)))
+    ∙ ap answerOf (c .before .class-number .ensures)
+    ∙ ap (λ (q : Profile). answerOf (classRule q (c .before .before .before .args .interval)))
     (c .before .before .profile .ensures)
 
 pub ism-class-spec : {M : Type 1} → statement M

@@ -3,7 +3,7 @@
 use mathlib.Core.Path.{ap, _∙_}
 use Rattle.timing.specs.declared.Profile.{Profile}
 use Rattle.lengths.specs.Margin.{marginRule}
-use Rattle.ism.specs.Answers.{given}
+use Rattle.ism.specs.Answers.{answerOf}
 use borrow.Author.Needs.{needs}
 use Rattle.ism.proofs.ism_margin.Statement.{statement}
 use Rattle.ism.proofs.ism_margin.Tie as tie
@@ -20,8 +20,8 @@ answer-requires c κs = search needs
 returns : tie.Need-returns
 returns c =
     c .answer .ensures
-    ∙ ap given (c .before .margin .ensures)
-    ∙ ap (λ (q : Profile). given (marginRule q)) (c .before .before .profile .ensures)
+    ∙ ap answerOf (c .before .margin .ensures)
+    ∙ ap (λ (q : Profile). answerOf (marginRule q)) (c .before .before .profile .ensures)
 
 pub ism-margin-spec : {M : Type 1} → statement M
 ism-margin-spec = tie.close (tie.spec profile-requires margin-requires answer-requires returns)

@@ -4,7 +4,7 @@ use denote.Ref.{now}
 use lib.ListN.{length}
 use Rattle.timing.specs.declared.Profile.{Profile}
 use Rattle.codec.specs.Reader.{readRule, readOutput}
-use Rattle.ism.specs.Answers.{given}
+use Rattle.ism.specs.Answers.{answerOf}
 use borrow.Author.Needs.{needs}
 use Rattle.ism.proofs.ism_read.Statement.{statement}
 use Rattle.ism.proofs.ism_read.Tie as tie
@@ -27,7 +27,7 @@ returns c =
     let wrote = c .before .before .before .read .ensures in
     let same = c .before .before .before .before .before .profile .ensures in (
       c .answer .ensures
-          ∙ ap given
+          ∙ ap answerOf
           (wrote .0 ∙ ap (λ (q : Profile). readRule q (now (start .intervals)) (length (now (start .out)))) same),
       wrote .1 ∙ ap (λ (q : Profile). readOutput q (now (start .intervals)) (now (start .out))) same,
     )

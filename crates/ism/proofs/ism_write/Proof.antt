@@ -4,7 +4,7 @@ use denote.Ref.{now}
 use lib.ListN.{length}
 use Rattle.timing.specs.declared.Profile.{Profile}
 use Rattle.codec.specs.Writer.{writeRule, writeOutput}
-use Rattle.ism.specs.Answers.{given}
+use Rattle.ism.specs.Answers.{answerOf}
 use borrow.Author.Needs.{needs}
 use Rattle.ism.proofs.ism_write.Statement.{statement}
 use Rattle.ism.proofs.ism_write.Tie as tie
@@ -27,7 +27,7 @@ returns c =
     let wrote = c .before .before .before .write .ensures in
     let same = c .before .before .before .before .before .profile .ensures in (
       c .answer .ensures
-          ∙ ap given
+          ∙ ap answerOf
           (wrote .0 ∙ ap (λ (q : Profile). writeRule q (now (start .items)) (length (now (start .out)))) same),
       wrote .1 ∙ ap (λ (q : Profile). writeOutput q (now (start .items)) (now (start .out))) same,
     )

@@ -10,7 +10,7 @@ use Rattle.timing.specs.Class.{classIn, classesFrom, classesOf}
 use Rattle.timing.specs.declared.cursor.Cursor.{Cursor}
 use Rattle.timing.specs.declared.cursor.Classed.{Classed}
 use Rattle.timing.proofs.ClassLaws.{classes-from-start}
-use Rattle.symbols.specs.Step.{itemsOf}
+use Rattle.symbols.specs.Step.{itemClosed}
 use Rattle.intervals.specs.Cells.{taken}
 use Turn.{Passing, begins, turn-stops, turn-goes-on, pass-ends}
 use Rattle.codec.proofs.reader.pass_over.Statement.{statement}
@@ -106,7 +106,7 @@ loop-less : tie.Need-loop-less Inv-loop μ-loop
 loop-less c = search needs
 
 loop-again : tie.Need-loop-again Inv-loop μ-loop
-unfolding itemsOf
+unfolding itemClosed
 loop-again c =
     let stepped = c .before .before .before .before .before in
     let at-take = stepped .before .before .before .before in

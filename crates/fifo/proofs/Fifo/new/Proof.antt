@@ -1,11 +1,11 @@
 -- Why `new` answers `fresh`: 0 held is the empty list.
 use mathlib.Core.Path.{refl}
-use Rattle.fifo.specs.State.{itemsOf}
+use Rattle.fifo.specs.State.{heldItems}
 use Rattle.fifo.proofs.Fifo.new.Statement.{statement}
 use Rattle.fifo.proofs.Fifo.new.Tie as tie
 
 returns : tie.Need-returns
-unfolding itemsOf
+unfolding heldItems
 returns c = refl
 
 pub new-spec : {M : Type 1} → statement M

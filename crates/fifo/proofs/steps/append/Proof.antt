@@ -1,6 +1,6 @@
 -- Why `append` answers `putting`: its branches are the cases of the definition, in the same order.
 use mathlib.Core.Path.{sym, _∙_, ap}
-use Rattle.fifo.specs.State.{itemsOf, stateOf}
+use Rattle.fifo.specs.State.{heldItems, stateOf}
 use Rattle.fifo.specs.Rules.{gives}
 use Rattle.fifo.proofs.StateLaws.{items-of-none, items-of-one, items-of-two}
 use Rattle.fifo.proofs.StepLaws.{put-into-empty, put-after-one, put-when-full, put-of-no-item}
@@ -33,7 +33,7 @@ not-an-item-requires : tie.Need-not-an-item-requires
 not-an-item-requires c κs = search needs
 
 returns : tie.Need-returns
-unfolding itemsOf
+unfolding heldItems
 returns c =
     let at-none = c .before .before in
     let at-item = at-none .before .before in
@@ -43,7 +43,7 @@ returns c =
     ∙ sym (put-into-empty (a .fault) (a .item) (stateOf (a .fifo)) item (items-of-none _ _ _ (at-none .if2 .taken)))
 
 returns-2 : tie.Need-returns-2
-unfolding itemsOf
+unfolding heldItems
 returns-2 c =
     let at-one = c .before .before in
     let at-item = at-one .before .before .before .before in

@@ -2,7 +2,7 @@
 use Prim.Native.Nat.{ℕ}
 use mathlib.Core.Path.{sym, _∙_, ap}
 use mathlib.Core.List.{List}
-use Rattle.fifo.specs.State.{itemsOf, stateOf}
+use Rattle.fifo.specs.State.{heldItems, stateOf}
 use Rattle.fifo.specs.Rules.{withItems}
 use Rattle.fifo.proofs.StateLaws.{rest-below-two-is-empty, rest-from-two-is-second}
 use borrow.Author.Needs.{needs}
@@ -16,7 +16,7 @@ with-items-requires-2 : tie.Need-with-items-requires-2
 with-items-requires-2 c κs = search needs
 
 returns : tie.Need-returns
-unfolding itemsOf
+unfolding heldItems
 returns c =
     let at-two = c .before in
     let fifo = at-two .before .before .args .fifo in
@@ -24,7 +24,7 @@ returns c =
     ∙ ap (λ (ns : List ℕ). withItems ns (stateOf fifo)) (sym (rest-below-two-is-empty _ _ _ (at-two .if1 .taken)))
 
 returns-2 : tie.Need-returns-2
-unfolding itemsOf
+unfolding heldItems
 returns-2 c =
     let at-two = c .before in
     let fifo = at-two .before .before .args .fifo in

@@ -7,7 +7,7 @@ use mir.Val.{boolByte}
 use Rattle.refusal.specs.Answer.{refused}
 use Rattle.fields.specs.FieldRule.{fieldAnswer, fieldTurnedAway}
 use Rattle.fields.specs.declared.reader.FieldRead.{FieldRead}
-use Rattle.ism.specs.Answers.{asNumber, givenField}
+use Rattle.ism.specs.Answers.{asNumber, fieldAnswerOf}
 use Rattle.ism.specs.declared.IsmAnswer.{IsmAnswer}
 use borrow.Author.Needs.{needs}
 use Rattle.ism.proofs.disk.field_answer.Statement.{statement}
@@ -40,12 +40,12 @@ returns : tie.Need-returns
 returns c =
     let given = c .before .read .given .0 in
     ap (fieldGiven (given .0) (given .1 .0)) (number-of-yes (given .1 .1 .0))
-    ∙ sym (ap (λ (x : FieldRead). givenField (fieldAnswer x)) (c .before .read .given .1))
+    ∙ sym (ap (λ (x : FieldRead). fieldAnswerOf (fieldAnswer x)) (c .before .read .given .1))
 
 returns-2 : tie.Need-returns-2
 returns-2 c =
-    ap₂ (λ (n p : ℕ). givenField (fieldTurnedAway (refused n p))) (c .before .number .ensures) (c .place .ensures)
-    ∙ sym (ap (λ (x : FieldRead). givenField (fieldAnswer x)) (c .before .before .before .read2 .given .1))
+    ap₂ (λ (n p : ℕ). fieldAnswerOf (fieldTurnedAway (refused n p))) (c .before .number .ensures) (c .place .ensures)
+    ∙ sym (ap (λ (x : FieldRead). fieldAnswerOf (fieldAnswer x)) (c .before .before .before .read2 .given .1))
 
 pub field-answer-spec : {M : Type 1} → statement M
 field-answer-spec =

@@ -4,7 +4,7 @@ use mathlib.Core.Path.{ap, _∙_}
 use denote.Ref.{now}
 use Rattle.timing.specs.declared.Profile.{Profile}
 use Rattle.fields.specs.Lock.{findRule}
-use Rattle.ism.specs.Answers.{given}
+use Rattle.ism.specs.Answers.{answerOf}
 use borrow.Author.Needs.{needs}
 use Rattle.ism.proofs.disk.ism_find.Statement.{statement}
 use Rattle.ism.proofs.disk.ism_find.Tie as tie
@@ -22,7 +22,7 @@ returns : tie.Need-returns
 returns c =
     let start = c .before .before .before .before .args in
     c .answer .ensures
-    ∙ ap given
+    ∙ ap answerOf
     (c .before .find-lock .ensures
     ∙ ap (λ (q : Profile). findRule q (now (start .intervals)) (start .start)) (c .before .before .profile .ensures))
 

@@ -5,7 +5,7 @@ use denote.Ref.{now}
 use lib.ListN.{length}
 use Rattle.timing.specs.declared.Profile.{Profile}
 use Rattle.fields.specs.FieldRule.{fieldReading, fieldOutput}
-use Rattle.ism.specs.Answers.{givenField}
+use Rattle.ism.specs.Answers.{fieldAnswerOf}
 use borrow.Author.Needs.{needs}
 use Rattle.ism.proofs.disk.ism_read_field.Statement.{statement}
 use Rattle.ism.proofs.disk.ism_read_field.Tie as tie
@@ -28,7 +28,7 @@ returns c =
     let wrote = c .before .before .before .read-field .ensures in
     let same = c .before .before .before .before .before .profile .ensures in (
       c .field-answer .ensures
-          ∙ ap givenField
+          ∙ ap fieldAnswerOf
           (wrote .0
           ∙ ap (λ (q : Profile). fieldReading q (now (start .intervals)) (start .bytes) (length (now (start .out))))
           same),

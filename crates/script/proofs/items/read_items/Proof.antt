@@ -10,7 +10,7 @@ use lib.ListN.{length, take, drop, length-take, length-drop}
 use Rattle.text.specs.Ascii.{lineFeed}
 use Rattle.text.specs.Pieces.{piecesOf}
 use Rattle.script.specs.Line.{lineItems}
-use Rattle.script.specs.Input.{garbledFrom, itemsOf}
+use Rattle.script.specs.Input.{garbledFrom, itemsOfLines}
 use Rattle.script.specs.Read.{isRead}
 use Rattle.script.proofs.BufferLaws.{Storing, all-is-left, rest-is-left, nothing-is-left}
 use Rattle.script.proofs.ByteLaws.{few-items}
@@ -27,8 +27,8 @@ Inv-loop text from buffer₀ at₀ line₀ count₀ buffer at line count =
     × (count ≤ at)
     × (line ≤ at + 2)
     × (garbledFrom line (piecesOf lineFeed (drop at text)) ≡ garbledFrom 2 (piecesOf lineFeed (drop from text)))
-    × Storing buffer count (itemsOf (piecesOf lineFeed (drop at text))) buffer₀ 0
-    (itemsOf (piecesOf lineFeed (drop from text)))
+    × Storing buffer count (itemsOfLines (piecesOf lineFeed (drop at text))) buffer₀ 0
+    (itemsOfLines (piecesOf lineFeed (drop from text)))
 
 abbrev μ-loop : tie.MeasureT-loop
 μ-loop text from buffer₀ at₀ line₀ count₀ buffer at line count = length text - at
@@ -146,7 +146,7 @@ loop-again c =
     let size = length-take (found .before .find .result - at .loop .at) (drop (at .loop .at) (args .text .now)) in
     let stored = call .read-item-line .ensures .stored _ (c .before .n .given .1) in
     let rest = piecesOf lineFeed (drop (found .before .find .result + 1) (args .text .now)) in
-    let items = ap itemsOf (next found) ∙ items-next _ _ in (
+    let items = ap itemsOfLines (next found) ∙ items-next _ _ in (
       omega (arith, line-found found),
       call .read-item-line .kept .1 .0 ∙ at .loop .inv .1,
       omega (arith, stored .size, few-items line, size, at .loop .inv .2, found .before .find .ensures),
@@ -155,7 +155,7 @@ loop-again c =
           (sym (garbled-after-good _ _ (at .loop .line) good)
           ∙ sym (ap (garbledFrom (at .loop .line)) (next found))
           ∙ at .loop .inv .4),
-      rest-is-left (at .loop .buffer) _ (at .loop .count) _ (lineItems line) (itemsOf rest) _ _ _ stored
+      rest-is-left (at .loop .buffer) _ (at .loop .count) _ (lineItems line) (itemsOfLines rest) _ _ _ stored
           (rw items at (at .loop .inv .5)),
     )
 

@@ -1,11 +1,11 @@
--- `Reading::new` is the record `fresh` itself.
+-- `Reading::new` is the record `freshReading` itself.
 use mathlib.Core.Path.{refl}
-use Rattle.symbols.specs.Machine.{fresh}
+use Rattle.symbols.specs.Machine.{freshReading}
 use Rattle.symbols.proofs.Reading.new.Statement.{statement}
 use Rattle.symbols.proofs.Reading.new.Tie as tie
 
 returns : tie.Need-returns
-unfolding fresh
+unfolding freshReading
 returns c = refl
 
 pub new-spec : {M : Type 1} → statement M

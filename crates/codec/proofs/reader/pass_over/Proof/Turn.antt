@@ -13,8 +13,8 @@ use Rattle.timing.specs.Class.{classIn, cursorPast, classesFrom}
 use Rattle.timing.specs.declared.cursor.Cursor.{Cursor}
 use Rattle.timing.specs.declared.Class.{Class}
 use Rattle.timing.proofs.ClassLaws.{classes-none, classes-here}
-use Rattle.symbols.specs.Machine.{fresh}
-use Rattle.symbols.specs.Step.{stepped, itemsOf}
+use Rattle.symbols.specs.Machine.{freshReading}
+use Rattle.symbols.specs.Step.{stepped, itemClosed}
 use Rattle.symbols.specs.declared.Cell.{Cell}
 use Rattle.symbols.specs.declared.Reading.{Reading}
 use Rattle.intervals.specs.Cells.{taken}
@@ -41,15 +41,15 @@ module _ (k : ℕ) (m : Reading) (cs : List Class) where
       : {c : Class} {x : Cell}
       → ReadAs c x
       → (scanned k m (c ∷ cs) ≡ scanned (suc k) (stepped m x k) cs)
-      × (gathered k m (c ∷ cs) ≡ itemsOf (stepped m x k) ++ gathered (suc k) (stepped m x k) cs)
+      × (gathered k m (c ∷ cs) ≡ itemClosed (stepped m x k) ++ gathered (suc k) (stepped m x k) cs)
   unfolding scanned gathered
   goes-on as-short = (refl, refl)
   goes-on as-medium = (refl, refl)
   goes-on as-long = (refl, refl)
 
 -- a cell closes one byte at most
-one-item-at-most : (m : Reading) → length (itemsOf m) ≤ 1
-unfolding itemsOf
+one-item-at-most : (m : Reading) → length (itemClosed m) ≤ 1
+unfolding itemClosed
 one-item-at-most m = one-given-at-most (m .done) (m .item)
 
 -- ---- the pass so far
@@ -62,11 +62,11 @@ module _ (start : Cursor) (ds old : List ℕ) where
     pub within : k ≤ length ds
     pub few : count ≤ k
     pub same-length : length out ≡ length old
-    pub to-scan : scanned k m (classesFrom cursor (drop k ds)) ≡ scanned 0 fresh all
+    pub to-scan : scanned k m (classesFrom cursor (drop k ds)) ≡ scanned 0 freshReading all
     pub to-store
-        : storedAt out count (gathered k m (classesFrom cursor (drop k ds))) ≡ storedAt old 0 (gathered 0 fresh all)
+        : storedAt out count (gathered k m (classesFrom cursor (drop k ds))) ≡ storedAt old 0 (gathered 0 freshReading all)
 
-  pub begins : Passing old fresh start 0 0
+  pub begins : Passing old freshReading start 0 0
   begins = record { within = omega arith; few = omega arith; same-length = refl; to-scan = refl; to-store = refl }
 
   module _ {out : List ℕ} {m : Reading} {cursor : Cursor} {count k : ℕ} (now : Passing out m cursor count k) where
@@ -80,7 +80,7 @@ module _ (start : Cursor) (ds old : List ℕ) where
         : (r : Refusal)
         → k < length ds
         → Refused r ≡ taken here k
-        → (Stopped r ≡ scanned 0 fresh all) × (out ≡ storedAt old 0 (gathered 0 fresh all))
+        → (Stopped r ≡ scanned 0 freshReading all) × (out ≡ storedAt old 0 (gathered 0 freshReading all))
     turn-stops r h e =
         let ends = stops k m rest here r e in
         let left = classes-here cursor ds k h in (
@@ -95,8 +95,8 @@ module _ (start : Cursor) (ds old : List ℕ) where
         → k < length ds
         → Read x ≡ taken here k
         → next ≡ stepped m x k
-        → count′ ≡ count + length (itemsOf next)
-        → stored ≡ storedAt out count (itemsOf next)
+        → count′ ≡ count + length (itemClosed next)
+        → stored ≡ storedAt out count (itemClosed next)
         → Passing stored next (cursorPast cursor (getD ds k 0)) count′ (k + 1)
     turn-goes-on x next stored count′ h e machine places store =
         let left = classes-here cursor ds k h in
@@ -105,17 +105,17 @@ module _ (start : Cursor) (ds old : List ℕ) where
         (record {
           within = h;
           few = let one = one-item-at-most next in let before = now .few in omega arith;
-          same-length = ap length store ∙ stored-length out count (itemsOf next) ∙ now .same-length;
+          same-length = ap length store ∙ stored-length out count (itemClosed next) ∙ now .same-length;
           to-scan = sym (on .0) ∙ ap (scanned k m) (sym left) ∙ now .to-scan;
           to-store =
               ap (λ (l : List ℕ). storedAt l count′ (gathered (suc k) next rest)) store
-              ∙ stored-after-stored (itemsOf next) (gathered (suc k) next rest) out count count′ places
+              ∙ stored-after-stored (itemClosed next) (gathered (suc k) next rest) out count count′ places
               ∙ ap (storedAt out count) (sym (on .1) ∙ ap (gathered k m) (sym left))
               ∙ now .to-store;
         })
 
     pub pass-ends
-        : length ds ≤ k → (Whole m ≡ scanned 0 fresh all) × (out ≡ storedAt old 0 (gathered 0 fresh all))
+        : length ds ≤ k → (Whole m ≡ scanned 0 freshReading all) × (out ≡ storedAt old 0 (gathered 0 freshReading all))
     unfolding scanned gathered
     pass-ends h =
         let none : classesFrom cursor (drop k ds) ≡ [] =

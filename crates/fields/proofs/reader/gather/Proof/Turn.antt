@@ -20,8 +20,8 @@ use Rattle.timing.specs.declared.Class.{Class}
 use Rattle.timing.proofs.ClassLaws.{classes-none, classes-here}
 use Rattle.symbols.specs.Bytes.{itemsRead}
 use Rattle.symbols.specs.Reading.{readFrom, readBits}
-use Rattle.symbols.specs.Machine.{fresh}
-use Rattle.symbols.specs.Step.{stepped, itemsOf}
+use Rattle.symbols.specs.Machine.{freshReading}
+use Rattle.symbols.specs.Step.{stepped, itemClosed}
 use Rattle.symbols.specs.declared.Cell.{Cell}
 use Rattle.symbols.specs.declared.Reading.{Reading}
 use Rattle.symbols.proofs.ReadsLaws.{Reads, reads-fresh}
@@ -50,7 +50,7 @@ module _ (start : Cursor) (ds old : List ℕ) (n : ℕ) where
     pub counted : count ≡ length (itemsRead (readBits done))
     pub stored : out ≡ storedAt old 0 (itemsRead (readBits done))
 
-  pub begins : Gathering old fresh start 0 0
+  pub begins : Gathering old freshReading start 0 0
   unfolding itemsRead readBits readFrom
   begins =
       record {
@@ -134,17 +134,17 @@ module _ (start : Cursor) (ds old : List ℕ) (n : ℕ) where
         → length ds ≤ 8241
         → Read x ≡ taken here k
         → next ≡ stepped m x k
-        → count′ ≡ count + length (itemsOf next)
-        → new ≡ storedAt out count (itemsOf next)
+        → count′ ≡ count + length (itemClosed next)
+        → new ≡ storedAt out count (itemClosed next)
         → Gathering new next (cursorPast cursor (getD ds k 0)) count′ (k + 1)
     turn-goes-on x next new count′ h inside most e steps places store =
         let more : List Cell = so-far .done ++ (x ∷ []) in
         let room : length (so-far .done) < 2 ^ 32 = let at = so-far .placed in omega arith in
         let machine : next ≡ stepped m x (length (so-far .done)) =
         steps ∙ ap (stepped m x) (sym (so-far .placed)) in
-        let items : itemsRead (readBits more) ≡ itemsRead (readBits (so-far .done)) ++ itemsOf next =
+        let items : itemsRead (readBits more) ≡ itemsRead (readBits (so-far .done)) ++ itemClosed next =
         items-step m (so-far .done) (so-far .reads) room x
-        ∙ ap (λ (r : Reading). itemsRead (readBits (so-far .done)) ++ itemsOf r) (sym machine) in
+        ∙ ap (λ (r : Reading). itemsRead (readBits (so-far .done)) ++ itemClosed r) (sym machine) in
         rw add-one
         (record {
           done = more;
@@ -154,18 +154,18 @@ module _ (start : Cursor) (ds old : List ℕ) (n : ℕ) where
           within = inside;
           front =
               front-goes-on cs n (so-far .done) (wanted h) (taken-is-read k _ x e) rest (front-here inside);
-          same-length = ap length store ∙ stored-length out count (itemsOf next) ∙ so-far .same-length;
+          same-length = ap length store ∙ stored-length out count (itemClosed next) ∙ so-far .same-length;
           counted =
               places
-              ∙ ap (λ (j : ℕ). j + length (itemsOf next)) (so-far .counted)
-              ∙ sym (length-append (itemsRead (readBits (so-far .done))) (itemsOf next))
+              ∙ ap (λ (j : ℕ). j + length (itemClosed next)) (so-far .counted)
+              ∙ sym (length-append (itemsRead (readBits (so-far .done))) (itemClosed next))
               ∙ ap length (sym items);
           stored =
               store
-              ∙ ap (λ (l : List ℕ). storedAt l count (itemsOf next)) (so-far .stored)
+              ∙ ap (λ (l : List ℕ). storedAt l count (itemClosed next)) (so-far .stored)
               ∙ stored-after-stored
               (itemsRead (readBits (so-far .done)))
-              (itemsOf next)
+              (itemClosed next)
               old
               0
               count
