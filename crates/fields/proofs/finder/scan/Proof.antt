@@ -144,7 +144,7 @@ scan-again-2 c =
     (omega arith)
 
 returns : tie.Need-returns Inv-loop μ-loop Inv-scan μ-scan
-returns c = scan-ends-adrift (c .before .scan .inv) (c .if1 .taken)
+returns c = scan-ends-adrift (c .before .scan .inv) (omega arith)
 
 returns-2 : tie.Need-returns-2 Inv-loop μ-loop Inv-scan μ-scan
 returns-2 c = mark-is-found (at-mark (c .before)) (sym (mark-is (c .before)) ∙ c .if3 .taken)
