@@ -30,7 +30,7 @@ pub struct Part {
     pub check: Check,
 }
 
-// The bits of at most 64 items. Their bytes are made first, so that the check table is bound once for all of them.
+// The bits of at most 64 items. Their bytes are made first, so that the register and the pen have a loop each.
 fn write_part(p: Profile, start: Part, items: &[u16], out: &mut [u16]) -> Part
     requires { ⌜ Steady p (start .track .pen) ⌝ }
     requires { ⌜ (start .track .at < 60000) × (length (now items) ≤ 64) ⌝ }

@@ -1,6 +1,6 @@
 -- Laws of the register's state: it stays within 16 bits, and its own two bytes clear it.
 use Prim.Native.Nat.{ℕ, _+_, _%_, _<_, _≤_}
-use mathlib.Core.Path.{_≡_, refl, ap, _∙_}
+use mathlib.Core.Path.{_≡_, refl, ap, ap₂, _∙_}
 use mathlib.Core.Bool.{true, false, cond}
 use mathlib.Core.List.{List, [], _∷_, _++_}
 use native.Mathlib.Nat.{mod-eq-of-lt}
@@ -66,6 +66,18 @@ after-bytes-from-end c ws k h = rw (drop-of-length-le ws h)
 pub after-data : (c : Check) (w : ℕ) → w < 256 → afterByte c w ≡ unmarked (fed (c .register) w)
 unfolding afterByte afterData
 after-data c w h = rw (data-is-no-mark w h, mod-eq-of-lt h)
+
+pub after-two-data-from :
+    (c : Check) (ws : List ℕ) (k : ℕ) → k + 1 < length ws → getD ws k 0 < 256 → getD ws (k + 1) 0 < 256
+    → afterBytes c (drop k ws)
+    ≡ afterBytes (unmarked (fed (fed (c .register) (getD ws k 0)) (getD ws (k + 1) 0))) (drop (k + 2) ws)
+after-two-data-from c ws k h high low =
+    let first : Check = unmarked (fed (c .register) (getD ws k 0)) in
+    let second : k + 1 + 1 ≡ k + 2 = omega arith in
+    after-bytes-from c ws k (omega arith)
+    ∙ ap (λ (s : Check). afterBytes s (drop (k + 1) ws)) (after-data c (getD ws k 0) high)
+    ∙ after-bytes-from first ws (k + 1) h
+    ∙ ap₂ (λ (s : Check) (n : ℕ). afterBytes s (drop n ws)) (after-data first (getD ws (k + 1) 0) low) second
 
 -- ---- marks
 

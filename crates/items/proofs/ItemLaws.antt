@@ -12,7 +12,7 @@ use lib.ListN.{length, getD, drop, drop-of-length-le}
 use lib.Seq.{drop-cons}
 use Rattle.lists.specs.Place.{anywhere, everywhere}
 use Rattle.lists.proofs.PlaceLaws.{everywhere-of-none, everywhere-of-passing, everywhere-is-nowhere-else}
-use Rattle.lists.proofs.PlaceLaws.{nowhere-fails-at-first, nowhere-in-rest}
+use Rattle.lists.proofs.PlaceLaws.{anywhere-of-none, anywhere-of-failing, nowhere-fails-at-first, nowhere-in-rest}
 use Rattle.items.specs.Item.{isMark, isByte, isCheck, isItem, isForeign, bytesOf, writtenBytes}
 
 either : (a b : Bool) → (a || b) ≡ true → (a ≡ true) ⊎ (b ≡ true)
@@ -98,6 +98,10 @@ pub bytes-of-others-is-1 : (n : ℕ) → isCheck n ≡ false → bytesOf n ≡ 1
 unfolding bytesOf
 bytes-of-others-is-1 n e = rw e
 
+pub bytes-of-check-is-2 : (n : ℕ) → isCheck n ≡ true → bytesOf n ≡ 2
+unfolding bytesOf
+bytes-of-check-is-2 n e = rw e
+
 pub bytes-of-bounds : (n : ℕ) → (1 ≤ bytesOf n) × (bytesOf n ≤ 2)
 unfolding bytesOf
 bytes-of-bounds n =
@@ -108,6 +112,17 @@ pub written-bytes-bounds : (ns : List ℕ) → (length ns ≤ writtenBytes ns) �
 unfolding writtenBytes
 written-bytes-bounds [] = omega arith
 written-bytes-bounds (n ∷ ns) = let one = bytes-of-bounds n in let rest = written-bytes-bounds ns in omega arith
+
+-- a list that writes no more bytes than it has numbers
+pub one-byte-each-is-no-check : (ns : List ℕ) → writtenBytes ns ≡ length ns → anywhere isCheck ns ≡ false
+unfolding writtenBytes
+one-byte-each-is-no-check [] e = anywhere-of-none isCheck
+one-byte-each-is-no-check (n ∷ ns) e =
+    let one = bytes-of-bounds n in
+    let rest = written-bytes-bounds ns in
+    let other : isCheck n ≡ false =
+    ⊎-elim (λ check. absurd (omega (arith, bytes-of-check-is-2 n check))) (λ other. other) (check-or-not n) in
+    anywhere-of-failing isCheck n ns other ∙ one-byte-each-is-no-check ns (omega arith)
 
 -- from place k on
 pub written-bytes-from : (ns : List ℕ) (k : ℕ) → k < length ns

@@ -1,5 +1,7 @@
 pub mod XorLaws
+pub mod LinearLaws
 pub mod RegisterLaws
+pub mod FormulaLaws
 pub mod ItemLaws
 pub mod CheckLaws
 pub mod WrittenLaws

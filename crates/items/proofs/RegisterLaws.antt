@@ -1,5 +1,5 @@
--- Laws of the check register: a bit's step is linear over exclusive-or. So a byte's eight steps are one entry of the
--- table added to the low byte moved up, and a register that is fed its own two bytes is zero.
+-- Laws of the check register: a bit's step is linear over exclusive-or. So a byte's eight steps are those of what leaves
+-- at the top, added to the low byte moved up, and a register that is fed its own two bytes is zero.
 use Prim.Native.Nat.{ℕ, zero, suc, _+_, _*_, _/_, _%_, _^_, _<_, _≤_}
 use mathlib.Core.Path.{_≡_, refl, sym, ap, ap₂, _∙_}
 use native.Mathlib.Nat.{add-zero, pow-succ', div-add-mod', mul-assoc, mul-one, mul-le-mul-left}
@@ -8,10 +8,8 @@ use native.Mathlib.Omega.{arith}
 use borrow.Author.Tests.{lt-ltb, le-ltb}
 use lib.Pow.{pow-pos}
 use lib.Bits.{bitXor, xor-shr, xor-mod, xor-lt, xor-block, xor-shifted, xor-self, xor-zero-r}
-use lib.ListN.{getD}
-use Rattle.lists.proofs.TableLaws.{entry-is-rule}
-use Rattle.items.specs.Register.{polynomial, shifted, shiftedBy, fed, registerTable, highByte, lowByte}
-use Rattle.items.proofs.XorLaws.{xor-double, xor-switch, xor-exchange}
+use Rattle.items.specs.Register.{polynomial, shifted, shiftedBy, fed, highByte, lowByte}
+use Rattle.items.proofs.XorLaws.{xor-up, xor-switch, xor-exchange}
 
 -- ---- one bit
 
@@ -45,7 +43,7 @@ shifted-is-sum =
 pub shifted-of-xor : (a b : ℕ) → a < 0x10000 → b < 0x10000 → shifted (bitXor a b) ≡ bitXor (shifted a) (shifted b)
 shifted-of-xor a b ha hb =
     shifted-is-sum (bitXor a b) (xor-lt 16 a b ha hb)
-    ∙ ap₂ bitXor (ap (λ (x : ℕ). x % 0x10000) (xor-double a b) ∙ xor-mod (a * 2) (b * 2) 16)
+    ∙ ap₂ bitXor (ap (λ (x : ℕ). x % 0x10000) (xor-up 1 a b) ∙ xor-mod (a * 2) (b * 2) 16)
     (ap (λ (x : ℕ). x * polynomial) (xor-shr a b 15)
     ∙ xor-switch polynomial (a / 0x8000) (b / 0x8000) (omega arith) (omega arith))
     ∙ xor-exchange (a * 2 % 0x10000) (b * 2 % 0x10000) (a / 0x8000 * polynomial) (b / 0x8000 * polynomial)
@@ -62,7 +60,7 @@ shifted-by-of-xor (suc n) a b ha hb =
     ∙ shifted-by-of-xor n (shifted a) (shifted b) (shifted-bound a) (shifted-bound b)
 
 -- as long as no 1 leaves at the top
-shifted-by-is-power : (n r : ℕ) → r * 2 ^ n < 0x10000 → shiftedBy n r ≡ r * 2 ^ n
+pub shifted-by-is-power : (n r : ℕ) → r * 2 ^ n < 0x10000 → shiftedBy n r ≡ r * 2 ^ n
 unfolding shiftedBy
 shifted-by-is-power zero r h = sym (mul-one r)
 shifted-by-is-power (suc n) r h =
@@ -84,11 +82,11 @@ unfolding fed shiftedBy
 fed-bound r byte = shifted-by-bound 7 (shifted (bitXor r (byte * 256))) (shifted-bound (bitXor r (byte * 256)))
 
 -- the eight steps of a byte: those of one byte alone, the high byte and the new one added, and the low byte moved up
-pub fed-is-table-step : (r byte : ℕ) → r < 0x10000 → byte < 256
+pub fed-is-top-and-low-byte : (r byte : ℕ) → r < 0x10000 → byte < 256
     → fed r byte ≡ bitXor (fed 0 (bitXor (r / 256) byte)) (r % 256 * 256)
 unfolding fed
-fed-is-table-step r byte hr hb =
-    let index : bitXor (r / 256) byte < 256 = xor-lt 8 (r / 256) byte (omega arith) hb in
+fed-is-top-and-low-byte r byte hr hb =
+    let top : bitXor (r / 256) byte < 256 = xor-lt 8 (r / 256) byte (omega arith) hb in
     ap (shiftedBy 8)
     (ap₂ bitXor (sym (div-add-mod' r 256)) (sym (add-zero (byte * 256)))
     ∙ xor-block 8 (r / 256) byte (r % 256) 0 (omega arith) (omega arith)
@@ -104,7 +102,7 @@ zero-fed-zero = refl
 -- a register that is fed its own high byte
 pub fed-own-high-byte-is-low-byte-moved-up : (r : ℕ) → r < 0x10000 → fed r (highByte r) ≡ lowByte r * 256
 fed-own-high-byte-is-low-byte-moved-up r h =
-    fed-is-table-step r (highByte r) h (omega arith)
+    fed-is-top-and-low-byte r (highByte r) h (omega arith)
     ∙ ap (λ (x : ℕ). bitXor (fed 0 x) (lowByte r * 256)) (xor-self (highByte r))
     ∙ ap (λ (x : ℕ). bitXor x (lowByte r * 256)) zero-fed-zero
 
@@ -117,17 +115,3 @@ fed-own-bytes-is-zero r h =
     ap₂ fed (fed-own-high-byte-is-low-byte-moved-up r h) (sym high)
     ∙ fed-own-high-byte-is-low-byte-moved-up (lowByte r * 256) up
     ∙ low
-
--- ---- the table
-
-pub table-entry-is-eight-steps : (byte : ℕ) → byte < 256 → getD registerTable byte 0 ≡ fed 0 byte
-unfolding registerTable
-table-entry-is-eight-steps byte h = entry-is-rule (fed 0) 256 byte 0 h
-
--- the step that the code takes: the entry of the high byte and the new one added, and the register moved up by a byte
-pub table-step-is-fed : (r byte : ℕ) → r < 0x10000 → byte < 256
-    → bitXor (getD registerTable (bitXor (r / 256) byte) 0) (r * 256 % 0x10000) ≡ fed r byte
-table-step-is-fed r byte hr hb =
-    let moved : r * 256 % 0x10000 ≡ r % 256 * 256 = omega arith in
-    ap₂ bitXor (table-entry-is-eight-steps (bitXor (r / 256) byte) (xor-lt 8 (r / 256) byte (omega arith) hb)) moved
-    ∙ sym (fed-is-table-step r byte hr hb)

@@ -1,9 +1,10 @@
 -- Laws of exclusive-or that the library lacks: it works digit by digit, and on single digits it is computed.
-use Prim.Native.Nat.{ℕ, zero, suc, _+_, _*_, _/_, _%_, _<_}
+use Prim.Native.Nat.{ℕ, zero, suc, _+_, _*_, _/_, _%_, _^_, _<_}
 use mathlib.Core.Path.{_≡_, refl, sym, ap, ap₂, _∙_}
 use native.Mathlib.Nat.{div-add-mod', add-zero, zero-mul}
 use native.Mathlib.Omega.{arith}
 use lib.Arith.{bin-ind}
+use lib.Pow.{pow-pos}
 use lib.Bits.{bitXor, xor-shr, xor-mod, xor-comm, xor-block, xor-self, xor-zero-r}
 
 -- the lowest digit apart
@@ -38,11 +39,11 @@ xor-exchange a b c d =
     ∙ sym (xor-assoc a c (bitXor b d))
 
 -- a shift passes through
-pub xor-double : (a b : ℕ) → bitXor a b * 2 ≡ bitXor (a * 2) (b * 2)
-xor-double a b =
-    sym (add-zero (bitXor a b * 2))
-    ∙ sym (xor-block 1 a b 0 0 (omega arith) (omega arith))
-    ∙ ap₂ bitXor (add-zero (a * 2)) (add-zero (b * 2))
+pub xor-up : (k a b : ℕ) → bitXor a b * 2 ^ k ≡ bitXor (a * 2 ^ k) (b * 2 ^ k)
+xor-up k a b =
+    sym (add-zero (bitXor a b * 2 ^ k))
+    ∙ sym (xor-block k a b 0 0 (pow-pos k) (pow-pos k))
+    ∙ ap₂ bitXor (add-zero (a * 2 ^ k)) (add-zero (b * 2 ^ k))
 
 -- what a digit switches on
 pub xor-switch : (p x y : ℕ) → x < 2 → y < 2 → bitXor x y * p ≡ bitXor (x * p) (y * p)

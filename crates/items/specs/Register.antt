@@ -1,10 +1,8 @@
 -- Document 01, "Items and the check register": the register, bit by bit. No lemmas here.
 use Prim.Native.Nat.{ℕ, zero, suc, _*_, _/_, _%_}
 use mathlib.Core.Bool.{cond}
-use mathlib.Core.List.{List}
 use lib.Dec.{ltb}
 use lib.Bits.{bitXor}
-use Rattle.lists.specs.Table.{tabulated}
 
 -- all ones, 16 bits
 abbrev pub allOnes : ℕ
@@ -25,10 +23,6 @@ shiftedBy (suc n) r = shiftedBy n (shifted r)
 -- one byte, most significant bit first: added at the top, then moved out in eight steps
 unfoldable pub fed : ℕ → ℕ → ℕ
 fed r byte = shiftedBy 8 (bitXor r (byte * 256))
-
--- the table of 256 entries that the build keeps for it: what each byte alone makes of a register of 0
-unfoldable pub registerTable : List ℕ
-registerTable = tabulated (fed 0) 0 256
 
 -- the register's two bytes, high byte first
 abbrev pub highByte : ℕ → ℕ

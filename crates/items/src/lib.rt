@@ -1,6 +1,6 @@
 // Document 01, "Items and the check register".
 mod list;
-mod table;
+mod register;
 
 pub use list::Stored;
 pub use list::check_list;
@@ -11,7 +11,7 @@ ghost use Prim.Native.Nat.{_≤_, _<_};
 ghost use mathlib.Core.Path.{_≡_};
 ghost use lib.ListN.{length, drop};
 ghost use Rattle.items.specs.Item.{isMark, isCheck, isItem, bytesOf};
-ghost use Rattle.items.specs.Register.{registerTable, highByte, lowByte};
+ghost use Rattle.items.specs.Register.{highByte, lowByte};
 ghost use Rattle.items.specs.Written.{freshCheck, beforeMark, afterByte, afterBytes, afterCheck, afterItem};
 
 pub fn is_mark(n: u16) -> bool
@@ -68,58 +68,53 @@ impl Check {
         if self.marked { self.register } else { 0xffff }
     }
 
-    fn after_byte(self, table: &[u16; 256], byte: u16) -> Self
-        requires { ⌜ now table ≡ registerTable ⌝ }
+    fn after_byte(self, byte: u16) -> Self
         ensures { λ r. ⌜ r ≡ afterByte self byte ⌝ }
     {
         if is_mark(byte) {
             return Check {
-                register: table::feed(table, self.before_mark(), byte),
+                register: register::feed(self.before_mark(), byte),
                 marked: true,
             };
         }
         Check {
-            register: table::feed(table, self.register, byte),
+            register: register::feed(self.register, byte),
             marked: false,
         }
     }
 
-    fn after_item(self, table: &[u16; 256], n: u16) -> Self
-        requires { ⌜ now table ≡ registerTable ⌝ }
+    fn after_item(self, n: u16) -> Self
         ensures { λ r. ⌜ r ≡ afterItem self n ⌝ }
     {
         if is_check(n) {
             return self.after_check();
         }
-        self.after_byte(table, n)
+        self.after_byte(n)
     }
 
-    // A run of bytes from a place on: data bytes, which need no test for marks, so that the loop stays short, and the
-    // number after them. Answers the state and the place after the run.
-    fn after_run(self, table: &[u16; 256], bytes: &[u16], from: usize) -> Stored
-        requires { ⌜ now table ≡ registerTable ⌝ }
+    // A run of bytes from a place on: the number there, and then data bytes, two at a time. Answers the state and the
+    // place after the run.
+    fn after_run(self, bytes: &[u16], from: usize) -> Stored
         requires { ⌜ from < length (now bytes) ⌝ }
         ensures place { λ r. ⌜ (from < r .count) × (r .count ≤ length (now (bytes .entry))) ⌝ }
         ensures state { λ r. ⌜
             afterBytes (r .check) (drop (r .count) (now (bytes .entry)))
             ≡ afterBytes self (drop from (now (bytes .entry))) ⌝ }
     {
-        let mut check = self;
-        let mut k = from;
-        while k < bytes.len() {
-            let byte = bytes[k];
-            if 255 < byte {
-                check = check.after_byte(table, byte);
-                return Stored {
-                    check,
-                    count: k + 1,
-                };
+        let last = bytes.len() - 1;
+        let mut check = self.after_byte(bytes[from]);
+        let mut k = from + 1;
+        while k < last {
+            let high = bytes[k];
+            let low = bytes[k + 1];
+            if 255 < high | low {
+                return Stored { check, count: k };
             }
             check = Check {
-                register: table::feed(table, check.register, byte),
+                register: register::feed_two(check.register, high, low),
                 marked: false,
             };
-            k += 1;
+            k += 2;
         }
         Stored { check, count: k }
     }
@@ -128,11 +123,10 @@ impl Check {
     pub fn after_bytes(self, bytes: &[u16]) -> Self
         ensures { λ r. ⌜ r ≡ afterBytes self (now (bytes .entry)) ⌝ }
     {
-        let table = table::register_table();
         let mut check = self;
         let mut k: usize = 0;
         while k < bytes.len() {
-            let next = check.after_run(&table, bytes, k);
+            let next = check.after_run(bytes, k);
             check = next.check;
             k = next.count;
         }

@@ -91,22 +91,50 @@ pub struct Stored {
     pub count: usize,
 }
 
-// Stores a list's bytes, from a state of the register on, from the front of `out` on, as far as it reaches.
-pub fn write_bytes(start: Check, items: &[u16], out: &mut [u16]) -> Stored
+// Stores bytes from the front on.
+fn put_all(bytes: &[u16], out: &mut [u16])
+    ensures { λ _. ⌜ now (out .exit) ≡ storedAt (now (out .entry)) 0 (now (bytes .entry)) ⌝ }
+{
+    let mut k: usize = 0;
+    while k < bytes.len() {
+        put(out, k, bytes[k]);
+        k += 1;
+    }
+}
+
+// Stores a list's bytes item by item, so that a check order finds the register as it is then.
+fn write_each(start: Check, items: &[u16], out: &mut [u16]) -> Stored
     ensures check { λ r. ⌜ r .check ≡ afterBytes start (writtenFrom start (now (items .entry))) ⌝ }
     ensures count { λ r. ⌜ r .count ≡ writtenBytes (now (items .entry)) ⌝ }
     ensures output { λ _. ⌜ now (out .exit) ≡ storedAt (now (out .entry)) 0 (writtenFrom start (now (items .entry))) ⌝ }
 {
-    let table = crate::table::register_table();
     let mut check = start;
     let mut at: usize = 0;
     let mut k: usize = 0;
     while k < items.len() {
         let n = items[k];
         put_item(out, at, check, n);
-        check = check.after_item(&table, n);
+        check = check.after_item(n);
         at += crate::bytes_of(n);
         k += 1;
     }
     Stored { check, count: at }
+}
+
+// Stores a list's bytes, from a state of the register on, from the front of `out` on, as far as it reaches. A list
+// with no check order is its own bytes.
+pub fn write_bytes(start: Check, items: &[u16], out: &mut [u16]) -> Stored
+    ensures check { λ r. ⌜ r .check ≡ afterBytes start (writtenFrom start (now (items .entry))) ⌝ }
+    ensures count { λ r. ⌜ r .count ≡ writtenBytes (now (items .entry)) ⌝ }
+    ensures output { λ _. ⌜ now (out .exit) ≡ storedAt (now (out .entry)) 0 (writtenFrom start (now (items .entry))) ⌝ }
+{
+    let count = written_bytes(items);
+    if count == items.len() {
+        put_all(items, out);
+        return Stored {
+            check: start.after_bytes(items),
+            count,
+        };
+    }
+    write_each(start, items, out)
 }

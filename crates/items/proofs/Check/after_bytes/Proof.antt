@@ -12,14 +12,11 @@ use Rattle.items.proofs.Check.after_bytes.Statement.{statement}
 use Rattle.items.proofs.Check.after_bytes.Tie as tie
 
 abbrev Inv-loop : tie.InvT-loop
-Inv-loop bytes table check₀ k₀ check k =
+Inv-loop bytes check₀ k₀ check k =
     (k ≤ length bytes) × (afterBytes check (drop k bytes) ≡ afterBytes check₀ bytes)
 
 abbrev μ-loop : tie.MeasureT-loop
-μ-loop bytes table check₀ k₀ check k = length bytes - k
-
-register-table-requires : tie.Need-register-table-requires Inv-loop μ-loop
-register-table-requires c κs = search needs
+μ-loop bytes check₀ k₀ check k = length bytes - k
 
 loop-holds : tie.Need-loop-holds Inv-loop μ-loop
 loop-holds c = (omega arith, refl)
@@ -30,18 +27,18 @@ after-run-requires c κs = search needs
 loop-less : tie.Need-loop-less Inv-loop μ-loop
 loop-less c =
     let place = c .before .after-run .ensures .0 in
-    let inside = c .before .before .before .loop-test .taken in
+    let inside = c .before .before .loop-test .taken in
     omega arith
 
 loop-again : tie.Need-loop-again Inv-loop μ-loop
 loop-again c =
     let passed = c .before .after-run .ensures in
-    (passed .0 .1, passed .1 ∙ c .before .before .before .before .loop .inv .1)
+    (passed .0 .1, passed .1 ∙ c .before .before .before .loop .inv .1)
 
 returns : tie.Need-returns Inv-loop μ-loop
 returns c =
     let head = c .before .loop in
-    let bytes : List ℕ = now (c .before .before .before .before .args .bytes) in
+    let bytes : List ℕ = now (c .before .before .before .args .bytes) in
     sym (after-bytes-from-end (head .check) bytes (head .k) (c .loop-test .left)) ∙ head .inv .1
 
 pub after-bytes-spec : {M : Type 1} → statement M
@@ -50,7 +47,6 @@ after-bytes-spec =
     (tie.spec
     Inv-loop
     μ-loop
-    register-table-requires
     loop-holds
     after-run-requires
     loop-less

@@ -1,59 +1,85 @@
--- `Check::after_run` keeps what the bytes from k on make of the state: a number below 256 passes through as the data
--- byte that it is, and the first other one as `after_byte` lets it.
+-- `Check::after_run` keeps what the bytes from k on make of the state: two numbers below 256 pass through as the data
+-- bytes that they are. Rests on no axiom.
 use Prim.Native.Nat.{ℕ, _+_, _-_, _≤_, _<_}
 use mathlib.Core.Path.{_≡_, refl, sym, ap, _∙_}
 use mathlib.Core.List.{List}
 use native.Mathlib.Omega.{arith}
-use native.Mathlib.Nat.{mod-eq-of-lt}
 use denote.Ref.{now}
 use borrow.Author.Needs.{needs}
+use lib.Bits.{bitOr, or-add-and, and-le-l, and-le-r}
 use lib.ListN.{length, getD, drop}
-use Rattle.items.specs.Register.{fed}
 use Rattle.items.specs.Written.{afterBytes}
 use Rattle.items.specs.declared.Check.{Check}
-use Rattle.items.proofs.CheckLaws.{unmarked, after-bytes-from, after-data}
+use Rattle.items.proofs.CheckLaws.{unmarked, after-bytes-from, after-two-data-from}
 use Rattle.items.proofs.Check.after_run.Statement.{statement}
 use Rattle.items.proofs.Check.after_run.Tie as tie
 
+both-small : (a b : ℕ) → bitOr a b ≤ 255 → (a < 256) × (b < 256)
+both-small a b h =
+    (omega (arith, or-add-and a b, and-le-r a b), omega (arith, or-add-and a b, and-le-l a b))
+
 abbrev Inv-loop : tie.InvT-loop
-Inv-loop table bytes from check₀ k₀ check k =
-    (from ≤ k) × (k ≤ length bytes) × (afterBytes check (drop k bytes) ≡ afterBytes check₀ (drop from bytes))
+Inv-loop bytes from last check₀ k₀ check k =
+    (from < k) × (k ≤ length bytes) × (afterBytes check (drop k bytes) ≡ afterBytes check₀ (drop k₀ bytes))
 
 abbrev μ-loop : tie.MeasureT-loop
-μ-loop table bytes from check₀ k₀ check k = length bytes - k
+μ-loop bytes from last check₀ k₀ check k = length bytes - k
 
-loop-holds : tie.Need-loop-holds Inv-loop μ-loop
-loop-holds c = (omega arith, omega (arith, c .before .pre .1), refl)
+sub-last : tie.Need-sub-last Inv-loop μ-loop
+sub-last c = omega (arith, c .before .pre)
 
-mul-byte : tie.Need-mul-byte Inv-loop μ-loop
-mul-byte c = search needs
+mul-after-byte : tie.Need-mul-after-byte Inv-loop μ-loop
+mul-after-byte c = search needs
 
-shared-slice-read-byte : tie.Need-shared-slice-read-byte Inv-loop μ-loop
-shared-slice-read-byte c = search needs
+shared-slice-read-after-byte : tie.Need-shared-slice-read-after-byte Inv-loop μ-loop
+shared-slice-read-after-byte c = search needs
 
 after-byte-requires : tie.Need-after-byte-requires Inv-loop μ-loop
 after-byte-requires c κs = search needs
 
-add-t12 : tie.Need-add-t12 Inv-loop μ-loop
-add-t12 c = search needs
+add-k : tie.Need-add-k Inv-loop μ-loop
+add-k c = search needs
+
+loop-holds : tie.Need-loop-holds Inv-loop μ-loop
+loop-holds c = (omega arith, omega (arith, c .before .before .before .pre), refl)
+
+mul-high : tie.Need-mul-high Inv-loop μ-loop
+mul-high c = search needs
+
+shared-slice-read-high : tie.Need-shared-slice-read-high Inv-loop μ-loop
+shared-slice-read-high c = search needs
+
+add-low : tie.Need-add-low Inv-loop μ-loop
+add-low c = search needs
+
+mul-low : tie.Need-mul-low Inv-loop μ-loop
+mul-low c = search needs
+
+shared-slice-read-low : tie.Need-shared-slice-read-low Inv-loop μ-loop
+shared-slice-read-low c = search needs
+
+-- what the loop keeps, from the function's start on
+kept-from-start : (c : tie.At-loop Inv-loop μ-loop)
+    → afterBytes (c .loop .check) (drop (c .loop .k) (now (c .before .before .before .before .args .bytes)))
+    ≡ afterBytes (c .before .before .before .before .args .self)
+    (drop (c .before .before .before .before .args .from) (now (c .before .before .before .before .args .bytes)))
+kept-from-start c =
+    let start = c .before .before .before .before in
+    let bytes : List ℕ = now (start .args .bytes) in
+    c .loop .inv .2
+    ∙ ap (λ (s : Check). afterBytes s (drop (start .args .from + 1) bytes)) (c .before .after-byte .ensures)
+    ∙ sym (after-bytes-from (start .args .self) bytes (start .args .from) (start .pre))
 
 returns : tie.Need-returns Inv-loop μ-loop
 returns c =
-    let turn = c .before .before .before .before in
-    let head = turn .loop in
-    let bytes : List ℕ = now (turn .before .before .args .bytes) in
-    let inside : head .k < length bytes = c .before .before .before .loop-test .taken in (
-      (omega (arith, head .inv .0), omega arith),
-      ap (λ (s : Check). afterBytes s (drop (head .k + 1) bytes)) (c .after-byte .ensures)
-          ∙ sym (after-bytes-from (head .check) bytes (head .k) inside)
-          ∙ head .inv .2,
-    )
+    let head : tie.At-loop Inv-loop μ-loop = c .before .before .before .before in
+    ((head .loop .inv .0, head .loop .inv .1), kept-from-start head)
 
-feed-requires : tie.Need-feed-requires Inv-loop μ-loop
-feed-requires c κs = search needs
+feed-two-requires : tie.Need-feed-two-requires Inv-loop μ-loop
+feed-two-requires c κs = both-small _ _ (omega (arith, c .if1 .left))
 
-add-k : tie.Need-add-k Inv-loop μ-loop
-add-k c = search needs
+add-k-2 : tie.Need-add-k-2 Inv-loop μ-loop
+add-k-2 c = search needs
 
 loop-less : tie.Need-loop-less Inv-loop μ-loop
 loop-less c = search needs
@@ -61,25 +87,19 @@ loop-less c = search needs
 loop-again : tie.Need-loop-again Inv-loop μ-loop
 loop-again c =
     let turn = c .before .before .before .before in
-    let head = turn .loop in
-    let bytes : List ℕ = now (turn .before .before .args .bytes) in
-    let byte : ℕ = getD bytes (head .k) 0 in
-    let inside : head .k < length bytes = c .before .before .before .loop-test .taken in
-    let small : byte < 256 = let most = c .before .if1 .left in omega arith in
-    let passed = c .feed .ensures ∙ ap (fed (head .check .register)) (mod-eq-of-lt small) in (
-      omega (arith, head .inv .0),
+    let head = turn .before .loop in
+    let bytes : List ℕ = now (turn .before .before .before .before .before .args .bytes) in
+    let inside : head .k + 1 < length bytes = let test = turn .loop-test .taken in omega arith in
+    let small = both-small (getD bytes (head .k) 0) (getD bytes (head .k + 1) 0) (omega (arith, c .before .if1 .left)) in (
       omega arith,
-      ap (λ (s : Check). afterBytes s (drop (head .k + 1) bytes))
-          (ap unmarked passed ∙ sym (after-data (head .check) byte small))
-          ∙ sym (after-bytes-from (head .check) bytes (head .k) inside)
+      omega arith,
+      ap (λ (r : ℕ). afterBytes (unmarked r) (drop (head .k + 2) bytes)) (c .feed-two .ensures)
+          ∙ sym (after-two-data-from (head .check) bytes (head .k) inside (small .0) (small .1))
           ∙ head .inv .2,
     )
 
 returns-2 : tie.Need-returns-2 Inv-loop μ-loop
-returns-2 c =
-    let inv = c .before .loop .inv in
-    let some = c .before .before .before .pre .1 in
-    ((omega (arith, c .loop-test .left), inv .1), inv .2)
+returns-2 c = ((c .before .loop .inv .0, c .before .loop .inv .1), kept-from-start (c .before))
 
 pub after-run-spec : {M : Type 1} → statement M
 after-run-spec =
@@ -87,14 +107,20 @@ after-run-spec =
     (tie.spec
     Inv-loop
     μ-loop
-    loop-holds
-    mul-byte
-    shared-slice-read-byte
+    sub-last
+    mul-after-byte
+    shared-slice-read-after-byte
     after-byte-requires
-    add-t12
-    returns
-    feed-requires
     add-k
+    loop-holds
+    mul-high
+    shared-slice-read-high
+    add-low
+    mul-low
+    shared-slice-read-low
+    returns
+    feed-two-requires
+    add-k-2
     loop-less
     loop-again
     returns-2)

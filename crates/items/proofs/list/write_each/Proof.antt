@@ -1,0 +1,158 @@
+-- `list::write_each` is a fold over the items: what the items from k on have still to store makes the whole.
+use Prim.Native.Nat.{ℕ, _+_, _-_, _*_, _^_, _≤_, _<_, zero-le}
+use mathlib.Core.Path.{_≡_, refl, sym, ap, _∙_}
+use mathlib.Core.List.{List, []}
+use native.Mathlib.Nat.{zero-add}
+use native.Mathlib.Omega.{arith}
+use borrow.Author.Count.{falls}
+use borrow.Author.Needs.{needs}
+use denote.Ref.{now}
+use lib.ListN.{length, getD, drop}
+use Rattle.lists.specs.Filled.{storedAt}
+use Rattle.lists.proofs.StoreLaws.{stored-none, stored-after-stored, stored-length}
+use Rattle.items.specs.Item.{bytesOf, writtenBytes}
+use Rattle.items.specs.Written.{itemBytes, afterBytes, afterItem, writtenFrom}
+use Rattle.items.specs.declared.Check.{Check}
+use Rattle.items.proofs.ItemLaws.{written-bytes-bounds, written-bytes-from, written-bytes-from-end}
+use Rattle.items.proofs.CheckLaws.{after-bytes-of-append}
+use Rattle.items.proofs.WrittenLaws.{length-of-item-bytes, written-from-place, written-from-end}
+use Rattle.items.proofs.list.write_each.Statement.{statement}
+use Rattle.items.proofs.list.write_each.Tie as tie
+
+-- an item's bytes stored, and then those of the rest, are those from the item on
+stored-then-rest :
+    (out next : List ℕ) (at size : ℕ) (items : List ℕ) (k : ℕ) (check after : Check) → k < length items
+    → size ≡ bytesOf (getD items k 0)
+    → next ≡ storedAt out at (itemBytes check (getD items k 0))
+    → after ≡ afterItem check (getD items k 0)
+    → storedAt next (at + size) (writtenFrom after (drop (k + 1) items)) ≡ storedAt out at (writtenFrom check (drop k items))
+stored-then-rest out next at size items k check after h p q r =
+    let bytes : List ℕ = itemBytes check (getD items k 0) in
+    let length-is-size : length bytes ≡ size = length-of-item-bytes check (getD items k 0) ∙ sym p in
+    rw (q, r, ← length-is-size, written-from-place check items k h) (stored-after-stored bytes _ out at _ refl)
+
+-- the register after an item's bytes, and then after those of the rest
+passed-then-rest :
+    (items : List ℕ) (k : ℕ) (check after : Check) → k < length items
+    → after ≡ afterItem check (getD items k 0)
+    → afterBytes after (writtenFrom after (drop (k + 1) items)) ≡ afterBytes check (writtenFrom check (drop k items))
+unfolding afterItem
+passed-then-rest items k check after h r =
+    rw (r, written-from-place check items k h)
+    (sym (after-bytes-of-append check (itemBytes check (getD items k 0)) _))
+
+after-no-bytes : (check : Check) → afterBytes check [] ≡ check
+unfolding afterBytes
+after-no-bytes check = refl
+
+abbrev Inv-loop : tie.InvT-loop
+Inv-loop items out₀ check₀ at₀ k₀ out check at k =
+    (k ≤ length items) × (at + writtenBytes (drop k items) ≡ writtenBytes items)
+    × (storedAt out at (writtenFrom check (drop k items)) ≡ storedAt out₀ 0 (writtenFrom check₀ items))
+    × (afterBytes check (writtenFrom check (drop k items)) ≡ afterBytes check₀ (writtenFrom check₀ items))
+
+abbrev μ-loop : tie.MeasureT-loop
+μ-loop items out₀ check₀ at₀ k₀ out check at k = length items - k
+
+-- the turn that ends at a place, and the function's entry
+abbrev turn-of : tie.After-bytes-of Inv-loop μ-loop → tie.In-loop Inv-loop μ-loop
+turn-of c = c .before .before .before .before .before .before .before
+
+abbrev entry-of : tie.At-loop Inv-loop μ-loop → tie.Start Inv-loop μ-loop
+entry-of c = c .before .before .before
+
+loop-holds : tie.Need-loop-holds Inv-loop μ-loop
+loop-holds c = (zero-le, zero-add (writtenBytes (now (c .before .before .args .items))), refl, refl)
+
+mul-n : tie.Need-mul-n Inv-loop μ-loop
+mul-n c = omega arith
+
+shared-slice-read-n : tie.Need-shared-slice-read-n Inv-loop μ-loop
+shared-slice-read-n c = c .before .loop-test .taken
+
+put-item-requires : tie.Need-put-item-requires Inv-loop μ-loop
+put-item-requires c κs = search needs
+
+after-item-requires : tie.Need-after-item-requires Inv-loop μ-loop
+after-item-requires c κs = search needs
+
+bytes-of-requires : tie.Need-bytes-of-requires Inv-loop μ-loop
+bytes-of-requires c κs = search needs
+
+add-at : tie.Need-add-at Inv-loop μ-loop
+add-at c =
+    let turn = turn-of c in
+    let head = turn .before .loop in
+    let items : List ℕ = now (entry-of (turn .before) .args .items) in
+    let inside : head .k < length items = turn .loop-test .taken in
+    let counted : c .bytes-of .result ≡ bytesOf (getD items (head .k) 0) = c .bytes-of .ensures in
+    let whole : head .at + writtenBytes (drop (head .k) items) ≡ writtenBytes items = head .inv .1 in
+    let size : length items * 2 < 2 ^ 63 = entry-of (turn .before) .good .1 .0 .1 in
+    let room : head .at + c .bytes-of .result < 2 ^ 64 =
+    omega (arith, written-bytes-from items (head .k) inside, written-bytes-bounds items) in
+    record { fits = room }
+
+add-k : tie.Need-add-k Inv-loop μ-loop
+add-k c = omega arith
+
+loop-less : tie.Need-loop-less Inv-loop μ-loop
+loop-less c = falls _ _ (turn-of c .loop-test .taken)
+
+loop-again : tie.Need-loop-again Inv-loop μ-loop
+loop-again c =
+    let turn = turn-of c in
+    let head = turn .before .loop in
+    let items : List ℕ = now (entry-of (turn .before) .args .items) in
+    let inside : head .k < length items = turn .loop-test .taken in
+    let counted : c .bytes-of .result ≡ bytesOf (getD items (head .k) 0) = c .bytes-of .ensures in
+    let whole : head .at + writtenBytes (drop (head .k) items) ≡ writtenBytes items = head .inv .1 in
+    let put = c .before .before .before .before .put-item .ensures in (
+      omega arith,
+      omega (arith, written-bytes-from items (head .k) inside),
+      stored-then-rest (head .out) _ (head .at) (c .bytes-of .result) items (head .k) (head .check) _
+          inside counted put (c .before .after-item .ensures)
+          ∙ head .inv .2,
+      passed-then-rest items (head .k) (head .check) _ inside (c .before .after-item .ensures) ∙ head .inv .3,
+    )
+
+same-length : tie.Need-same-length Inv-loop μ-loop
+same-length c =
+    let head = c .before .loop in
+    let given = entry-of (c .before) .args in
+    sym (stored-length (head .out) (head .at) (writtenFrom (head .check) (drop (head .k) (now (given .items)))))
+    ∙ ap length (head .inv .2)
+    ∙ stored-length (now (given .out)) 0 (writtenFrom (given .start) (now (given .items)))
+
+returns : tie.Need-returns Inv-loop μ-loop
+returns c =
+    let head = c .before .loop in
+    let items : List ℕ = now (entry-of (c .before) .args .items) in
+    let end : length items ≤ head .k = c .loop-test .left in
+    let whole : head .at + writtenBytes (drop (head .k) items) ≡ writtenBytes items = head .inv .1 in
+    let none : writtenFrom (head .check) (drop (head .k) items) ≡ [] =
+    written-from-end (head .check) items (head .k) end in (
+      sym (ap (afterBytes (head .check)) none ∙ after-no-bytes (head .check)) ∙ head .inv .3,
+      (
+        omega (arith, written-bytes-from-end items (head .k) end),
+        sym (stored-none (head .out) (head .at)) ∙ ap (storedAt (head .out) (head .at)) (sym none) ∙ head .inv .2,
+      ),
+    )
+
+pub write-each-spec : {M : Type 1} → statement M
+write-each-spec =
+    tie.close
+    (tie.spec
+    Inv-loop
+    μ-loop
+    loop-holds
+    mul-n
+    shared-slice-read-n
+    put-item-requires
+    after-item-requires
+    bytes-of-requires
+    add-at
+    add-k
+    loop-less
+    loop-again
+    same-length
+    returns)
