@@ -13,28 +13,51 @@ pub const ACCEPTED: Answer = Answer { number: 0, place: 0, count: 0, used: 0, ho
 /// Cells on each side of the lent output that no call may touch.
 const GUARD: usize = 8;
 
+/// What a function under comparison answers by value.
+pub trait Reply: PartialEq + Debug {
+    /// The answer of a refusal: all but number and place is 0.
+    fn refusal(refused: Refused) -> Self;
+    fn number(&self) -> u32;
+}
+
+impl Reply for Answer {
+    fn refusal(Refused { number, place }: Refused) -> Answer {
+        Answer { number, place, ..ACCEPTED }
+    }
+
+    fn number(&self) -> u32 {
+        self.number
+    }
+}
+
 /// What the paper says a call gives: the answer and the front of the output.
-pub struct Expected {
-    pub answer: Answer,
-    front: Vec<u16>,
+pub struct Expected<O = u16, A = Answer> {
+    pub answer: A,
+    front: Vec<O>,
+}
+
+impl<O, A: Reply> Expected<O, A> {
+    pub fn new(result: Result<Expected<O, A>, Refused>) -> Self {
+        result.unwrap_or_else(|refused| Expected::answer(A::refusal(refused)))
+    }
+
+    /// An answer that stores nothing.
+    pub fn answer(answer: A) -> Self {
+        Expected { answer, front: Vec::new() }
+    }
+}
+
+impl<O> Expected<O> {
+    pub fn count(count: u64) -> Self {
+        Expected::answer(Answer { count, ..ACCEPTED })
+    }
+
+    pub fn list(front: Vec<O>) -> Self {
+        Expected { answer: Answer { count: front.len() as u64, ..ACCEPTED }, front }
+    }
 }
 
 impl Expected {
-    pub fn new(result: Result<Expected, Refused>) -> Expected {
-        result.unwrap_or_else(|Refused { number, place }| Expected {
-            answer: Answer { number, place, ..ACCEPTED },
-            front: Vec::new(),
-        })
-    }
-
-    pub fn count(count: u64) -> Expected {
-        Expected { answer: Answer { count, ..ACCEPTED }, front: Vec::new() }
-    }
-
-    pub fn list(front: Vec<u16>) -> Expected {
-        Expected { answer: Answer { count: front.len() as u64, ..ACCEPTED }, front }
-    }
-
     pub fn field(field: paper::Field) -> Expected {
         let mut expected = Expected::list(field.items);
         expected.answer.used = field.used as u64;
@@ -43,50 +66,71 @@ impl Expected {
     }
 }
 
-/// An output between guards, filled with numbers that differ from place to place.
-struct Lent {
-    cells: Vec<u16>,
+/// An element of an output.
+pub trait Cell: Copy + PartialEq + Debug {
+    /// What a place of a lent output holds before the call.
+    fn pattern(place: usize) -> Self;
 }
 
-impl Lent {
+impl Cell for u16 {
     fn pattern(place: usize) -> u16 {
         (place as u16).wrapping_mul(0x6255) ^ 0xC3A5
     }
+}
 
-    fn new(room: usize) -> Lent {
-        Lent { cells: (0..room + 2 * GUARD).map(Lent::pattern).collect() }
+/// An output between guards, filled with numbers that differ from place to place.
+struct Lent<O> {
+    cells: Vec<O>,
+}
+
+impl<O: Cell> Lent<O> {
+    fn new(room: usize) -> Self {
+        Lent { cells: (0..room + 2 * GUARD).map(O::pattern).collect() }
     }
 
-    fn room(&mut self) -> &mut [u16] {
+    fn room(&mut self) -> &mut [O] {
         let end = self.cells.len() - GUARD;
         &mut self.cells[GUARD..end]
     }
 
     /// Whether the front is `front` and every other cell, guards included, is as it was.
-    fn holds(&self, front: &[u16]) -> bool {
-        let whole = |(place, cell): (usize, &u16)| {
+    fn holds(&self, front: &[O]) -> bool {
+        let whole = |(place, cell): (usize, &O)| {
             let expected = place.checked_sub(GUARD).and_then(|p| front.get(p).copied());
-            *cell == expected.unwrap_or(Lent::pattern(place))
+            *cell == expected.unwrap_or(O::pattern(place))
         };
         self.cells.iter().enumerate().all(whole)
     }
 }
 
+/// One way to call a function: the list and the output in, its answer out.
+pub type Side<'a, T, O = u16, A = Answer> = &'a dyn Fn(&[T], &mut [O]) -> A;
+
 /// A function under comparison with all its arguments but the list and the output.
-pub struct Call<'a, T> {
+pub struct Call<'a, T, O = u16, A = Answer> {
     pub name: &'static str,
     pub arguments: String,
     pub room: usize,
-    pub paper: &'a dyn Fn(&[T]) -> Expected,
-    pub interface: &'a dyn Fn(&[T], &mut [u16]) -> Answer,
-    pub wrapper: &'a dyn Fn(&[T], &mut [u16]) -> Answer,
+    pub paper: &'a dyn Fn(&[T]) -> Expected<O, A>,
+    pub interface: Side<'a, T, O, A>,
+    /// none if the wrapper does not offer the function
+    pub wrapper: Option<Side<'a, T, O, A>>,
 }
 
-impl<T: Clone + PartialEq + Debug> Call<'_, T> {
-    /// What disagrees on this list, if anything.
-    pub fn fault(&self, list: &[T]) -> Option<String> {
+impl<T: Clone + PartialEq + Debug, O: Cell, A: Reply> Call<'_, T, O, A> {
+    /// Stops with the least list found if something disagrees on this one; gives the refusal's number.
+    pub fn check(&self, list: &[T]) -> u32 {
         let expected = (self.paper)(list);
-        for (side, call) in [("C interface", self.interface), ("Rust wrapper", self.wrapper)] {
+        if self.fault(list, &expected).is_some() {
+            self.complain(list);
+        }
+        expected.answer.number()
+    }
+
+    /// What disagrees on this list, if anything.
+    fn fault(&self, list: &[T], expected: &Expected<O, A>) -> Option<String> {
+        let wrapper = self.wrapper.map(|call| ("Rust wrapper", call));
+        for (side, call) in [("C interface", self.interface)].into_iter().chain(wrapper) {
             let lent_list = list.to_vec();
             let mut lent = Lent::new(self.room);
             let answer = call(&lent_list, lent.room());
@@ -104,9 +148,10 @@ impl<T: Clone + PartialEq + Debug> Call<'_, T> {
         None
     }
 
-    pub fn complain(&self, list: &[T]) -> ! {
-        let least = shrink(list, |fewer| self.fault(fewer).is_some());
-        let fault = self.fault(&least).expect("the shorter list disagrees too");
+    fn complain(&self, list: &[T]) -> ! {
+        let fault = |list: &[T]| self.fault(list, &(self.paper)(list));
+        let least = shrink(list, |fewer| fault(fewer).is_some());
+        let fault = fault(&least).expect("the shorter list disagrees too");
         println!("\nDISAGREEMENT in {}", self.name);
         println!("arguments: {}, room {}", self.arguments, self.room);
         println!("list of {}: {}", least.len(), brief(&least));

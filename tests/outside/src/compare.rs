@@ -8,7 +8,7 @@ use std::process::exit;
 use ism::sys::{self, Answer};
 use ism::{Class, Field, Profile, Refusal, SectorId};
 
-use crate::call::{Call, Expected, ACCEPTED};
+use crate::call::{Call, Cell, Expected, Reply, ACCEPTED};
 use crate::paper::{self, CellShape, Nine};
 use crate::random::Random;
 
@@ -76,11 +76,10 @@ impl Compare {
         self.count("claim", 0);
     }
 
-    fn run<T: Clone + PartialEq + Debug>(&mut self, list: &[T], call: Call<T>) {
-        if call.fault(list).is_some() {
-            call.complain(list);
-        }
-        self.count(call.name, (call.paper)(list).answer.number);
+    /// One case of a function.
+    pub fn run<T: Clone + PartialEq + Debug, O: Cell, A: Reply>(&mut self, list: &[T], call: Call<T, O, A>) {
+        let number = call.check(list);
+        self.count(call.name, number);
     }
 
     pub fn margin(&mut self, nine: &Nine) {
@@ -93,7 +92,7 @@ impl Compare {
             paper: &|_| Expected::new(paper::margin(nine, &shapes).map(Expected::count)),
             // SAFETY: numbers in, numbers out
             interface: &|_, _| unsafe { sys::ism_margin(p) },
-            wrapper: &|_, _| from_wrapper(ism::margin(p), |count| count_answer(count as usize)),
+            wrapper: Some(&|_, _| from_wrapper(ism::margin(p), |count| count_answer(count as usize))),
         };
         self.run(&[], call);
     }
@@ -108,7 +107,7 @@ impl Compare {
             paper: &|_| Expected::new(paper::class(nine, interval).map(Expected::count)),
             // SAFETY: numbers in, numbers out
             interface: &|_, _| unsafe { sys::ism_class(p, interval) },
-            wrapper: &|_, _| from_wrapper(ism::classify(p, interval), |class| count_answer(number(class))),
+            wrapper: Some(&|_, _| from_wrapper(ism::classify(p, interval), |class| count_answer(number(class)))),
         };
         self.run(&[], call);
     }
@@ -124,7 +123,7 @@ impl Compare {
             interface: &|items: &[u16], out| unsafe {
                 sys::ism_write(p, items.as_ptr(), items.len(), out.as_mut_ptr(), out.len())
             },
-            wrapper: &|items, out| from_wrapper(ism::write(p, items, out), count_answer),
+            wrapper: Some(&|items, out| from_wrapper(ism::write(p, items, out), count_answer)),
         };
         self.run(items, call);
     }
@@ -140,21 +139,21 @@ impl Compare {
             interface: &|intervals: &[u16], out| unsafe {
                 sys::ism_read(p, intervals.as_ptr(), intervals.len(), out.as_mut_ptr(), out.len())
             },
-            wrapper: &|intervals, out| from_wrapper(ism::read(p, intervals, out), count_answer),
+            wrapper: Some(&|intervals, out| from_wrapper(ism::read(p, intervals, out), count_answer)),
         };
         self.run(intervals, call);
     }
 
     pub fn find(&mut self, nine: &Nine, intervals: &[u16], start: u64) {
         let p = profile(nine);
-        let call = Call {
+        let call = Call::<u16> {
             name: "ism_find",
             arguments: format!("profile {nine:?}, start {start}"),
             room: 0,
             paper: &|intervals| Expected::new(paper::find(nine, intervals, start).map(Expected::count)),
             // SAFETY: the pointer comes with the length of its slice
             interface: &|intervals: &[u16], _| unsafe { sys::ism_find(p, intervals.as_ptr(), intervals.len(), start) },
-            wrapper: &|intervals, _| from_wrapper(ism::find_lock(p, intervals, start), count_answer),
+            wrapper: Some(&|intervals, _| from_wrapper(ism::find_lock(p, intervals, start), count_answer)),
         };
         self.run(intervals, call);
     }
@@ -175,7 +174,7 @@ impl Compare {
             interface: &|intervals: &[u16], out| unsafe {
                 sys::ism_read_field(p, intervals.as_ptr(), intervals.len(), bytes, out.as_mut_ptr(), out.len())
             },
-            wrapper: &|intervals, out| from_wrapper(ism::read_field(p, intervals, bytes, out), answer),
+            wrapper: Some(&|intervals, out| from_wrapper(ism::read_field(p, intervals, bytes, out), answer)),
         };
         self.run(intervals, call);
     }
@@ -192,10 +191,10 @@ impl Compare {
                 let (out, room) = (out.as_mut_ptr(), out.len());
                 sys::ism_make_sector(track, side, sector, code, data.as_ptr(), data.len(), out, room)
             },
-            wrapper: &|data, out| {
+            wrapper: Some(&|data, out| {
                 let made = ism::make_sector(SectorId { track, side, sector, code }, data, out);
                 from_wrapper(made, count_answer)
-            },
+            }),
         };
         self.run(data, call);
     }

@@ -78,7 +78,7 @@ fn library() {
 
 /// Stops if some answer of some function was never seen: the cases would then say nothing about it.
 fn check_coverage(compare: &Compare) {
-    let orders: [(&str, &[u32]); 8] = [
+    let orders: &[(&str, &[u32])] = &[
         ("ism_margin", &[0, 1, 2]),
         ("ism_class", &[0, 1, 2]),
         ("ism_write", &[0, 1, 2, 4, 3, 9]),
@@ -89,7 +89,7 @@ fn check_coverage(compare: &Compare) {
         ("ism_fifo", &[0, 3]),
     ];
     println!("answers seen, refusal number and times (0 is acceptance):");
-    for (name, numbers) in orders {
+    for (name, numbers) in orders.iter().copied() {
         let counts: Vec<String> = numbers.iter().map(|n| format!("{n}: {}", compare.seen(name, *n))).collect();
         println!("  {name:16} {}", counts.join("  "));
         if numbers.iter().any(|n| compare.seen(name, *n) < 20) {

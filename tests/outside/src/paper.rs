@@ -34,7 +34,7 @@ fn refuse<T>(number: u32, place: usize) -> Result<T, Refused> {
 }
 
 /// Refusal 9.
-fn fit(result: Vec<u16>, room: usize) -> Result<Vec<u16>, Refused> {
+fn fit<T>(result: Vec<T>, room: usize) -> Result<Vec<T>, Refused> {
     if room < result.len() {
         refuse(9, 0)
     } else {

@@ -6,18 +6,18 @@ use crate::random::Random;
 
 /// A choice among the faults of a function, one bit for each.
 #[derive(Clone, Copy)]
-struct Faults(u32);
+pub struct Faults(pub u32);
 
 impl Faults {
-    fn has(self, which: u32) -> bool {
+    pub fn has(self, which: u32) -> bool {
         self.0 & (1 << which) != 0
     }
 }
 
-const UNSET: u32 = 0;
-const CROSSED: u32 = 1;
+pub const UNSET: u32 = 0;
+pub const CROSSED: u32 = 1;
 
-fn profile_with(faults: Faults, random: &mut Random) -> Nine {
+pub fn profile_with(faults: Faults, random: &mut Random) -> Nine {
     match (faults.has(UNSET), faults.has(CROSSED)) {
         (true, false) => random.unset_profile(),
         (false, false) => random.true_profile(),
@@ -31,7 +31,7 @@ fn profile_with(faults: Faults, random: &mut Random) -> Nine {
 }
 
 /// A true profile to build intervals with, whatever profile the call gets.
-fn building_profile(nine: &Nine, random: &mut Random) -> Nine {
+pub fn building_profile(nine: &Nine, random: &mut Random) -> Nine {
     if crate::paper::check_profile(nine).is_ok() {
         *nine
     } else {
@@ -40,7 +40,7 @@ fn building_profile(nine: &Nine, random: &mut Random) -> Nine {
 }
 
 /// A room for so many elements, or too short a one.
-fn room_with(short: bool, exact: usize, random: &mut Random) -> usize {
+pub fn room_with(short: bool, exact: usize, random: &mut Random) -> usize {
     match (short, random.one_in(2)) {
         (true, true) => 0,
         (true, false) => exact.saturating_sub(1),
