@@ -3,7 +3,8 @@
  *
  * The library turns data bytes, mark bytes and check orders into the intervals between flux transitions, with write
  * precompensation, and turns measured intervals back into bytes. It also finds the address mark behind a sync field,
- * reads one field, makes the items of one sector and models the chip's two-item FIFO with its error register.
+ * reads one field, makes the items of one sector, exchanges bit images with drive emulators and models the chip's
+ * two-item FIFO with its error register.
  *
  * Common to all functions
  *
@@ -47,7 +48,7 @@ extern "C" {
 #define ISM_UNSET 1u     /* profile number out of range; place: which of the nine, 1 to 9, the lowest */
 #define ISM_CROSSED 2u   /* profile not true: its windows miss its own cell lengths */
 #define ISM_FOREIGN 3u   /* not an item; place: the lowest such item */
-#define ISM_OVERLONG 4u  /* over 6,400 items, written bytes or bytes read, or over 51,202 intervals in a strip */
+#define ISM_OVERLONG 4u  /* over 6,400 items, written bytes, bytes read or words, or over 51,202 intervals in a strip */
 #define ISM_NARROW 5u    /* interval below Min; place: the interval */
 #define ISM_WIDE 6u      /* interval of Rpt or more; place: the interval */
 #define ISM_RAGGED 7u    /* the bits are not 8n + 2, or the last of them is 1 */
@@ -58,6 +59,7 @@ extern "C" {
 #define ISM_MISCOUNT 12u /* n outside 1 to 1,030 */
 #define ISM_MISFIT 13u   /* length code above 3, or data not that long */
 #define ISM_GARBLED 14u  /* only from the strip program: garbled input; place: lowest faulty line, 0 if too long */
+#define ISM_UNRULY 16u   /* a word that no item has after its previous bit; place: the lowest such word */
 
 /* Limits. ISM_MAX_INTERVALS intervals always hold the stream of ISM_MAX_BYTES written bytes. */
 #define ISM_MAX_BYTES 6400u
@@ -194,6 +196,34 @@ ism_answer ism_read_field(ism_profile profile, const uint16_t *intervals, size_t
  */
 ism_answer ism_make_sector(uint8_t track, uint8_t side, uint8_t sector, uint8_t code, const uint8_t *data, size_t n,
                            uint16_t *out, size_t room);
+
+/*
+ * Bit images, as drive emulators exchange them: a 16-bit code word for each written byte, a clock bit before each data
+ * bit, most significant first. A clock bit is 1 between two 0 data bits; the image starts after data bit 0. Mark A1 is
+ * the word 0x4489 and mark C2 is 0x5224, after either bit. A one is a transition.
+ */
+
+/*
+ * The image of a list of items.
+ *
+ *   items, n     the items; a mark may stand anywhere
+ *   words, room  the code words; one for each written byte
+ *   count        words
+ *   refusals     ISM_OVERLONG (over 6,400 items or written bytes), ISM_FOREIGN, ISM_FULL
+ */
+ism_answer ism_make_image(const uint16_t *items, size_t n, uint16_t *words, size_t room);
+
+/*
+ * The items of an image.
+ *
+ *   words, n     the code words
+ *   items, room  the items: a data byte, or ISM_MARK plus the byte for a mark; one for each word
+ *   count        items
+ *   refusals     ISM_OVERLONG (over 6,400 words), ISM_UNRULY, ISM_FULL
+ *
+ * Check bytes come back as the two data bytes they are.
+ */
+ism_answer ism_read_image(const uint16_t *words, size_t n, uint16_t *items, size_t room);
 
 /*
  * The FIFO of two items and the error register, first in first out. Each operation takes a state and hands back the

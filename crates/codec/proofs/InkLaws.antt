@@ -12,7 +12,7 @@ use Rattle.lists.specs.Filled.{storedAt}
 use Rattle.lists.proofs.StoreLaws.{one-given-at-most, stored-none, stored-after-stored, stored-length}
 use Rattle.symbols.specs.Bits.{Bit, O}
 use Rattle.timing.specs.declared.Profile.{Profile}
-use Rattle.lengths.specs.Pen.{stroke, strokeOf, givenBy, inked, penAfter, freshPen, Steady}
+use Rattle.lengths.specs.Pen.{strokeOf, givenBy, inked, penAfter, Steady}
 use Rattle.lengths.specs.declared.pen.Pen.{Pen}
 use Rattle.lengths.specs.declared.pen.Stroke.{Stroke}
 use Rattle.lengths.proofs.PenLaws.{pen-after-append, inked-append}
@@ -26,14 +26,6 @@ inked-at-most p pen (b ∷ bs) =
     let one : length (givenBy s) ≤ 1 = one-given-at-most (s .made) (s .length .0) in
     let rest = inked-at-most p (s .pen) bs in
     let both = length-append (givenBy s) (inked p (s .pen) bs) in
-    omega arith
-
--- the first bit of a list ends no cell
-pub fresh-pen-gives-fewer : (p : Profile) (bs : List Bit) → length (inked p (freshPen p) bs) ≤ length bs - 1
-unfolding inked stroke
-fresh-pen-gives-fewer p [] = omega arith
-fresh-pen-gives-fewer p (b ∷ bs) =
-    let rest = inked-at-most p (strokeOf p (freshPen p) b .pen) bs in
     omega arith
 
 -- one bit by itself

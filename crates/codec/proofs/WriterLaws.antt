@@ -1,34 +1,29 @@
 -- The writer's answers by its tests: where profile and list are accepted, the stream of the written bytes and the
 -- room decide. Rests on no axiom.
-use Prim.Native.Nat.{ℕ, _+_, _*_, _≤_}
+use Prim.Native.Nat.{ℕ, _+_}
 use mathlib.Core.Path.{_≡_, refl, sym, ap, _∙_}
 use mathlib.Core.Bool.{true, false}
 use mathlib.Core.List.{List, [], _∷_, _++_}
 use lib.Dec.{leb}
 use native.Mathlib.Omega.{arith}
-use lib.ListN.{length, length-append, take}
-use lib.Seq.{length-take-le}
+use lib.ListN.{length, length-append}
 use borrow.Author.Tests.{lt-ltb, le-ltb, leb-true, leb-false}
 use Rattle.lists.specs.Filled.{storedAt}
 use Rattle.lists.proofs.StoreLaws.{stored-after-stored, stored-length, stored-at-front-fills}
 use Rattle.refusal.specs.Answer.{Answer, accepted, refused, settled}
 use Rattle.refusal.proofs.AnswerLaws.{first-refusal-passes}
-use Rattle.items.specs.Item.{writtenBytes}
-use Rattle.items.specs.Written.{writtenFrom, written}
+use Rattle.items.specs.Written.{written}
 use Rattle.items.specs.Rule.{listRule}
-use Rattle.items.specs.declared.Check.{Check}
-use Rattle.items.proofs.ItemLaws.{written-bytes-bounds}
-use Rattle.items.proofs.WrittenLaws.{front-of-stored-bytes}
 use Rattle.symbols.specs.Bits.{O, allBits}
-use Rattle.symbols.proofs.BytesLaws.{length-of-bits}
+use Rattle.symbols.specs.Cells.{writtenCells}
 use Rattle.timing.specs.Profile.{profileRule}
 use Rattle.timing.specs.declared.Profile.{Profile}
 use Rattle.lengths.specs.Pen.{inked, penAfter, freshPen}
 use Rattle.lengths.specs.Stream.{byteStream, streamOf}
 use Rattle.lengths.specs.declared.pen.Pen.{Pen}
 use Rattle.lengths.proofs.PenLaws.{pen-gives-the-stream, inked-append}
+use Rattle.lengths.proofs.StreamLaws.{stream-has-cells}
 use Rattle.codec.specs.Writer.{streamRule, writeRule, writeOutput}
-use Rattle.codec.proofs.InkLaws.{fresh-pen-gives-fewer}
 
 -- the bytes' bits and then the closing 0s are the stream
 module _ (p : Profile) (ws : List ℕ) (pen : Pen) (at : ℕ) (pens : pen ≡ penAfter p (freshPen p) (allBits ws))
@@ -58,30 +53,19 @@ module _ (p : Profile) (ws : List ℕ) (pen : Pen) (at : ℕ) (pens : pen ≡ pe
       ∙ stored-after-stored front closing old 0 at places
       ∙ ap (storedAt old 0) both-parts
 
--- a byte ends eight cells at most, and the closing 0s end two: of the bits with one 0 more, the first ends none
-pub few-cells : (p : Profile) (ws : List ℕ) → length (byteStream p ws) ≤ 8 * length ws + 2
-few-cells p ws =
-    let bits = allBits ws ++ (O ∷ O ∷ O ∷ []) in
-    let stream : length (inked p (freshPen p) bits) ≡ length (byteStream p ws) =
-    ap length (pen-gives-the-stream p ws) in
-    let many : length bits ≡ 8 * length ws + 3 =
-    length-append (allBits ws) (O ∷ O ∷ O ∷ []) ∙ ap (λ (n : ℕ). n + 3) (length-of-bits ws) in
-    let most = fresh-pen-gives-fewer p bits in
-    omega arith
-
 -- the room decides
 module _ (p : Profile) (ws old : List ℕ) where
   pub too-short
-      : leb (length (byteStream p ws)) (length old) ≡ false
+      : leb (length (writtenCells ws)) (length old) ≡ false
       → (refused 9 0 ≡ streamRule p ws (length old))
       × (old ≡ settled (streamRule p ws (length old)) (byteStream p ws) old)
   unfolding streamRule
   too-short e =
-      let h = leb-false (length (byteStream p ws)) (length old) e in
+      let h = leb-false (length (byteStream p ws)) (length old) (rw (stream-has-cells p ws) e) in
       rw (lt-ltb (length old) (length (byteStream p ws)) h) (refl, refl)
 
   pub long-enough
-      : leb (length (byteStream p ws)) (length old) ≡ true
+      : leb (length (writtenCells ws)) (length old) ≡ true
       → (count : ℕ) (stored : List ℕ)
       → count ≡ length (byteStream p ws)
       → stored ≡ storedAt old 0 (byteStream p ws)
@@ -89,7 +73,7 @@ module _ (p : Profile) (ws old : List ℕ) where
       × (stored ≡ settled (streamRule p ws (length old)) (byteStream p ws) old)
   unfolding streamRule
   long-enough e count stored counted stores =
-      let h = leb-true (length (byteStream p ws)) (length old) e in
+      let h = leb-true (length (byteStream p ws)) (length old) (rw (stream-has-cells p ws) e) in
       rw (le-ltb (length old) (length (byteStream p ws)) h)
       (ap accepted counted, stores ∙ stored-at-front-fills (byteStream p ws) old h)
 
@@ -107,23 +91,3 @@ module _ (p : Profile) (items old : List ℕ) where
       → settled (streamRule p (written items) (length old)) (byteStream p (written items)) old ≡ writeOutput p items old
   unfolding writeOutput streamOf
   output-of-stream h g = ap (λ (a : Answer). settled a (byteStream p (written items)) old) (rule-of-stream h g)
-
--- the front of a buffer for 128 bytes, after the bytes of at most 64 items were stored there
-module _ (check : Check) (items out old : List ℕ) (n : ℕ) (count : n ≡ writtenBytes items)
-    (stored : out ≡ storedAt old 0 (writtenFrom check items)) (room : length old ≡ 128) (few : length items ≤ 64) where
-  pub part-is-short : n ≤ 128
-  part-is-short = let most = written-bytes-bounds items .1 in omega arith
-
-  pub bytes-fit : n ≤ length out
-  bytes-fit =
-      let same : length out ≡ length old = ap length stored ∙ stored-length old 0 (writtenFrom check items) in
-      let short = part-is-short in
-      omega arith
-
-  pub front-length : n ≡ length (take n out)
-  front-length = sym (length-take-le n out bytes-fit)
-
-  pub front-is-written : take n out ≡ writtenFrom check items
-  front-is-written =
-      let most = written-bytes-bounds items .1 in
-      front-of-stored-bytes check items n out old count stored (omega arith)

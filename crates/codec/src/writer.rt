@@ -1,5 +1,5 @@
 // The writer: the list is checked whole before the first interval is stored.
-ghost use Prim.Native.Nat.{_+_, _≤_, _<_, min};
+ghost use Prim.Native.Nat.{_≤_, _<_};
 ghost use mathlib.Core.Path.{_≡_};
 ghost use lib.Dec.{leb};
 ghost use lib.ListN.{length};
@@ -8,6 +8,7 @@ ghost use Rattle.refusal.specs.Answer.{countedAnswer};
 ghost use Rattle.items.specs.Item.{writtenBytes};
 ghost use Rattle.items.specs.Written.{afterBytes, writtenFrom, written};
 ghost use Rattle.symbols.specs.Bits.{allBits};
+ghost use Rattle.symbols.specs.Cells.{writtenCells};
 ghost use Rattle.timing.specs.Profile.{profileRule};
 ghost use Rattle.lengths.specs.Pen.{Steady};
 ghost use Rattle.items.specs.Rule.{listRule};
@@ -47,14 +48,6 @@ fn write_part(p: Profile, start: Part, items: &[u16], out: &mut [u16]) -> Part
     Part { track, check }
 }
 
-// The place after the 64 items from k on, or after as many as there are.
-fn part_end(k: usize, end: usize) -> usize
-    requires { ⌜ k < end ⌝ }
-    ensures { λ r. ⌜ r ≡ min (k + 64) end ⌝ }
-{
-    if end - k <= 64 { end } else { k + 64 }
-}
-
 // The bits of a list's written bytes, from the front of the output on.
 fn write_items(p: Profile, items: &[u16], out: &mut [u16]) -> Track
     requires { ⌜ profileRule p .number ≡ 0 ⌝ }
@@ -68,7 +61,7 @@ fn write_items(p: Profile, items: &[u16], out: &mut [u16]) -> Track
     };
     let mut k: usize = 0;
     while k < items.len() {
-        let end = part_end(k, items.len());
+        let end = items::part_end(k, items.len());
         part = write_part(p, part, &items[k..end], out);
         k = end;
     }
@@ -87,19 +80,16 @@ fn write_stream(p: Profile, items: &[u16], out: &mut [u16]) -> usize
     write_closing(p, track, out)
 }
 
-// Whether a list's stream has room in an output of so many places. A byte ends eight cells at most and the closing 0s
-// two: only where there is less room the stream is measured, as it would be written, in an output of no places.
-fn has_room(p: Profile, items: &[u16], room: usize) -> bool
-    requires { ⌜ profileRule p .number ≡ 0 ⌝ }
-    requires { ⌜ writtenBytes (now items) ≤ 6400 ⌝ }
-    ensures { λ r. ⌜ r ≡ leb (length (byteStream p (written (now (items .entry))))) room ⌝ }
+// Whether an accepted list's stream has room in an output of so many places. A byte ends eight cells at most and the
+// closing 0s two: only where there is less room they are counted.
+fn has_room(items: &[u16], room: usize) -> bool
+    requires { ⌜ listRule (now items) .number ≡ 0 ⌝ }
+    ensures { λ r. ⌜ r ≡ leb (length (writtenCells (written (now (items .entry))))) room ⌝ }
 {
     if 8 * items::written_bytes(items) + 2 <= room {
         return true;
     }
-    let mut none = [0u16; 0];
-    let count = write_stream(p, items, &mut none);
-    count <= room
+    images::count_cells(items) <= room
 }
 
 // An accepted list under an accepted profile: 9, or its stream.
@@ -109,7 +99,7 @@ fn write_list(p: Profile, items: &[u16], out: &mut [u16]) -> Counted
     ensures answer { λ r. ⌜ countedAnswer r ≡ writeRule p (now (items .entry)) (length (now (out .entry))) ⌝ }
     ensures output { λ _. ⌜ now (out .exit) ≡ writeOutput p (now (items .entry)) (now (out .entry)) ⌝ }
 {
-    if has_room(p, items, out.len()) {
+    if has_room(items, out.len()) {
         let count = write_stream(p, items, out);
         return Counted::Count(count);
     }

@@ -9,3 +9,4 @@ pub mod ClassCells
 pub mod ReadLaws
 pub mod Demand2
 pub mod Demand3
+pub mod UniqueImages

@@ -5,3 +5,4 @@ pub mod Streams
 pub mod Demand2
 pub mod Demand3
 pub mod Settled
+pub mod UniqueImages

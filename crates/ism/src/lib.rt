@@ -12,6 +12,7 @@ use refusal::Counted;
 use timing::Profile;
 
 pub mod disk;
+pub mod image;
 pub mod queue;
 
 #[repr(C)]

@@ -7,3 +7,4 @@ pub mod CheckLaws
 pub mod WrittenLaws
 pub mod CheckFacts
 pub mod RuleLaws
+pub mod PartLaws

@@ -1,5 +1,6 @@
 // Document 01, "Items and the check register".
 mod list;
+mod part;
 mod register;
 
 pub use list::Stored;
@@ -7,6 +8,7 @@ pub use list::check_list;
 pub use list::find_foreign;
 pub use list::write_bytes;
 pub use list::written_bytes;
+pub use part::part_end;
 ghost use Prim.Native.Nat.{_≤_, _<_};
 ghost use mathlib.Core.Path.{_≡_};
 ghost use lib.ListN.{length, drop};

@@ -72,6 +72,14 @@ module _ {A : Type 0} (f : A → Bool) where
       (elim (f x) as (λ t. suc k < cond t 0 (suc (lowest f xs)) → f (getD xs k d) ≡ false)
       [ true ↦ λ l. absurd (not-suc-le-zero l) | false ↦ λ l. below-lowest-fails xs d k (le-of-suc-le-suc l) ]) h
 
+  pub passes-at-lowest : (xs : List A) (d : A) → anywhere f xs ≡ true → f (getD xs (lowest f xs) d) ≡ true
+  unfolding lowest anywhere
+  passes-at-lowest [] d e = absurd (false≢true e)
+  passes-at-lowest (x ∷ xs) d e =
+      (elim (f x) as (λ t.
+      f x ≡ t → (t || anywhere f xs) ≡ true → f (getD (x ∷ xs) (cond t 0 (suc (lowest f xs))) d) ≡ true)
+      [ true ↦ λ p k. p | false ↦ λ p k. passes-at-lowest xs d k ]) refl e
+
   -- ---- whether there is one
 
   pub lowest-of-none : (xs : List A) → anywhere f xs ≡ false → lowest f xs ≡ length xs
@@ -88,6 +96,15 @@ module _ {A : Type 0} (f : A → Bool) where
       (elim (f x) as (λ t. (t || anywhere f xs) ≡ true → cond t 0 (suc (lowest f xs)) < suc (length xs))
       [ true ↦ λ k. suc-le-suc zero-le | false ↦ λ k. suc-le-suc (lowest-of-some xs k) ]) e
 
+  pub anywhere-of-entry : (xs : List A) (d : A) (k : ℕ) → k < length xs → f (getD xs k d) ≡ true → anywhere f xs ≡ true
+  anywhere-of-entry xs d k h e =
+      (elim (anywhere f xs) as (λ t. anywhere f xs ≡ t → t ≡ true) [
+        | true ↦ λ p. refl
+        | false ↦ λ p.
+            let none : k < lowest f xs = rw (lowest-of-none xs p) h in
+            absurd (true≢false (sym e ∙ below-lowest-fails xs d k none))
+      ]) refl
+
   pub anywhere-of-append : (xs ys : List A) → anywhere f (xs ++ ys) ≡ (anywhere f xs || anywhere f ys)
   unfolding anywhere
   anywhere-of-append [] ys = refl
@@ -103,6 +120,13 @@ module _ {A : Type 0} (f : A → Bool) where
   everywhere-of-append (x ∷ xs) ys =
       elim (f x) as (λ t. (t && everywhere f (xs ++ ys)) ≡ (t && everywhere f xs && everywhere f ys))
       [ true ↦ everywhere-of-append xs ys | false ↦ refl ]
+
+  pub everywhere-at-entry : (xs : List A) (d : A) (k : ℕ) → everywhere f xs ≡ true → k < length xs
+      → f (getD xs k d) ≡ true
+  everywhere-at-entry [] d k e h = absurd (not-suc-le-zero h)
+  everywhere-at-entry (x ∷ xs) d zero e h = everywhere-passes-at-first x xs e
+  everywhere-at-entry (x ∷ xs) d (suc k) e h =
+      everywhere-at-entry xs d k (everywhere-in-rest x xs e) (le-of-suc-le-suc h)
 
   pub everywhere-of-replicate : (n : ℕ) (x : A) → f x ≡ true → everywhere f (replicate n x) ≡ true
   everywhere-of-replicate zero x e = everywhere-of-none

@@ -5,7 +5,7 @@ use Rattle.refusal.specs.declared.Refusal.the-variants.{ProfileOutOfRang
 use Rattle.refusal.specs.declared.Refusal.the-variants.{TooLong, IntervalTooShort, IntervalTooLong}
 use Rattle.refusal.specs.declared.Refusal.the-variants.{NotWholeBytes, MisplacedMark, OutputTooShort, NoLock}
 use Rattle.refusal.specs.declared.Refusal.the-variants.{EndsEarly, CountOutOfRange, SectorSizeMismatch}
-use Rattle.refusal.specs.declared.Refusal.the-variants.{MalformedInput}
+use Rattle.refusal.specs.declared.Refusal.the-variants.{MalformedInput, UnrulyWord}
 
 -- the column "No."
 abbrev pub numberOf : Refusal → ℕ
@@ -23,6 +23,7 @@ numberOf EndsEarly = 11
 numberOf CountOutOfRange = 12
 numberOf SectorSizeMismatch = 13
 numberOf (MalformedInput line) = 14
+numberOf (UnrulyWord at) = 16
 
 -- the column "Place given"
 abbrev pub placeOf : Refusal → ℕ
@@ -40,3 +41,4 @@ placeOf EndsEarly = 0
 placeOf CountOutOfRange = 0
 placeOf SectorSizeMismatch = 0
 placeOf (MalformedInput line) = line
+placeOf (UnrulyWord at) = at

@@ -31,6 +31,8 @@ pub enum Refusal {
     SectorSizeMismatch,
     // 14, garbled: which line, from 1; 0 where the input is too long
     MalformedInput(u32),
+    // 16, unruly: which word of an image, from 0
+    UnrulyWord(u32),
 }
 
 // What a test answers that gives no value.
@@ -65,6 +67,7 @@ impl Refusal {
             Refusal::CountOutOfRange => 12,
             Refusal::SectorSizeMismatch => 13,
             Refusal::MalformedInput(_) => 14,
+            Refusal::UnrulyWord(_) => 16,
         }
     }
 
@@ -87,6 +90,7 @@ impl Refusal {
             Refusal::CountOutOfRange => 0,
             Refusal::SectorSizeMismatch => 0,
             Refusal::MalformedInput(line) => line,
+            Refusal::UnrulyWord(at) => at,
         }
     }
 }

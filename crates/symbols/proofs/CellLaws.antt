@@ -49,7 +49,7 @@ sound-more I Medium h = (tt, tt)
 sound-more I Long h = (tt, tt)
 sound-more G c h = absurd (true≢false h)
 
-sound-append : (b : Bit) (xs ys : List Bit) → T (sound b xs) → T (sound (lastOf b xs) ys) → T (sound b (xs ++ ys))
+pub sound-append : (b : Bit) (xs ys : List Bit) → T (sound b xs) → T (sound (lastOf b xs) ys) → T (sound b (xs ++ ys))
 unfolding sound lastOf
 sound-append b [] ys t u = u
 sound-append b (x ∷ xs) ys t u =

@@ -15,7 +15,7 @@ use Rattle.symbols.proofs.TestLaws.{either-of, fails, left-of, right-of
 
 -- Tests
 
-sameBit : Bit → Bit → Bool
+unfoldable pub sameBit : Bit → Bit → Bool
 sameBit O O = true
 sameBit O I = false
 sameBit O G = false
@@ -26,13 +26,13 @@ sameBit G O = false
 sameBit G I = false
 sameBit G G = true
 
-sameBits : List Bit → List Bit → Bool
+unfoldable pub sameBits : List Bit → List Bit → Bool
 sameBits [] [] = true
 sameBits [] (y ∷ ys) = false
 sameBits (x ∷ xs) [] = false
 sameBits (x ∷ xs) (y ∷ ys) = sameBit x y && sameBits xs ys
 
-same-bit : (x y : Bit) → T (sameBit x y) → x ≡ y
+pub same-bit : (x y : Bit) → T (sameBit x y) → x ≡ y
 unfolding sameBit
 same-bit O O t = refl
 same-bit O I t = absurd t
@@ -44,7 +44,7 @@ same-bit G O t = absurd t
 same-bit G I t = absurd t
 same-bit G G t = refl
 
-same-bits : (xs ys : List Bit) → T (sameBits xs ys) → xs ≡ ys
+pub same-bits : (xs ys : List Bit) → T (sameBits xs ys) → xs ≡ ys
 unfolding sameBits
 same-bits [] [] t = refl
 same-bits [] (y ∷ ys) t = absurd t
@@ -56,17 +56,21 @@ same-bits (x ∷ xs) (y ∷ ys) t =
 
 -- From a byte to its row and back
 
+-- a test of every data byte and both marks
+unfoldable pub passesBelow : (ℕ → Bool) → ℕ → Bool
+passesBelow f zero = true
+passesBelow f (suc n) = f n && passesBelow f n
+
+unfoldable pub overBytes : (ℕ → Bool) → Bool
+overBytes f = passesBelow f 256 && f 0x1a1 && f 0x1c2
+
 -- reading the row of w gives w, with no gap out of place
 byteKept : ℕ → Bool
 byteKept w = eqb (itemOf (writtenBits w)) w && not (anywhere passed (rowStrays (writtenBits w)))
 
-keptBelow : ℕ → Bool
-keptBelow zero = true
-keptBelow (suc n) = byteKept n && keptBelow n
-
-all-bytes-kept : T (keptBelow 256 && byteKept 0x1a1 && byteKept 0x1c2)
-unfolding keptBelow byteKept itemOf anywhere rowStrays straysFrom gapInPlace numberFrom writtenBits isMark markBits
-    withGaps byteBits
+all-bytes-kept : T (overBytes byteKept)
+unfolding overBytes passesBelow byteKept itemOf anywhere rowStrays straysFrom gapInPlace numberFrom writtenBits isMark
+    markBits withGaps byteBits
 all-bytes-kept = tt
 
 -- From a row to its byte and back
@@ -90,26 +94,27 @@ all-rows-kept = tt
 
 -- What the two tests say of each byte and of each row
 
-below-kept : (n k : ℕ) → T (keptBelow n) → k < n → T (byteKept k)
-unfolding keptBelow
-below-kept zero k t h = absurd (omega arith)
-below-kept (suc n) k t h =
+below : (f : ℕ → Bool) (n k : ℕ) → T (passesBelow f n) → k < n → T (f k)
+unfolding passesBelow
+below f zero k t h = absurd (omega arith)
+below f (suc n) k t h =
     elim (decLt k n) [
-      | yes l ↦ below-kept n k (right-of (byteKept n) (keptBelow n) t) l
-      | no l ↦ let e : k ≡ n = omega arith in rw e (left-of (byteKept n) (keptBelow n) t)
+      | yes l ↦ below f n k (right-of (f n) (passesBelow f n) t) l
+      | no l ↦ let e : k ≡ n = omega arith in rw e (left-of (f n) (passesBelow f n) t)
     ]
 
-byte-kept : (w : ℕ) → T (isByte w) → T (byteKept w)
-unfolding isByte isMark
-byte-kept w t =
-    either-of (ltb w 256) (isMark w) t
-    (λ l. below-kept 256 w (left-of (keptBelow 256) (byteKept 0x1a1) marks-too) (ltb→lt w 256 l))
+pub over-bytes : (f : ℕ → Bool) → T (overBytes f) → (w : ℕ) → T (isByte w) → T (f w)
+unfolding overBytes isByte isMark
+over-bytes f t w b =
+    let with-A1 = left-of (passesBelow f 256 && f 0x1a1) (f 0x1c2) t in
+    either-of (ltb w 256) (isMark w) b
+    (λ l. below f 256 w (left-of (passesBelow f 256) (f 0x1a1) with-A1) (ltb→lt w 256 l))
     (λ m. either-of (eqb w 0x1a1) (eqb w 0x1c2) m
-    (λ e. rw (eqb→eq w 0x1a1 e) (right-of (keptBelow 256) (byteKept 0x1a1) marks-too))
-    (λ e. rw (eqb→eq w 0x1c2 e) (right-of (keptBelow 256 && byteKept 0x1a1) (byteKept 0x1c2) all-bytes-kept)))
-  where
-    marks-too : T (keptBelow 256 && byteKept 0x1a1)
-    marks-too = left-of (keptBelow 256 && byteKept 0x1a1) (byteKept 0x1c2) all-bytes-kept
+    (λ e. rw (eqb→eq w 0x1a1 e) (right-of (passesBelow f 256) (f 0x1a1) with-A1))
+    (λ e. rw (eqb→eq w 0x1c2 e) (right-of (passesBelow f 256 && f 0x1a1) (f 0x1c2) t)))
+
+byte-kept : (w : ℕ) → T (isByte w) → T (byteKept w)
+byte-kept = over-bytes byteKept all-bytes-kept
 
 pub over-letters : (f : Bit → Bool) → T (overLetters f) → (b : Bit) → T (f b)
 unfolding overLetters

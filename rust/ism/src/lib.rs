@@ -147,3 +147,21 @@ pub fn make_sector(id: SectorId, data: &[u8], out: &mut [u16]) -> Result<usize, 
     };
     Ok(accepted(answer)?.count as usize)
 }
+
+/// Makes the bit image of `items` at the front of `words`, one code word for each written byte, and gives their count.
+///
+/// Refusals in order: too long, not an item, output too short.
+pub fn make_image(items: &[u16], words: &mut [u16]) -> Result<usize, Refusal> {
+    // SAFETY: each pointer comes with the length of its slice, and slices do not overlap
+    let answer = unsafe { sys::ism_make_image(items.as_ptr(), items.len(), words.as_mut_ptr(), words.len()) };
+    Ok(accepted(answer)?.count as usize)
+}
+
+/// Reads the items of a bit image to the front of `items` and gives their count.
+///
+/// Refusals in order: too many words, unruly word, output too short.
+pub fn read_image(words: &[u16], items: &mut [u16]) -> Result<usize, Refusal> {
+    // SAFETY: each pointer comes with the length of its slice, and slices do not overlap
+    let answer = unsafe { sys::ism_read_image(words.as_ptr(), words.len(), items.as_mut_ptr(), items.len()) };
+    Ok(accepted(answer)?.count as usize)
+}

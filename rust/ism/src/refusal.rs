@@ -13,7 +13,7 @@ pub enum Refusal {
     ProfileInconsistent,
     /// 3, foreign: the lowest number in the list that is no item
     NotAnItem { place: u32 },
-    /// 4, overlong: over 6,400 items, written bytes or bytes read, or over 51,202 intervals in a strip
+    /// 4, overlong: over 6,400 items, written bytes, bytes read or words, or over 51,202 intervals in a strip
     TooLong,
     /// 5, narrow: an interval below Min
     IntervalTooShort { place: u32 },
@@ -33,6 +33,8 @@ pub enum Refusal {
     CountOutOfRange,
     /// 13, misfit: length code above 3, or data not that long
     SectorSizeMismatch,
+    /// 16, unruly: the lowest word of an image that no item has after its previous bit
+    UnrulyWord { place: u32 },
     /// A number that this version of the interface does not list: the linked library is of another version
     Unlisted { number: u32, place: u32 },
 }
@@ -55,6 +57,7 @@ impl Refusal {
             11 => Refusal::EndsEarly,
             12 => Refusal::CountOutOfRange,
             13 => Refusal::SectorSizeMismatch,
+            16 => Refusal::UnrulyWord { place },
             _ => Refusal::Unlisted { number, place },
         })
     }
@@ -75,11 +78,12 @@ impl Refusal {
             Refusal::EndsEarly => 11,
             Refusal::CountOutOfRange => 12,
             Refusal::SectorSizeMismatch => 13,
+            Refusal::UnrulyWord { .. } => 16,
             Refusal::Unlisted { number, .. } => *number,
         }
     }
 
-    /// The place: which profile number (from 1), which item or interval (from 0), otherwise 0.
+    /// The place: which profile number (from 1), which item, interval or word (from 0), otherwise 0.
     pub fn place(&self) -> u32 {
         match self {
             Refusal::ProfileOutOfRange { field } => *field,
@@ -87,6 +91,7 @@ impl Refusal {
             | Refusal::IntervalTooShort { place }
             | Refusal::IntervalTooLong { place }
             | Refusal::MisplacedMark { place }
+            | Refusal::UnrulyWord { place }
             | Refusal::Unlisted { place, .. } => *place,
             _ => 0,
         }
@@ -101,7 +106,7 @@ impl fmt::Display for Refusal {
             Refusal::NotAnItem { place } => {
                 write!(f, "number {place} of the list is no data byte, mark A1 or C2, or check order")
             }
-            Refusal::TooLong => write!(f, "more than 6,400 bytes or 51,202 intervals"),
+            Refusal::TooLong => write!(f, "more than 6,400 bytes or words, or 51,202 intervals"),
             Refusal::IntervalTooShort { place } => write!(f, "interval {place} is below Min"),
             Refusal::IntervalTooLong { place } => write!(f, "interval {place} is Rpt or more"),
             Refusal::NotWholeBytes => write!(f, "the intervals do not end on a whole byte"),
@@ -111,6 +116,7 @@ impl fmt::Display for Refusal {
             Refusal::EndsEarly => write!(f, "the intervals end before the bytes asked for"),
             Refusal::CountOutOfRange => write!(f, "the byte count is outside 1 to 1,030"),
             Refusal::SectorSizeMismatch => write!(f, "the length code is above 3 or the data is not that long"),
+            Refusal::UnrulyWord { place } => write!(f, "word {place} is that of no item after its previous bit"),
             Refusal::Unlisted { number, place } => write!(f, "unlisted refusal {number} at place {place}"),
         }
     }

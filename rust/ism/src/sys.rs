@@ -62,6 +62,8 @@ extern "C" {
         out: *mut u16,
         room: usize,
     ) -> Answer;
+    pub fn ism_make_image(items: *const u16, n: usize, words: *mut u16, room: usize) -> Answer;
+    pub fn ism_read_image(words: *const u16, n: usize, items: *mut u16, room: usize) -> Answer;
     pub fn ism_make_sector(
         track: u8,
         side: u8,

@@ -1,16 +1,16 @@
 -- Why `codec::writer::write_items` inks all bits of a list: each turn inks those of one part more. Rests on no axiom.
 use Prim.Native.Nat.{ℕ, _+_, _-_, _≤_, min}
-use mathlib.Core.Path.{_≡_, sym, ap, subst, _∙_}
+use mathlib.Core.Path.{_≡_, ap, subst, _∙_}
 use mathlib.Core.List.{List, _++_}
 use native.Mathlib.Omega.{arith}
 use borrow.Author.Needs.{needs}
 use denote.Ref.{now}
-use lib.ListN.{length, take, drop, length-take, take-append-drop}
-use lib.Seq.{drop-drop}
+use lib.ListN.{length, take, drop, length-take}
 use Rattle.lists.specs.Filled.{storedAt}
 use Rattle.items.specs.Written.{afterBytes, writtenFrom, written}
 use Rattle.items.specs.declared.Check.{Check}
-use Rattle.items.proofs.WrittenLaws.{length-of-written, written-from-of-append, written-from-end}
+use Rattle.items.proofs.WrittenLaws.{length-of-written, written-from-end}
+use Rattle.items.proofs.PartLaws.{partBytes, bytesAfter, written-in-two-parts}
 use Rattle.symbols.specs.Bits.{Bit, allBits}
 use Rattle.symbols.proofs.BytesLaws.{length-of-bits, bits-of-append}
 use Rattle.timing.specs.declared.Profile.{Profile}
@@ -21,25 +21,16 @@ use Rattle.codec.proofs.InkLaws.{Inking, inked-at-most, inking-begins, 
 use Rattle.codec.proofs.writer.write_items.Statement.{statement}
 use Rattle.codec.proofs.writer.write_items.Tie as tie
 
--- the items from k up to an end, and what their bytes leave to ink
+-- the bits of the items from k up to an end, and what they leave to ink
 module _ (items : List ℕ) (k end : ℕ) (from : k ≤ end) (check : Check) where
   abbrev bytes : List ℕ
-  bytes = writtenFrom check (take (end - k) (drop k items))
+  bytes = partBytes items k end from check
 
   abbrev rest : List ℕ
-  rest = writtenFrom (afterBytes check bytes) (drop end items)
+  rest = bytesAfter items k end from check
 
   bits-in-two-parts : allBits (writtenFrom check (drop k items)) ≡ allBits bytes ++ allBits rest
-  bits-in-two-parts =
-      let part = take (end - k) (drop k items) in
-      let place : k + (end - k) ≡ end = omega arith in
-      let behind : drop (end - k) (drop k items) ≡ drop end items =
-      drop-drop (end - k) k items ∙ ap (λ (n : ℕ). drop n items) place in
-      let split : drop k items ≡ part ++ drop end items =
-      sym (take-append-drop (end - k) (drop k items)) ∙ ap (λ (ns : List ℕ). part ++ ns) behind in
-      ap (λ (ns : List ℕ). allBits (writtenFrom check ns)) split
-      ∙ ap allBits (written-from-of-append check part (drop end items))
-      ∙ bits-of-append bytes rest
+  bits-in-two-parts = ap allBits (written-in-two-parts items k end from check) ∙ bits-of-append bytes rest
 
   a-part-more
       : (p : Profile) (old : List ℕ) {out : List ℕ} {pen : Pen} {at : ℕ}

@@ -10,9 +10,7 @@ use Rattle.codec.proofs.writer.write_list.Statement.{statement}
 use Rattle.codec.proofs.writer.write_list.Tie as tie
 
 has-room-requires : tie.Need-has-room-requires
-has-room-requires c κs =
-    let pre = c .before .before .pre in
-    (pre .0, listed _ (pre .1) .few-bytes)
+has-room-requires c κs = c .before .before .pre .1
 
 write-stream-requires : tie.Need-write-stream-requires
 write-stream-requires c κs =

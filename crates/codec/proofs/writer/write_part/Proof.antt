@@ -9,7 +9,7 @@ use lib.ListN.{length, length-replicate}
 use Rattle.lists.specs.Filled.{storedAt}
 use Rattle.symbols.specs.Bits.{allBits}
 use Rattle.lengths.specs.Pen.{inked, penAfter}
-use Rattle.codec.proofs.WriterLaws.{part-is-short, bytes-fit, front-length, front-is-written}
+use Rattle.items.proofs.PartLaws.{part-is-short, bytes-fit, front-length, front-is-written}
 use borrow.Author.Needs.{needs}
 use Rattle.codec.proofs.writer.write_part.Statement.{statement}
 use Rattle.codec.proofs.writer.write_part.Tie as tie

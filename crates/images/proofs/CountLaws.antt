@@ -1,0 +1,123 @@
+-- The ones of a word are the distances that end in it, and so the cells; summed along a list they are the cells of the
+-- list, but for those that the closing 0s end. Rests on no axiom.
+use Prim.Native.Nat.{ℕ, suc, _+_, _*_, _%_}
+use mathlib.Core.Path.{_≡_, refl, sym, ap, ap₂, _∙_}
+use mathlib.Core.Bool.{true, false, cond}
+use mathlib.Core.List.{List, [], _∷_, _++_, append-assoc}
+use native.Mathlib.Nat.{zero-add, add-zero}
+use native.Mathlib.Omega.{arith}
+use lib.Count.{ones, onesIn, ones-cat}
+use lib.Dec.{T, eqb}
+use lib.ListN.{length}
+use Rattle.lists.specs.Place.{everywhere}
+use Rattle.lists.proofs.PlaceLaws.{everywhere-passes-at-first}
+use Rattle.items.specs.Item.{isByte}
+use Rattle.symbols.specs.Bits.{Bit, O, I, G, writtenBits, allBits, bitsOf}
+use Rattle.symbols.specs.Bytes.{digit, numberFrom, isGap}
+use Rattle.symbols.specs.Cells.{symbolsFrom, symbolsOf, cellsFrom, cellsOf, writtenSymbols, writtenCells}
+use Rattle.symbols.proofs.RegisterLaws.{sound}
+use Rattle.images.specs.Words.{clockBit, wordOf, lastBit}
+use Rattle.images.specs.Distances.{distancesFrom}
+use Rattle.images.proofs.HalfCells.{clockAfter, dataOf, cellsAfter}
+use Rattle.images.proofs.WordLaws.{word-is-kept, last-bit-is-data}
+use Rattle.images.proofs.DistanceLaws.{unitsAt, distances-of-letters, cells-after-append, last-of-first}
+use Rattle.images.proofs.DistanceLaws.{bytes-are-sound}
+
+-- ---- ones among half cells
+
+unfoldable pub onesAmong : List Bit → ℕ
+onesAmong [] = 0
+onesAmong (b ∷ bs) = digit b + onesAmong bs
+
+ones-of-append : (xs ys : List Bit) → onesAmong (xs ++ ys) ≡ onesAmong xs + onesAmong ys
+unfolding onesAmong
+ones-of-append [] ys = sym (zero-add (onesAmong ys))
+ones-of-append (x ∷ xs) ys = let rest = ones-of-append xs ys in omega arith
+
+-- each ends a distance, wherever the last one stood
+distances-count : (n : ℕ) (bs : List Bit) → length (distancesFrom n bs) ≡ onesAmong bs
+unfolding distancesFrom onesAmong
+distances-count n [] = refl
+distances-count n (O ∷ bs) = let rest = distances-count (suc n) bs in omega arith
+distances-count n (I ∷ bs) = let rest = distances-count 1 bs in omega arith
+distances-count n (G ∷ bs) = let rest = distances-count (suc n) bs in omega arith
+
+ones-of-digit : (m : ℕ) (b : Bit) → ones (m * 2 + digit b) ≡ ones m + digit b
+unfolding ones onesIn
+ones-of-digit m O = ones-cat 1 m 0 (omega arith)
+ones-of-digit m I = ones-cat 1 m 1 (omega arith)
+ones-of-digit m G = ones-cat 1 m 0 (omega arith)
+
+pub ones-of-number : (m : ℕ) (bs : List Bit) → ones (numberFrom m bs) ≡ ones m + onesAmong bs
+unfolding numberFrom onesAmong
+ones-of-number m [] = sym (add-zero (ones m))
+ones-of-number m (b ∷ bs) =
+    let rest = ones-of-number (m * 2 + digit b) bs in
+    let one = ones-of-digit m b in
+    omega arith
+
+-- ---- a word
+
+pub ones-of-word : (b : Bit) (w : ℕ) → isGap b ≡ false → isByte w ≡ true
+    → ones (wordOf b w) ≡ onesAmong (cellsAfter b (writtenBits w))
+unfolding ones onesIn
+ones-of-word b w d byte =
+    ap ones (word-is-kept b w d byte .number)
+    ∙ ones-of-number 0 (cellsAfter b (writtenBits w))
+    ∙ zero-add (onesAmong (cellsAfter b (writtenBits w)))
+
+-- where the half cells stand so that the open cell has 2 units
+startAfter : Bit → ℕ
+startAfter O = 2
+startAfter I = 1
+startAfter G = 2
+
+two-units : (b : Bit) → unitsAt b (startAfter b) ≡ 2
+unfolding unitsAt startAfter
+two-units O = refl
+two-units I = refl
+two-units G = refl
+
+cells-count : (b : Bit) (bs : List Bit) → T (sound b bs)
+    → onesAmong (cellsAfter b bs) ≡ length (cellsOf (symbolsFrom b bs))
+unfolding cellsOf
+cells-count b bs t =
+    sym (distances-count (startAfter b) (cellsAfter b bs))
+    ∙ ap length
+    (distances-of-letters b bs (startAfter b) t ∙ ap (λ (n : ℕ). cellsFrom n (symbolsFrom b bs)) (two-units b))
+
+pub ones-are-transitions
+    : (before w : ℕ)
+    → isByte w ≡ true
+    → ones (wordOf (lastBit before) w) ≡ length (cellsOf (symbolsFrom (lastBit before) (writtenBits w)))
+ones-are-transitions before w byte =
+    let kept = word-is-kept (lastBit before) w (last-bit-is-data before) byte in
+    ones-of-word (lastBit before) w (last-bit-is-data before) byte
+    ∙ cells-count (lastBit before) (writtenBits w) (kept .letters-are-sound)
+
+-- ---- a list
+
+-- the cells that bytes and the closing 0s end, after a data bit
+unfoldable pub cellsLeft : Bit → List ℕ → ℕ
+cellsLeft b ws = onesAmong (cellsAfter b (allBits ws ++ (O ∷ O ∷ [])))
+
+pub cells-left-of-none : (w : ℕ) → cellsLeft (lastBit w) [] ≡ cond (eqb (w % 2) 1) 1 2
+unfolding cellsLeft cellsAfter clockAfter clockBit dataOf allBits onesAmong lastBit
+cells-left-of-none w =
+    elim (eqb (w % 2) 1) as (λ t. cellsLeft (cond t I O) [] ≡ cond t 1 2) [ true ↦ refl | false ↦ refl ]
+
+pub cells-left-of-byte : (b : Bit) (w : ℕ) (ws : List ℕ) → isGap b ≡ false → everywhere isByte (w ∷ ws) ≡ true
+    → cellsLeft b (w ∷ ws) ≡ ones (wordOf b w) + cellsLeft (lastBit w) ws
+unfolding cellsLeft allBits
+cells-left-of-byte b w ws d bytes =
+    let rest = allBits ws ++ (O ∷ O ∷ []) in
+    ap (λ (l : List Bit). onesAmong (cellsAfter b l)) (append-assoc (writtenBits w) (allBits ws) (O ∷ O ∷ []))
+    ∙ ap onesAmong (cells-after-append b (writtenBits w) rest)
+    ∙ ones-of-append (cellsAfter b (writtenBits w)) _
+    ∙ ap₂ _+_ (sym (ones-of-word b w d (everywhere-passes-at-first isByte w ws bytes)))
+    (ap (λ (c : Bit). onesAmong (cellsAfter c rest)) (last-of-first w ws bytes b d))
+
+pub cells-left-at-start : (ws : List ℕ) → everywhere isByte ws ≡ true → cellsLeft O ws ≡ length (writtenCells ws)
+unfolding cellsLeft writtenCells writtenSymbols bitsOf symbolsOf
+cells-left-at-start ws bytes =
+    cells-count O (allBits ws ++ (O ∷ O ∷ [])) (bytes-are-sound O ws refl bytes)

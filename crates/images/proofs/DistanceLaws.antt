@@ -1,0 +1,146 @@
+-- The distances between ones are the cells: after a 0 the next half cell is as far from the last one as the open cell
+-- has units, after a 1 one less; each pair of letters keeps that. Rests on no axiom.
+use Prim.Native.Nat.{ℕ, suc}
+use mathlib.Core.Path.{_≡_, refl, sym, ap, ap₂, _∙_}
+use mathlib.Core.Bool.{true, false, cond, true≢false}
+use mathlib.Core.List.{List, [], _∷_, _++_, append-assoc}
+use lib.Dec.{T}
+use Rattle.lists.specs.Place.{everywhere}
+use Rattle.lists.proofs.PlaceLaws.{everywhere-passes-at-first, everywhere-in-rest}
+use Rattle.items.specs.Item.{isByte}
+use Rattle.symbols.specs.Bits.{Bit, O, I, G, isOne, lastOf, writtenBits, allBits, bitsOf}
+use Rattle.symbols.specs.Bytes.{isGap}
+use Rattle.symbols.specs.Cells.{pairSymbols, symbolsFrom, symbolsOf, cellsFrom, cellsOf, writtenSymbols, writtenCells}
+use Rattle.symbols.proofs.CellLaws.{last-append, sound-append}
+use Rattle.symbols.proofs.RegisterLaws.{follows, sound}
+use Rattle.images.specs.Words.{clockBit, lastBit}
+use Rattle.images.specs.Image.{imageFrom, imageOf}
+use Rattle.images.specs.Distances.{imageCells, framed, distancesFrom, distances}
+use Rattle.images.proofs.HalfCells.{clockAfter, dataOf, cellsAfter}
+use Rattle.images.proofs.WordLaws.{word-is-kept, last-bit-is-data}
+
+-- ---- letters
+
+-- the units of the open cell after a letter, where the next half cell stands n after the last one
+unfoldable pub unitsAt : Bit → ℕ → ℕ
+unitsAt O n = n
+unitsAt I n = suc n
+unitsAt G n = n
+
+pub distances-of-letters
+    : (b : Bit) (bs : List Bit) (n : ℕ)
+    → T (sound b bs)
+    → distancesFrom n (cellsAfter b bs) ≡ cellsFrom (unitsAt b n) (symbolsFrom b bs)
+unfolding distancesFrom cellsAfter clockAfter clockBit dataOf unitsAt symbolsFrom pairSymbols cellsFrom sound follows
+distances-of-letters b [] n t = refl
+distances-of-letters O (O ∷ bs) n t = ap (λ (l : List ℕ). n ∷ l) (distances-of-letters O bs 2 t)
+distances-of-letters O (I ∷ bs) n t = ap (λ (l : List ℕ). suc n ∷ l) (distances-of-letters I bs 1 t)
+distances-of-letters O (G ∷ bs) n t = ap (λ (l : List ℕ). n ∷ l) (distances-of-letters G bs 2 t)
+distances-of-letters I (O ∷ bs) n t = distances-of-letters O bs (suc (suc n)) t
+distances-of-letters I (I ∷ bs) n t = ap (λ (l : List ℕ). suc n ∷ l) (distances-of-letters I bs 1 t)
+distances-of-letters I (G ∷ bs) n t = absurd t
+distances-of-letters G (O ∷ bs) n t = distances-of-letters O bs (suc (suc n)) t
+distances-of-letters G (I ∷ bs) n t = absurd t
+distances-of-letters G (G ∷ bs) n t = absurd t
+
+pub cells-after-append
+    : (b : Bit) (xs ys : List Bit) → cellsAfter b (xs ++ ys) ≡ cellsAfter b xs ++ cellsAfter (lastOf b xs) ys
+unfolding cellsAfter lastOf
+cells-after-append b [] ys = refl
+cells-after-append b (x ∷ xs) ys =
+    ap (λ (l : List Bit). clockAfter b x ∷ dataOf x ∷ l) (cells-after-append x xs ys)
+
+last-half-cell : (b : Bit) (bs : List Bit) → lastOf (dataOf b) (cellsAfter b bs) ≡ dataOf (lastOf b bs)
+unfolding cellsAfter lastOf
+last-half-cell b [] = refl
+last-half-cell b (c ∷ bs) = last-half-cell c bs
+
+-- a 0 after the last one ends no distance
+zero-ends-none : (n : ℕ) (xs : List Bit) → distancesFrom n (xs ++ (O ∷ [])) ≡ distancesFrom n xs
+unfolding distancesFrom
+zero-ends-none n [] = refl
+zero-ends-none n (x ∷ xs) =
+    elim (isOne x) as (λ t.
+    cond t (n ∷ distancesFrom 1 (xs ++ (O ∷ []))) (distancesFrom (suc n) (xs ++ (O ∷ [])))
+    ≡ cond t (n ∷ distancesFrom 1 xs) (distancesFrom (suc n) xs))
+    [ true ↦ ap (λ (l : List ℕ). n ∷ l) (zero-ends-none 1 xs) | false ↦ zero-ends-none (suc n) xs ]
+
+-- ---- bytes
+
+module _ (w : ℕ) (ws : List ℕ) (bytes : everywhere isByte (w ∷ ws) ≡ true) where
+  first-is-byte : isByte w ≡ true
+  first-is-byte = everywhere-passes-at-first isByte w ws bytes
+
+  others-are-bytes : everywhere isByte ws ≡ true
+  others-are-bytes = everywhere-in-rest isByte w ws bytes
+
+  -- the letters of the first byte end in its last bit
+  pub last-of-first : (b : Bit) → isGap b ≡ false → lastOf b (writtenBits w) ≡ lastBit w
+  last-of-first b d = word-is-kept b w d first-is-byte .last-letter
+
+pub last-of-bytes-is-data : (b : Bit) (ws : List ℕ) → isGap b ≡ false → everywhere isByte ws ≡ true
+    → isGap (lastOf b (allBits ws)) ≡ false
+unfolding allBits lastOf
+last-of-bytes-is-data b [] d bytes = d
+last-of-bytes-is-data b (w ∷ ws) d bytes =
+    ap isGap
+    (last-append b (writtenBits w) (allBits ws)
+    ∙ ap (λ (c : Bit). lastOf c (allBits ws)) (last-of-first w ws bytes b d))
+    ∙ last-of-bytes-is-data (lastBit w) ws (last-bit-is-data w) (others-are-bytes w ws bytes)
+
+pub bytes-are-sound : (b : Bit) (ws : List ℕ) → isGap b ≡ false → everywhere isByte ws ≡ true
+    → T (sound b (allBits ws ++ (O ∷ O ∷ [])))
+unfolding allBits sound follows
+bytes-are-sound O [] d bytes = tt
+bytes-are-sound I [] d bytes = tt
+bytes-are-sound G [] d bytes = absurd (true≢false d)
+bytes-are-sound b (w ∷ ws) d bytes =
+    let rest = allBits ws ++ (O ∷ O ∷ []) in
+    rw (append-assoc (writtenBits w) (allBits ws) (O ∷ O ∷ []))
+    (sound-append b (writtenBits w) rest (word-is-kept b w d (first-is-byte w ws bytes) .letters-are-sound)
+    (rw (last-of-first w ws bytes b d)
+    (bytes-are-sound (lastBit w) ws (last-bit-is-data w) (others-are-bytes w ws bytes))))
+
+-- an image's half cells are those of its bytes' letters
+pub cells-of-image : (b : Bit) (ws : List ℕ) → isGap b ≡ false → everywhere isByte ws ≡ true
+    → imageCells (imageFrom b ws) ≡ cellsAfter b (allBits ws)
+unfolding imageCells imageFrom allBits cellsAfter
+cells-of-image b [] d bytes = refl
+cells-of-image b (w ∷ ws) d bytes =
+    ap₂ _++_ (word-is-kept b w d (first-is-byte w ws bytes) .half-cells)
+    (cells-of-image (lastBit w) ws (last-bit-is-data w) (others-are-bytes w ws bytes)
+    ∙ ap (λ (c : Bit). cellsAfter c (allBits ws)) (sym (last-of-first w ws bytes b d)))
+    ∙ sym (cells-after-append b (writtenBits w) (allBits ws))
+
+-- ---- an image between its ends
+
+-- the clock bit after a data bit, and the half cells of the two closing 0s
+clock-for-zero : (b : Bit) → isGap b ≡ false → clockBit (dataOf b) O ≡ clockAfter b O
+unfolding clockBit clockAfter dataOf
+clock-for-zero O d = refl
+clock-for-zero I d = refl
+clock-for-zero G d = absurd (true≢false d)
+
+closing-cells : (b : Bit) → cellsAfter b (O ∷ O ∷ []) ≡ clockAfter b O ∷ O ∷ I ∷ O ∷ []
+unfolding cellsAfter clockAfter clockBit dataOf
+closing-cells b = refl
+
+pub distances-are-cells
+    : (ws : List ℕ) → everywhere isByte ws ≡ true → distances (framed (imageOf ws)) ≡ writtenCells ws
+unfolding distances distancesFrom framed imageOf writtenCells writtenSymbols bitsOf symbolsOf cellsOf unitsAt dataOf
+    clockAfter
+distances-are-cells ws bytes =
+    let front = cellsAfter O (allBits ws) in
+    let last = lastOf O (allBits ws) in
+    let cells : imageCells (imageFrom O ws) ≡ front = cells-of-image O ws refl bytes in
+    let clock : clockBit (lastOf O (imageCells (imageFrom O ws))) O ≡ clockAfter last O =
+    ap (λ (l : List Bit). clockBit (lastOf O l) O) cells
+    ∙ ap (λ (c : Bit). clockBit c O) (last-half-cell O (allBits ws))
+    ∙ clock-for-zero last (last-of-bytes-is-data O ws refl bytes) in
+    ap₂ (λ (l : List Bit) (c : Bit). distancesFrom 2 (l ++ (c ∷ O ∷ I ∷ []))) cells clock
+    ∙ sym (zero-ends-none 2 (front ++ (clockAfter last O ∷ O ∷ I ∷ [])))
+    ∙ ap (distancesFrom 2)
+    (append-assoc front (clockAfter last O ∷ O ∷ I ∷ []) (O ∷ [])
+    ∙ ap (λ (l : List Bit). front ++ l) (sym (closing-cells last))
+    ∙ sym (cells-after-append O (allBits ws) (O ∷ O ∷ [])))
+    ∙ distances-of-letters O (allBits ws ++ (O ∷ O ∷ [])) 2 (bytes-are-sound O ws refl bytes)

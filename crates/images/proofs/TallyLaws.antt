@@ -1,0 +1,110 @@
+-- A tally along a list: it is a fold, it stays small, and with what the closing 0s end it is the number of cells. Rests
+-- on no axiom.
+use Prim.Native.Nat.{ℕ, _+_, _*_, _%_, _≤_, _<_}
+use mathlib.Core.Path.{_≡_, refl, sym, ap, _∙_}
+use mathlib.Core.Bool.{true, false, cond}
+use mathlib.Core.List.{List, [], _∷_, _++_}
+use native.Mathlib.Nat.{zero-add, add-assoc}
+use native.Mathlib.Omega.{arith}
+use native.Mathlib.Numerals.{add-one}
+use lib.Count.{ones, onesIn, ones-le}
+use lib.Dec.{eqb}
+use lib.ListN.{length, getD, drop}
+use lib.Seq.{drop-cons}
+use Rattle.lists.specs.Place.{everywhere}
+use Rattle.lists.proofs.PlaceLaws.{everywhere-in-rest}
+use Rattle.items.specs.Item.{isByte, isMark}
+use Rattle.symbols.specs.Bits.{Bit, O, byteBits}
+use Rattle.symbols.specs.Cells.{writtenCells}
+use Rattle.symbols.proofs.UnitLaws.{digit-is-small}
+use Rattle.images.specs.Words.{clocked, dataWord, markWord, wordOf, lastBit}
+use Rattle.images.specs.Tally.{noTally, talliedByte, tallied}
+use Rattle.images.specs.declared.count.Tally.{Tally}
+use Rattle.images.proofs.WordLaws.{last-bit-is-data}
+use Rattle.images.proofs.CountLaws.{onesAmong, ones-of-number}
+use Rattle.images.proofs.CountLaws.{cellsLeft, cells-left-of-none, cells-left-of-byte, cells-left-at-start}
+
+-- ---- a fold
+
+pub tallied-of-append : (t : Tally) (us ws : List ℕ) → tallied t (us ++ ws) ≡ tallied (tallied t us) ws
+unfolding tallied
+tallied-of-append t [] ws = refl
+tallied-of-append t (u ∷ us) ws = tallied-of-append (talliedByte t u) us ws
+
+-- from place k on
+pub tallied-from : (t : Tally) (ws : List ℕ) (k : ℕ) → k < length ws
+    → tallied t (drop k ws) ≡ tallied (talliedByte t (getD ws k 0)) (drop (k + 1) ws)
+unfolding tallied
+tallied-from t ws k h = rw (add-one, drop-cons ws k 0) refl
+
+pub tallied-none : (t : Tally) → tallied t [] ≡ t
+unfolding tallied
+tallied-none t = refl
+
+-- ---- small
+
+few-ones : (bs : List Bit) → onesAmong bs ≤ length bs
+unfolding onesAmong
+few-ones [] = omega arith
+few-ones (b ∷ bs) = let digit = digit-is-small b in let rest = few-ones bs in omega arith
+
+ones-of-data : (before : Bit) (w : ℕ) → ones (dataWord before w) ≤ 16
+unfolding dataWord clocked byteBits ones onesIn
+ones-of-data before w =
+    let bits = clocked before (byteBits w) in
+    let count : ones (dataWord before w) ≡ 0 + onesAmong bits = ones-of-number 0 bits in
+    let most : onesAmong bits ≤ 16 = few-ones bits in
+    omega arith
+
+ones-of-mark : (w : ℕ) → ones (markWord w) ≤ 16
+unfolding markWord
+ones-of-mark w =
+    elim (eqb w (256 + 0xa1)) as (λ t. ones (cond t 0x4489 0x5224) ≤ 16)
+    [ true ↦ ones-le 16 0x4489 (omega arith) | false ↦ ones-le 16 0x5224 (omega arith) ]
+
+pub sixteen-at-most : (before : Bit) (w : ℕ) → ones (wordOf before w) ≤ 16
+unfolding wordOf
+sixteen-at-most before w =
+    elim (isMark w) as (λ t. ones (cond t (markWord w) (dataWord before w)) ≤ 16)
+    [ true ↦ ones-of-mark w | false ↦ ones-of-data before w ]
+
+pub tally-of-byte : (t : Tally) (w : ℕ) → talliedByte t w .cells ≤ t .cells + 16
+unfolding talliedByte
+tally-of-byte t w = let most = sixteen-at-most (lastBit (t .previous)) w in omega arith
+
+pub tally-at-most : (t : Tally) (ws : List ℕ) → tallied t ws .cells ≤ t .cells + 16 * length ws
+unfolding tallied
+tally-at-most t [] = omega arith
+tally-at-most t (w ∷ ws) =
+    let first = tally-of-byte t w in
+    let rest = tally-at-most (talliedByte t w) ws in
+    omega arith
+
+pub tally-at-least : (t : Tally) (ws : List ℕ) → t .cells ≤ tallied t ws .cells
+unfolding tallied talliedByte
+tally-at-least t [] = omega arith
+tally-at-least t (w ∷ ws) = let rest = tally-at-least (talliedByte t w) ws in omega arith
+
+-- ---- the number of cells
+
+cells-with-the-rest : (t : Tally) (ws : List ℕ) → everywhere isByte ws ≡ true
+    → tallied t ws .cells + cellsLeft (lastBit (tallied t ws .previous)) []
+    ≡ t .cells + cellsLeft (lastBit (t .previous)) ws
+unfolding tallied talliedByte
+cells-with-the-rest t [] bytes = refl
+cells-with-the-rest t (w ∷ ws) bytes =
+    let rest = cells-with-the-rest (talliedByte t w) ws (everywhere-in-rest isByte w ws bytes) in
+    let first = cells-left-of-byte (lastBit (t .previous)) w ws (last-bit-is-data (t .previous)) bytes in
+    rest
+    ∙ add-assoc (t .cells) (ones (wordOf (lastBit (t .previous)) w)) (cellsLeft (lastBit w) ws)
+    ∙ ap (λ (n : ℕ). t .cells + n) (sym first)
+
+pub tally-is-count : (ws : List ℕ) → everywhere isByte ws ≡ true
+    → tallied noTally ws .cells + cond (eqb (tallied noTally ws .previous % 2) 1) 1 2 ≡ length (writtenCells ws)
+unfolding lastBit
+tally-is-count ws bytes =
+    let end = tallied noTally ws .previous in
+    ap (λ (n : ℕ). tallied noTally ws .cells + n) (sym (cells-left-of-none end))
+    ∙ cells-with-the-rest noTally ws bytes
+    ∙ zero-add (cellsLeft O ws)
+    ∙ cells-left-at-start ws bytes

@@ -1,0 +1,80 @@
+-- Each word, after either bit, has its byte's half cells, and only its byte is a candidate for it: one test, which antt
+-- computes over the 256 data bytes and the two marks after a 0 and after a 1. Rests on no axiom.
+use Prim.Native.Nat.{ℕ, _%_}
+use mathlib.Core.Path.{_≡_, refl}
+use mathlib.Core.Bool.{Bool, true, false, cond, _&&_, true≢false}
+use lib.Dec.{T, eqb, eqb→eq}
+use Rattle.items.specs.Item.{isMark, isByte}
+use Rattle.symbols.specs.Bits.{Bit, O, I, G, byteBits, withGaps, markBits, writtenBits, lastOf}
+use Rattle.symbols.specs.Bytes.{numberFrom, isGap}
+use Rattle.symbols.proofs.TestLaws.{left-of, right-of, holds}
+use Rattle.symbols.proofs.RowLaws.{sameBit, sameBits, same-bit, same-bits, passesBelow, overBytes, over-bytes}
+use Rattle.symbols.proofs.RegisterLaws.{follows, sound}
+use Rattle.images.specs.Words.{clockBit, clocked, dataWord, markWord, wordOf, lastBit}
+use Rattle.images.specs.Distances.{halfCells}
+use Rattle.images.specs.Candidate.{dataBits, candidate}
+use Rattle.images.proofs.HalfCells.{clockAfter, dataOf, cellsAfter}
+
+-- ---- the test
+
+-- the candidate for a byte's word is the byte; the word's half cells are those of the byte's letters, and it is their
+-- number; its letters are sound and end in its last data bit
+wordKept : Bit → ℕ → Bool
+wordKept before w =
+    eqb (candidate (wordOf before w)) w
+    && sameBits (halfCells (wordOf before w)) (cellsAfter before (writtenBits w))
+    && eqb (wordOf before w) (numberFrom 0 (cellsAfter before (writtenBits w)))
+    && sound before (writtenBits w)
+    && sameBit (lastOf before (writtenBits w)) (lastBit w)
+
+bothKept : ℕ → Bool
+bothKept w = wordKept O w && wordKept I w
+
+all-words-kept : T (overBytes bothKept)
+unfolding overBytes passesBelow bothKept wordKept candidate dataBits wordOf isMark markWord dataWord clocked clockBit
+    byteBits numberFrom sameBits sameBit halfCells cellsAfter clockAfter dataOf writtenBits markBits withGaps sound
+    follows lastOf lastBit
+all-words-kept = tt
+
+-- ---- what it says of each word
+
+pub record Kept (before : Bit) (w : ℕ) : Type 0 where
+  pub candidate-is-byte : candidate (wordOf before w) ≡ w
+  pub half-cells : halfCells (wordOf before w) ≡ cellsAfter before (writtenBits w)
+  pub number : wordOf before w ≡ numberFrom 0 (cellsAfter before (writtenBits w))
+  pub letters-are-sound : T (sound before (writtenBits w))
+  pub last-letter : lastOf before (writtenBits w) ≡ lastBit w
+
+kept-of-test : (before : Bit) (w : ℕ) → T (wordKept before w) → Kept before w
+unfolding wordKept
+kept-of-test before w t =
+    let p = eqb (candidate (wordOf before w)) w in
+    let q = sameBits (halfCells (wordOf before w)) (cellsAfter before (writtenBits w)) in
+    let r = eqb (wordOf before w) (numberFrom 0 (cellsAfter before (writtenBits w))) in
+    let s = sound before (writtenBits w) in
+    let u = sameBit (lastOf before (writtenBits w)) (lastBit w) in
+    let pqrs = left-of (p && q && r && s) u t in
+    let pqr = left-of (p && q && r) s pqrs in
+    let pq = left-of (p && q) r pqr in
+    record {
+      candidate-is-byte = eqb→eq _ _ (left-of p q pq);
+      half-cells = same-bits _ _ (right-of p q pq);
+      number = eqb→eq _ _ (right-of (p && q) r pqr);
+      letters-are-sound = right-of (p && q && r) s pqrs;
+      last-letter = same-bit _ _ (right-of (p && q && r && s) u t);
+    }
+
+pub word-is-kept : (before : Bit) (w : ℕ) → isGap before ≡ false → isByte w ≡ true → Kept before w
+unfolding bothKept
+word-is-kept O w d b =
+    kept-of-test O w
+    (left-of (wordKept O w) (wordKept I w) (over-bytes bothKept all-words-kept w (holds (isByte w) b)))
+word-is-kept I w d b =
+    kept-of-test I w
+    (right-of (wordKept O w) (wordKept I w) (over-bytes bothKept all-words-kept w (holds (isByte w) b)))
+word-is-kept G w d b = absurd (true≢false d)
+
+pub last-bit-is-data : (w : ℕ) → isGap (lastBit w) ≡ false
+unfolding lastBit
+last-bit-is-data w =
+    elim (eqb (w % 2) 1) as (λ t. isGap (cond t I O) ≡ false) [ true ↦ refl | false ↦ refl ]

@@ -1,0 +1,107 @@
+-- `make::turn_into_words` is a fold over the bytes: the words so far and the image of the bytes from k on are the whole
+-- image. Rests on no axiom.
+use Prim.Native.Nat.{ℕ, suc, _+_, _-_, _≤_, _<_}
+use mathlib.Core.Path.{_≡_, refl, sym, ap, ap₂, _∙_}
+use mathlib.Core.List.{List, [], _∷_, _++_, append-assoc, append-nil}
+use native.Mathlib.Omega.{arith}
+use native.Mathlib.Numerals.{add-one}
+use borrow.Author.Needs.{needs}
+use lib.ListN.{length, getD, set, take, drop, length-set}
+use lib.Seq.{drop-cons, take-suc-set, drop-set-lt, take-length, drop-length}
+use Rattle.images.specs.Words.{wordOf, lastBit}
+use Rattle.images.specs.Image.{imageFrom, imageOf}
+use Rattle.images.proofs.make.turn_into_words.Statement.{statement}
+use Rattle.images.proofs.make.turn_into_words.Tie as tie
+
+-- a byte's word, and then the image of the rest, are the image from the byte on
+word-then-rest
+    : (bytes : List ℕ) (k previous word : ℕ)
+    → k < length bytes
+    → word ≡ wordOf (lastBit previous) (getD bytes k 0)
+    → take (k + 1) (set bytes k word) ++ imageFrom (lastBit (getD bytes k 0)) (drop (k + 1) (set bytes k word))
+    ≡ take k bytes ++ imageFrom (lastBit previous) (drop k bytes)
+unfolding imageFrom
+word-then-rest bytes k previous word h e =
+    let next : k < suc k = omega arith in
+    rw (add-one, take-suc-set, drop-set-lt, drop-cons bytes k 0, ← e) (append-assoc (take k bytes) (word ∷ []) _)
+
+abbrev Inv-loop : tie.InvT-loop
+Inv-loop bytes₀ table previous₀ k₀ bytes previous k =
+    (k ≤ length bytes)
+    × (length bytes ≡ length bytes₀)
+    × (take k bytes ++ imageFrom (lastBit previous) (drop k bytes) ≡ imageOf bytes₀)
+
+abbrev μ-loop : tie.MeasureT-loop
+μ-loop bytes₀ table previous₀ k₀ bytes previous k = length bytes - k
+
+code-words-requires : tie.Need-code-words-requires Inv-loop μ-loop
+code-words-requires c κs = search needs
+
+loop-holds : tie.Need-loop-holds Inv-loop μ-loop
+unfolding imageOf lastBit
+loop-holds c = (omega arith, refl, refl)
+
+mul-byte : tie.Need-mul-byte Inv-loop μ-loop
+mul-byte c = omega arith
+
+slice-read-byte : tie.Need-slice-read-byte Inv-loop μ-loop
+slice-read-byte c = omega arith
+
+word-of-requires : tie.Need-word-of-requires Inv-loop μ-loop
+word-of-requires c κs = c .before .before .before .before .code-words .ensures
+
+mul-bytes : tie.Need-mul-bytes Inv-loop μ-loop
+mul-bytes c = omega arith
+
+slice-write-bytes : tie.Need-slice-write-bytes Inv-loop μ-loop
+slice-write-bytes c = omega arith
+
+add-k : tie.Need-add-k Inv-loop μ-loop
+add-k c = omega arith
+
+loop-less : tie.Need-loop-less Inv-loop μ-loop
+loop-less c = simp length-set (omega arith)
+
+loop-again : tie.Need-loop-again Inv-loop μ-loop
+loop-again c =
+    let head = c .before .before .before .before .loop in (
+      simp length-set (omega arith),
+      simp length-set (head .inv .1),
+      word-then-rest (head .bytes) (head .k) (head .previous) _ (c .before .before .before .loop-test .taken)
+          (c .word-of .ensures)
+          ∙ head .inv .2,
+    )
+
+same-length : tie.Need-same-length Inv-loop μ-loop
+same-length c = c .before .loop .inv .1
+
+returns : tie.Need-returns Inv-loop μ-loop
+unfolding imageFrom
+returns c =
+    let head = c .before .loop in
+    let all : head .k ≡ length (head .bytes) = omega arith in
+    sym
+    (ap₂ _++_ (ap (λ (n : ℕ). take n (head .bytes)) all ∙ take-length (head .bytes))
+    (ap (imageFrom (lastBit (head .previous)))
+    (ap (λ (n : ℕ). drop n (head .bytes)) all ∙ drop-length (head .bytes)))
+    ∙ append-nil (head .bytes))
+    ∙ head .inv .2
+
+pub turn-into-words-spec : {M : Type 1} → statement M
+turn-into-words-spec =
+    tie.close
+    (tie.spec
+    Inv-loop
+    μ-loop
+    code-words-requires
+    loop-holds
+    mul-byte
+    slice-read-byte
+    word-of-requires
+    mul-bytes
+    slice-write-bytes
+    add-k
+    loop-less
+    loop-again
+    same-length
+    returns)

@@ -1,0 +1,128 @@
+-- `read::find_unruly` answers the lowest unruly word: k and the lowest place among the words from k on are the whole.
+-- Rests on no axiom.
+use Prim.Native.Nat.{ℕ, suc, _+_, _-_, _≤_, _<_}
+use mathlib.Core.Path.{_≡_, sym, ap, _∙_}
+use mathlib.Core.List.{List}
+use native.Mathlib.Nat.{zero-add, add-zero}
+use native.Mathlib.Omega.{arith}
+use native.Mathlib.Numerals.{add-one}
+use borrow.Author.Needs.{needs}
+use borrow.Author.Tests.{eq-eqb, ne-eqb}
+use denote.Ref.{now}
+use lib.ListN.{length, getD, drop, drop-of-length-le}
+use lib.Seq.{drop-cons}
+use Rattle.lists.specs.Place.{lowest, passed}
+use Rattle.images.specs.Words.{wordOf, lastBit}
+use Rattle.images.specs.Image.{unrulyFrom, unrulyIn}
+use Rattle.images.specs.Candidate.{candidate}
+use Rattle.images.proofs.WordLaws.{last-bit-is-data}
+use Rattle.images.proofs.ImageLaws.{lowest-after-ruly, lowest-is-unruly}
+use Rattle.images.proofs.read.find_unruly.Statement.{statement}
+use Rattle.images.proofs.read.find_unruly.Tie as tie
+
+-- the lowest place among the words from k on, after the byte before
+abbrev lowestFrom : List ℕ → ℕ → ℕ → ℕ
+lowestFrom words previous k = k + lowest passed (unrulyFrom (lastBit previous) (drop k words))
+
+module _ (words : List ℕ) (previous k byte made : ℕ) (h : k < length words)
+    (is-candidate : byte ≡ candidate (getD words k 0)) (is-made : made ≡ wordOf (lastBit previous) byte) where
+  word-is-made : made ≡ wordOf (lastBit previous) (candidate (getD words k 0))
+  word-is-made = is-made ∙ ap (wordOf (lastBit previous)) is-candidate
+
+  after-ruly : made ≡ getD words k 0 → lowestFrom words byte (k + 1) ≡ lowestFrom words previous k
+  after-ruly e =
+      let word = getD words k 0 in
+      let has = eq-eqb (wordOf (lastBit previous) (candidate word)) word (sym word-is-made ∙ e) in
+      let next : lowest passed (unrulyFrom (lastBit previous) (drop k words))
+      ≡ suc (lowest passed (unrulyFrom (lastBit byte) (drop (suc k) words))) =
+      ap (λ (l : List ℕ). lowest passed (unrulyFrom (lastBit previous) l)) (drop-cons words k 0 h)
+      ∙ lowest-after-ruly (lastBit previous) (last-bit-is-data previous) word (drop (suc k) words) has
+      ∙ ap (λ (w : ℕ). suc (lowest passed (unrulyFrom (lastBit w) (drop (suc k) words)))) (sym is-candidate) in
+      rw add-one (omega arith)
+
+  at-unruly : (made ≡ getD words k 0 → ⊥) → k ≡ lowestFrom words previous k
+  at-unruly e =
+      let word = getD words k 0 in
+      let lacks = ne-eqb (wordOf (lastBit previous) (candidate word)) word (λ q. e (word-is-made ∙ q)) in
+      let here : lowest passed (unrulyFrom (lastBit previous) (drop k words)) ≡ 0 =
+      ap (λ (l : List ℕ). lowest passed (unrulyFrom (lastBit previous) l)) (drop-cons words k 0 h)
+      ∙ lowest-is-unruly (lastBit previous) (last-bit-is-data previous) word (drop (suc k) words) lacks in
+      omega arith
+
+at-end : (words : List ℕ) (previous k : ℕ) → length words ≤ k → k ≡ lowestFrom words previous k
+unfolding unrulyFrom lowest
+at-end words previous k h = rw (drop-of-length-le words h) (sym (add-zero k))
+
+abbrev Inv-loop : tie.InvT-loop
+Inv-loop words table previous₀ k₀ previous k =
+    (k ≤ length words) × (lowestFrom words previous k ≡ lowest passed (unrulyIn words))
+
+abbrev μ-loop : tie.MeasureT-loop
+μ-loop words table previous₀ k₀ previous k = length words - k
+
+code-words-requires : tie.Need-code-words-requires Inv-loop μ-loop
+code-words-requires c κs = search needs
+
+loop-holds : tie.Need-loop-holds Inv-loop μ-loop
+unfolding unrulyIn lastBit
+loop-holds c = (omega arith, zero-add _)
+
+mul-word : tie.Need-mul-word Inv-loop μ-loop
+mul-word c = omega arith
+
+shared-slice-read-word : tie.Need-shared-slice-read-word Inv-loop μ-loop
+shared-slice-read-word c = omega arith
+
+byte-of-requires : tie.Need-byte-of-requires Inv-loop μ-loop
+byte-of-requires c κs = search needs
+
+word-of-requires : tie.Need-word-of-requires Inv-loop μ-loop
+word-of-requires c κs = c .before .before .before .before .before .code-words .ensures
+
+add-k : tie.Need-add-k Inv-loop μ-loop
+add-k c = omega arith
+
+loop-less : tie.Need-loop-less Inv-loop μ-loop
+loop-less c = omega arith
+
+loop-again : tie.Need-loop-again Inv-loop μ-loop
+loop-again c =
+    let head = c .before .before .before .before .before .before .loop in
+    let words = now (c .before .before .before .before .before .before .before .before .before .args .words) in (
+      omega arith,
+      after-ruly words (head .previous) (head .k) _ _ (c .before .before .before .before .before .loop-test .taken)
+          (c .before .before .before .byte-of .ensures) (c .before .word-of .ensures) (c .if1 .taken)
+          ∙ head .inv .1,
+    )
+
+returns : tie.Need-returns Inv-loop μ-loop
+returns c =
+    let head = c .before .before .before .before .before .before .loop in
+    let words = now (c .before .before .before .before .before .before .before .before .before .args .words) in
+    at-unruly words (head .previous) (head .k) _ _ (c .before .before .before .before .before .loop-test .taken)
+    (c .before .before .before .byte-of .ensures) (c .before .word-of .ensures) (c .if1 .left)
+    ∙ head .inv .1
+
+returns-2 : tie.Need-returns-2 Inv-loop μ-loop
+returns-2 c =
+    let head = c .before .loop in
+    at-end (now (c .before .before .before .before .args .words)) (head .previous) (head .k) (c .loop-test .left)
+    ∙ head .inv .1
+
+pub find-unruly-spec : {M : Type 1} → statement M
+find-unruly-spec =
+    tie.close
+    (tie.spec
+    Inv-loop
+    μ-loop
+    code-words-requires
+    loop-holds
+    mul-word
+    shared-slice-read-word
+    byte-of-requires
+    word-of-requires
+    add-k
+    loop-less
+    loop-again
+    returns
+    returns-2)

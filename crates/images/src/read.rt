@@ -1,0 +1,90 @@
+// Reading an image: the words are checked whole before the first item is stored.
+ghost use Prim.Native.Nat.{_≤_};
+ghost use mathlib.Core.Path.{_≡_};
+ghost use mathlib.Core.List.{map};
+ghost use lib.ListN.{length};
+ghost use Rattle.lists.specs.Place.{lowest, passed};
+ghost use Rattle.lists.specs.Filled.{filled};
+ghost use Rattle.refusal.specs.Answer.{verdictAnswer, countedAnswer};
+ghost use Rattle.images.specs.Image.{unrulyIn};
+ghost use Rattle.images.specs.Rules.{wordsRule, readRule, readOutput};
+ghost use Rattle.images.specs.Candidate.{candidate};
+use crate::table::code_words;
+use crate::words::byte_of;
+use crate::words::word_of;
+use refusal::Counted;
+use refusal::Refusal;
+use refusal::Verdict;
+
+// The most words that an image may have.
+const MAX_WORDS: usize = 6400;
+
+// The place of the lowest word that its candidate does not have after the byte before; the length where there is none.
+fn find_unruly(words: &[u16]) -> usize
+    ensures { λ r. ⌜ r ≡ lowest passed (unrulyIn (now (words .entry))) ⌝ }
+{
+    let table = code_words();
+    let mut previous: u16 = 0;
+    let mut k: usize = 0;
+    while k < words.len() {
+        let word = words[k];
+        let byte = byte_of(word);
+        if word_of(&table, previous, byte) == word {
+            previous = byte;
+            k += 1;
+        } else {
+            return k;
+        }
+    }
+    k
+}
+
+// Whether the words are an image: 4, then 16.
+fn check_words(words: &[u16]) -> Verdict
+    ensures { λ r. ⌜ verdictAnswer r ≡ wordsRule (now (words .entry)) ⌝ }
+{
+    if MAX_WORDS < words.len() {
+        return Verdict::Refused(Refusal::TooLong);
+    }
+    let k = find_unruly(words);
+    if k < words.len() {
+        return Verdict::Refused(Refusal::UnrulyWord(k as u32));
+    }
+    Verdict::Accepted
+}
+
+// The candidates of words, from the front of the output on.
+fn store_bytes(words: &[u16], out: &mut [u16])
+    requires { ⌜ length (now words) ≤ length (now out) ⌝ }
+    ensures { λ _. ⌜ now (out .exit) ≡ filled (map candidate (now (words .entry))) (now (out .entry)) ⌝ }
+{
+    let mut k: usize = 0;
+    while k < words.len() {
+        out[k] = byte_of(words[k]);
+        k += 1;
+    }
+}
+
+// An image: 9, or its items.
+fn read_words(words: &[u16], out: &mut [u16]) -> Counted
+    requires { ⌜ wordsRule (now words) .number ≡ 0 ⌝ }
+    ensures answer { λ r. ⌜ countedAnswer r ≡ readRule (now (words .entry)) (length (now (out .entry))) ⌝ }
+    ensures output { λ _. ⌜ now (out .exit) ≡ readOutput (now (words .entry)) (now (out .entry)) ⌝ }
+{
+    if out.len() < words.len() {
+        return Counted::Refused(Refusal::OutputTooShort);
+    }
+    store_bytes(words, out);
+    Counted::Count(words.len())
+}
+
+// An image as items: 4, 16, 9, or the number of items stored.
+pub fn read_image(words: &[u16], out: &mut [u16]) -> Counted
+    ensures answer { λ r. ⌜ countedAnswer r ≡ readRule (now (words .entry)) (length (now (out .entry))) ⌝ }
+    ensures output { λ _. ⌜ now (out .exit) ≡ readOutput (now (words .entry)) (now (out .entry)) ⌝ }
+{
+    match check_words(words) {
+        Verdict::Refused(refusal) => Counted::Refused(refusal),
+        Verdict::Accepted => read_words(words, out),
+    }
+}

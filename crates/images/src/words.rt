@@ -1,0 +1,49 @@
+// One code word: that of a byte, and the byte of it.
+ghost use mathlib.Core.Path.{_≡_};
+ghost use Rattle.images.specs.Words.{wordOf, lastBit, codeWords};
+ghost use Rattle.images.specs.Candidate.{dataBits, candidate};
+
+const MARK_A1: u16 = 0x1a1;
+
+const MARK_C2: u16 = 0x1c2;
+
+const WORD_A1: u16 = 0x4489;
+
+const WORD_C2: u16 = 0x5224;
+
+// The word of a written byte after the byte before, whose last bit is the previous bit.
+pub fn word_of(table: &[u16; 512], previous: u16, byte: u16) -> u16
+    requires { ⌜ now table ≡ codeWords ⌝ }
+    ensures { λ r. ⌜ r ≡ wordOf (lastBit previous) byte ⌝ }
+{
+    if byte == MARK_A1 {
+        return WORD_A1;
+    }
+    if byte == MARK_C2 {
+        return WORD_C2;
+    }
+    table[(previous % 2 * 256 + byte % 256) as usize]
+}
+
+// Every second bit of a word, moved together.
+fn data_bits(word: u16) -> u16
+    ensures { λ r. ⌜ r ≡ dataBits word ⌝ }
+{
+    let alone = word & 0x5555;
+    let pairs = (alone | (alone >> 1)) & 0x3333;
+    let fours = (pairs | (pairs >> 2)) & 0x0f0f;
+    (fours | (fours >> 4)) & 0x00ff
+}
+
+// The one byte that can have a word: whether it has it depends on the byte before.
+pub fn byte_of(word: u16) -> u16
+    ensures { λ r. ⌜ r ≡ candidate word ⌝ }
+{
+    if word == WORD_A1 {
+        return MARK_A1;
+    }
+    if word == WORD_C2 {
+        return MARK_C2;
+    }
+    data_bits(word)
+}

@@ -1,0 +1,25 @@
+-- Why `ism::image::ism_make_image` answers as the library does: it hands the arguments over and the answer back.
+-- Rests on no axiom.
+use mathlib.Core.Path.{ap, _∙_}
+use Rattle.ism.specs.Answers.{answerOf}
+use borrow.Author.Needs.{needs}
+use Rattle.ism.proofs.image.ism_make_image.Statement.{statement}
+use Rattle.ism.proofs.image.ism_make_image.Tie as tie
+
+make-image-requires : tie.Need-make-image-requires
+make-image-requires c κs = search needs
+
+answer-requires : tie.Need-answer-requires
+answer-requires c κs = search needs
+
+same-length : tie.Need-same-length
+same-length c = search needs
+
+returns : tie.Need-returns
+returns c =
+    let made = c .before .before .before .make-image .ensures in
+    (c .answer .ensures ∙ ap answerOf (made .0), made .1)
+
+pub ism-make-image-spec : {M : Type 1} → statement M
+ism-make-image-spec =
+    tie.close (tie.spec make-image-requires answer-requires same-length returns)
