@@ -1,5 +1,6 @@
 //! The groups of cases.
 
+pub mod bit_images;
 pub mod faults;
 pub mod fields;
 pub mod fifo;

@@ -53,6 +53,13 @@ fn library() {
     compare.group("every row of up to ten classes", 0x30, strips::every_short_stream);
     compare.group("damaged streams", 0x31, strips::damaged_streams);
     compare.group("random classes", 0x32, strips::random_classes);
+    compare.group("images: published words", 0x33, cases::bit_images::published);
+    compare.group("images: every word", 0x34, cases::bit_images::every_word);
+    compare.group("images: every item and pair", 0x35, cases::bit_images::every_item);
+    compare.group("images: limits", 0x36, cases::bit_images::limits);
+    compare.group("images: faults together", 0x37, cases::bit_images::faults);
+    compare.group("images: random", 0x38, cases::bit_images::random_images);
+    compare.group("images: cells", 0x39, cases::bit_images::cells);
     compare.group("moved within the margin", 0x40, margins::within_margin);
     compare.group("moved beyond the margin", 0x41, margins::beyond_margin);
     compare.group("finder", 0x50, fields::finder);
@@ -83,6 +90,8 @@ fn check_coverage(compare: &Compare) {
         ("ism_class", &[0, 1, 2]),
         ("ism_write", &[0, 1, 2, 4, 3, 9]),
         ("ism_read", &[0, 1, 2, 4, 5, 6, 7, 8, 9]),
+        ("ism_make_image", &[0, 4, 3, 9]),
+        ("ism_read_image", &[0, 4, 16, 9]),
         ("ism_find", &[0, 1, 2, 10]),
         ("ism_read_field", &[0, 1, 2, 12, 5, 6, 11, 8, 9]),
         ("ism_make_sector", &[0, 13, 9]),

@@ -5,6 +5,7 @@
 
 mod cells;
 pub mod fifo;
+pub mod image;
 mod items;
 mod profile;
 mod reading;
