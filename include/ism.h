@@ -153,7 +153,9 @@ ism_answer ism_read(ism_profile profile, const uint16_t *intervals, size_t n, ui
 
 /*
  * Finder: the first mark behind a sync field. A lock stands at place k if the 64 intervals before k are of class 2 and
- * those from k are of classes 3 4 3 4 3 (A1) or 3 2 3 4 3 (C2).
+ * those from k are of classes 3 4 3 4 3 (one A1 mark) or 3 2 3 4 3 4 2 3 4 3 (two C2 marks). In a stream that was
+ * written from data bytes and check orders alone no lock stands anywhere, nor where every interval of it is moved by at
+ * most the margin.
  *
  *   intervals, n  any number of intervals; narrow and wide ones break a run and are not refused
  *   start         all 64 must be at or after this place; any number

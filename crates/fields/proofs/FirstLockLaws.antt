@@ -8,14 +8,14 @@ use mathlib.Core.Logic.{⊎-elim}
 use native.Mathlib.Nat.{eq-or-lt-of-le, eq-zero-or-pos}
 use native.Mathlib.Omega.{arith}
 use lib.ListN.{length, drop}
-use Rattle.refusal.specs.Answer.{Answer, accepted}
+use Rattle.refusal.specs.Answer.{Answer, accepted, refused}
 use Rattle.refusal.proofs.AnswerLaws.{first-refusal-passes}
 use Rattle.timing.specs.Profile.{profileRule}
 use Rattle.timing.specs.Class.{classesOf}
 use Rattle.timing.specs.declared.Profile.{Profile}
 use Rattle.timing.specs.declared.Class.{Class}
 use Rattle.fields.specs.Lock.{lockAt, firstLock, lockFrom, searchRule, findRule}
-use Rattle.fields.proofs.FinderLaws.{lock-is-within, no-lock-past-end}
+use Rattle.fields.proofs.FinderLaws.{lock-is-within, no-lock-past-end, search-goes-on, search-ends-adrift}
 
 -- a lock stands at place t, and at none before it from place k on
 pub record FirstFrom (cs : List Class) (k t : ℕ) : Type 0 where
@@ -86,6 +86,11 @@ module _ (cs : List Class) where
 
   -- ---- what adrift means
 
+  pub adrift-without-lock : ((k : ℕ) → lockAt cs k ≡ false) → lockFrom cs 0 ≡ refused 10 0
+  adrift-without-lock none =
+      search-goes-on cs 0 (length cs) (omega arith) (λ j low high. none j)
+      ∙ sym (search-ends-adrift cs (length cs) (omega arith))
+
   none-here-or-later
       : (t : Bool) (k : ℕ) (later : Answer) (j : ℕ)
       → lockAt cs k ≡ t
@@ -130,3 +135,13 @@ pub first-lock-is-found
     → findRule p ds start ≡ accepted (start + k)
 unfolding findRule searchRule
 first-lock-is-found p ds start k accepts e = first-refusal-passes (profileRule p) _ accepts ∙ rw e
+
+-- 10 where none stands in the intervals from `start` on
+pub none-is-found
+    : (p : Profile) (ds : List ℕ) (start : ℕ)
+    → profileRule p .number ≡ 0
+    → ((k : ℕ) → lockAt (classesOf p (drop start ds)) k ≡ false)
+    → findRule p ds start ≡ refused 10 0
+unfolding findRule searchRule
+none-is-found p ds start accepts none =
+    first-refusal-passes (profileRule p) _ accepts ∙ rw (adrift-without-lock (classesOf p (drop start ds)) none)

@@ -1,5 +1,6 @@
 pub mod LockLaws
 pub mod FinderLaws
+pub mod MarkLaws
 pub mod RunLaws
 pub mod TakenLaws
 pub mod EnoughLaws

@@ -17,9 +17,9 @@ beginsWith [] cs = true
 beginsWith (q ∷ qs) [] = false
 beginsWith (q ∷ qs) (c ∷ cs) = eqb (classNumber c) q && beginsWith qs cs
 
--- the classes of a lock's mark: 3 4 3 4 3 (A1) or 3 2 3 4 3 (C2)
+-- the classes of a lock's marks: 3 4 3 4 3 (A1), or, by document 02, (ii), 3 2 3 4 3 4 2 3 4 3 (C2 and its second mark)
 unfoldable pub lockPatterns : List (List ℕ)
-lockPatterns = (3 ∷ 4 ∷ 3 ∷ 4 ∷ 3 ∷ []) ∷ (3 ∷ 2 ∷ 3 ∷ 4 ∷ 3 ∷ []) ∷ []
+lockPatterns = (3 ∷ 4 ∷ 3 ∷ 4 ∷ 3 ∷ []) ∷ (3 ∷ 2 ∷ 3 ∷ 4 ∷ 3 ∷ 4 ∷ 2 ∷ 3 ∷ 4 ∷ 3 ∷ []) ∷ []
 
 -- a lock's mark stands at the front of a list
 unfoldable pub markAhead : List Class → Bool

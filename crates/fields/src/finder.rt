@@ -12,10 +12,10 @@ use refusal::Verdict;
 use timing::Cursor;
 use timing::Profile;
 
-// The numbers of the classes of a lock's mark.
+// The numbers of the classes of a lock's marks: one A1, or two C2.
 const MARK_A1: [usize; 5] = [3, 4, 3, 4, 3];
 
-const MARK_C2: [usize; 5] = [3, 2, 3, 4, 3];
+const MARK_C2: [usize; 10] = [3, 2, 3, 4, 3, 4, 2, 3, 4, 3];
 
 // Whether the intervals have the classes of a pattern at their front.
 fn begins_with(start: Cursor, intervals: &[u16], pattern: &[usize]) -> bool

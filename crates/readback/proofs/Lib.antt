@@ -5,3 +5,6 @@ pub mod CellClasses
 pub mod CheckedField
 -- The law
 pub mod SectorReads
+-- No lock in data, and the page with every dot raised
+pub mod NoLockInData
+pub mod EveryDotRaised

@@ -1,1 +1,2 @@
 pub mod SectorReads
+pub mod NoLockInData

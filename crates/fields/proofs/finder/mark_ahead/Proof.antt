@@ -1,11 +1,27 @@
 -- Why `fields::finder::mark_ahead` answers `markAhead`: it tries the patterns in their order. Rests on no axiom.
-use mathlib.Core.Path.{sym, _∙_}
-use mathlib.Core.Bool.{or-false}
+use Prim.Native.Nat.{ℕ}
+use mathlib.Core.Path.{_≡_, sym, _∙_}
+use mathlib.Core.Bool.{Bool, true, false, or-false}
+use mathlib.Core.List.{List, [], _∷_}
 use borrow.Author.Needs.{needs}
 use Rattle.lists.specs.Place.{anywhere}
-use Rattle.fields.specs.Lock.{lockPatterns, markAhead}
+use Rattle.timing.specs.declared.Class.{Class}
+use Rattle.fields.specs.Lock.{beginsWith, lockPatterns, markAhead}
 use Rattle.fields.proofs.finder.mark_ahead.Statement.{statement}
 use Rattle.fields.proofs.finder.mark_ahead.Tie as tie
+
+-- the first pattern is there, or it is not and the second decides
+module _ (cs : List Class) (first : List ℕ) where
+  abbrev ahead : List (List ℕ) → Bool
+  ahead patterns = anywhere (λ (q : List ℕ). beginsWith q cs) patterns
+
+  first-is-ahead : (others : List (List ℕ)) → beginsWith first cs ≡ true → true ≡ ahead (first ∷ others)
+  unfolding anywhere
+  first-is-ahead others e = rw e
+
+  second-decides : (second : List ℕ) → beginsWith first cs ≡ false → beginsWith second cs ≡ ahead (first ∷ second ∷ [])
+  unfolding anywhere
+  second-decides second e = rw e (sym (or-false (beginsWith second cs)))
 
 slice-aggregate-begins-with : tie.Need-slice-aggregate-begins-with
 slice-aggregate-begins-with c = search needs
@@ -14,8 +30,8 @@ begins-with-requires : tie.Need-begins-with-requires
 begins-with-requires c κs = search needs
 
 returns : tie.Need-returns
-unfolding markAhead lockPatterns anywhere
-returns c = rw (sym (c .before .begins-with .ensures) ∙ c .if1 .taken)
+unfolding markAhead lockPatterns
+returns c = first-is-ahead _ _ _ (sym (c .before .begins-with .ensures) ∙ c .if1 .taken)
 
 slice-aggregate-begins-with-2 : tie.Need-slice-aggregate-begins-with-2
 slice-aggregate-begins-with-2 c = search needs
@@ -24,10 +40,10 @@ begins-with-requires-2 : tie.Need-begins-with-requires-2
 begins-with-requires-2 c κs = search needs
 
 returns-2 : tie.Need-returns-2
-unfolding markAhead lockPatterns anywhere
+unfolding markAhead lockPatterns
 returns-2 c =
-    rw (sym (c .before .before .before .begins-with .ensures) ∙ c .before .before .if1 .left)
-    (c .begins-with2 .ensures ∙ sym (or-false _))
+    c .begins-with2 .ensures
+    ∙ second-decides _ _ _ (sym (c .before .before .before .begins-with .ensures) ∙ c .before .before .if1 .left)
 
 pub mark-ahead-spec : {M : Type 1} → statement M
 mark-ahead-spec =

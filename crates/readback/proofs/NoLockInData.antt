@@ -1,0 +1,152 @@
+-- Why no lock stands in data: a pattern of either mark reads a mark's missing clock whichever bit was last known, and
+-- what is written from data bytes alone reads back without one, since the letters of a data byte have no gap. Rests on
+-- no axiom.
+use Prim.Native.Nat.{ℕ, _/_, _%_, _<_}
+use mathlib.Core.Path.{_≡_, refl, ap, _∙_}
+use mathlib.Core.Bool.{Bool, true, false, cond}
+use mathlib.Core.List.{List, [], _∷_, map}
+use mathlib.Core.Logic.{⊎-elim}
+use native.Mathlib.Omega.{arith}
+use lib.Dec.{eqb}
+use lib.ListN.{drop}
+use Rattle.lists.specs.Place.{anywhere}
+use Rattle.lists.proofs.PlaceLaws.{anywhere-of-none, anywhere-of-append, nowhere-fails-at-first, nowhere-in-rest}
+use Rattle.timing.specs.Class.{classesOf}
+use Rattle.timing.specs.declared.Profile.{Profile}
+use Rattle.timing.specs.declared.Class.{Class}
+use Rattle.timing.proofs.ClassLaws.{classes-of-drop}
+use Rattle.timing.proofs.ProfileLaws.{kept}
+use Rattle.items.specs.Item.{isMark}
+use Rattle.items.specs.Register.{highByte, lowByte}
+use Rattle.items.specs.Written.{freshCheck, itemBytes, afterItem, writtenFrom, written}
+use Rattle.items.specs.declared.Check.{Check}
+use Rattle.items.proofs.ItemLaws.{check-or-not, data-is-no-mark}
+use Rattle.items.proofs.CheckLaws.{fresh-bound, after-item-bound, high-byte-bound, low-byte-bound}
+use Rattle.items.proofs.WrittenLaws.{item-bytes-of-check, item-bytes-of-byte, written-from-none, written-from-item}
+use Rattle.symbols.specs.Bits.{O, I, byteBits, writtenBits, allBits}
+use Rattle.symbols.specs.Bytes.{isGap}
+use Rattle.symbols.specs.Reading.{readBits}
+use Rattle.intervals.proofs.CellLaws.{classOfCell}
+use Rattle.lengths.specs.Stream.{streamOf}
+use Rattle.lengths.proofs.StreamLaws.{length-fits}
+use Rattle.fields.specs.Lock.{lockAt}
+use Rattle.fields.proofs.MarkLaws.{no-lock-without-gap}
+use Rattle.fields.proofs.FirstLockLaws.{none-is-found}
+use Rattle.demands.specs.Streams.{AcceptedProfile, Moved}
+use Rattle.demands.specs.Demand3.{stated}
+use Rattle.demands.proofs.Demand3.{moved-has-classes}
+use Rattle.readback.specs.NoLockInData.{NoLock, DataAlone, NoLockInData}
+use Rattle.readback.proofs.CellClasses.{cells, cells-bits, cells-classes}
+
+-- ---- the letters of data bytes
+
+letter-is-no-gap : (t : Bool) → isGap (cond t I O) ≡ false
+letter-is-no-gap true = refl
+letter-is-no-gap false = refl
+
+data-bits-have-no-gap : (w : ℕ) → isMark w ≡ false → anywhere isGap (writtenBits w) ≡ false
+unfolding anywhere writtenBits byteBits
+data-bits-have-no-gap w e =
+    rw (
+      e,
+      letter-is-no-gap (eqb (w / 128 % 2) 1),
+      letter-is-no-gap (eqb (w / 64 % 2) 1),
+      letter-is-no-gap (eqb (w / 32 % 2) 1),
+      letter-is-no-gap (eqb (w / 16 % 2) 1),
+      letter-is-no-gap (eqb (w / 8 % 2) 1),
+      letter-is-no-gap (eqb (w / 4 % 2) 1),
+      letter-is-no-gap (eqb (w / 2 % 2) 1),
+      letter-is-no-gap (eqb (w / 1 % 2) 1),
+    )
+
+all-bits-have-no-gap : (ws : List ℕ) → anywhere isMark ws ≡ false → anywhere isGap (allBits ws) ≡ false
+unfolding allBits
+all-bits-have-no-gap [] e = anywhere-of-none isGap
+all-bits-have-no-gap (w ∷ ws) e =
+    anywhere-of-append isGap (writtenBits w) (allBits ws)
+    ∙ rw (
+      data-bits-have-no-gap w (nowhere-fails-at-first isMark w ws e),
+      all-bits-have-no-gap ws (nowhere-in-rest isMark w ws e),
+    )
+
+data-is-read-without-gap : (ws : List ℕ) → anywhere isMark ws ≡ false → anywhere isGap (readBits (cells ws)) ≡ false
+unfolding anywhere
+data-is-read-without-gap ws e =
+    ap (anywhere isGap) (cells-bits ws)
+    ∙ anywhere-of-append isGap (allBits ws) (O ∷ [])
+    ∙ rw (all-bits-have-no-gap ws e)
+
+-- ---- the written bytes of data
+
+no-mark-in-item
+    : (c : Check) (n : ℕ) → c .register < 0x10000 → isMark n ≡ false → anywhere isMark (itemBytes c n) ≡ false
+unfolding anywhere
+no-mark-in-item c n bound e =
+    ⊎-elim
+    (λ check.
+    let r : ℕ = c .register in
+    ap (anywhere isMark) (item-bytes-of-check c n check)
+    ∙ rw (data-is-no-mark (highByte r) (high-byte-bound r bound), data-is-no-mark (lowByte r) (low-byte-bound r)))
+    (λ other. ap (anywhere isMark) (item-bytes-of-byte c n other) ∙ rw e)
+    (check-or-not n)
+
+no-mark-from
+    : (c : Check) (ns : List ℕ)
+    → c .register < 0x10000
+    → anywhere isMark ns ≡ false
+    → anywhere isMark (writtenFrom c ns) ≡ false
+no-mark-from c [] bound e = ap (anywhere isMark) (written-from-none c) ∙ anywhere-of-none isMark
+no-mark-from c (n ∷ ns) bound e =
+    ap (anywhere isMark) (written-from-item c n ns)
+    ∙ anywhere-of-append isMark (itemBytes c n) (writtenFrom (afterItem c n) ns)
+    ∙ rw (
+      no-mark-in-item c n bound (nowhere-fails-at-first isMark n ns e),
+      no-mark-from (afterItem c n) ns (after-item-bound c n bound) (nowhere-in-rest isMark n ns e),
+    )
+
+written-has-no-mark : (ns : List ℕ) → anywhere isMark ns ≡ false → anywhere isMark (written ns) ≡ false
+unfolding written
+written-has-no-mark ns e = no-mark-from freshCheck ns fresh-bound e
+
+-- ---- their intervals
+
+module _ (p : Profile) (accepts : AcceptedProfile p) (items : List ℕ) (data-alone : DataAlone items) where
+  module _ (changed : List ℕ) (moved : Moved (stated p) (streamOf p items) changed) where
+    classes-are : classesOf p changed ≡ map classOfCell (cells (written items))
+    classes-are = moved-has-classes p accepts items changed moved ∙ cells-classes (written items)
+
+    -- that a search from the middle has the classes of the whole rests on edges that are the same for each interval
+    none-stands : (start k : ℕ) → lockAt (classesOf p (drop start changed)) k ≡ false
+    unfolding readBits
+    none-stands start k =
+        ap (λ (cs : List Class). lockAt cs k)
+        (classes-of-drop p start changed ∙ ap (λ (cs : List Class). drop start cs) classes-are)
+        ∙ no-lock-without-gap O (cells (written items))
+        (data-is-read-without-gap (written items) (written-has-no-mark items (data-alone .no-marks)))
+        start
+        k
+
+    moved-has-no-lock : NoLock p changed
+    moved-has-no-lock =
+        record {
+          none-stands = none-stands;
+          adrift = λ start. none-is-found p changed start accepts (none-stands start);
+        }
+
+  unmoved : Moved (stated p) (streamOf p items) (streamOf p items)
+  unfolding streamOf
+  unmoved =
+      record {
+        as-many = refl;
+        sixteen-bits = length-fits (kept p accepts) (written items);
+        no-longer = λ k h. omega arith;
+        no-shorter = λ k h. omega arith;
+      }
+
+  written-has-no-lock
+      : NoLock p (streamOf p items)
+      × ((changed : List ℕ) → Moved (stated p) (streamOf p items) changed → NoLock p changed)
+  written-has-no-lock = (moved-has-no-lock (streamOf p items) unmoved, moved-has-no-lock)
+
+pub no-lock-in-data : NoLockInData
+no-lock-in-data = written-has-no-lock
