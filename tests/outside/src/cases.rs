@@ -5,6 +5,7 @@ pub mod faults;
 pub mod fields;
 pub mod fifo;
 pub mod limits;
+pub mod locks;
 pub mod margins;
 pub mod profiles;
 pub mod sectors;

@@ -65,6 +65,11 @@ fn library() {
     compare.group("finder", 0x50, fields::finder);
     compare.group("tracks", 0x51, fields::tracks);
     compare.group("fields", 0x52, fields::fields);
+    compare.group("locks: page of raised dots", 0x53, cases::locks::full_page);
+    compare.group("locks: sector of raised dots", 0x54, cases::locks::full_sector);
+    compare.group("locks: every end of a run", 0x55, cases::locks::every_tail);
+    compare.group("locks: data alone", 0x56, cases::locks::data_alone);
+    compare.group("locks: marks", 0x57, cases::locks::marks);
     compare.group("every length code", 0x60, sectors::every_code);
     compare.group("sectors there and back", 0x61, sectors::there_and_back);
     compare.group("sectors within the margin", 0x62, sectors::found_within_margin);

@@ -1,7 +1,7 @@
 //! Inputs with every combination of faults at once: the paper's order says which is answered.
 
 use crate::compare::Compare;
-use crate::paper::{classes, stream_of, written_count, Nine, CHECK_ORDER, MOST_BYTES, MOST_INTERVALS};
+use crate::paper::{classes, stream_of, written_count, Nine, CHECK_ORDER, LOCK_ENDS, MOST_BYTES, MOST_INTERVALS};
 use crate::random::Random;
 
 /// A choice among the faults of a function, one bit for each.
@@ -145,7 +145,7 @@ pub fn finder(compare: &mut Compare, random: &mut Random) {
             let nine = profile_with(faults, random);
             let building = building_profile(&nine, random);
             let sync = if faults.has(ADRIFT) { 63 } else { 64 };
-            let letters = "4".to_string() + &"2".repeat(sync) + random.pick(&["34343", "32343"]);
+            let letters = "4".to_string() + &"2".repeat(sync) + random.pick(&LOCK_ENDS);
             let intervals = random.intervals(&building, &letters);
             compare.find(&nine, &intervals, random.between(0, 1));
         }

@@ -2,7 +2,7 @@
 
 use super::strips::damage;
 use crate::compare::Compare;
-use crate::paper::{stream_of, written_count, Nine, CHECK_ORDER};
+use crate::paper::{stream_of, written_count, Nine, CHECK_ORDER, LOCK_ENDS};
 use crate::random::Random;
 
 /// Tracks with sync runs about 64 long, locks whole and broken, and starts about them.
@@ -20,7 +20,10 @@ pub fn finder(compare: &mut Compare, random: &mut Random) {
 }
 
 fn track_letters(random: &mut Random) -> String {
-    let marks = ["34343", "32343", "3434", "34342", "3234", "32342", "34323", "43434", "3n343", "3434w", "33343", ""];
+    let a1 = ["34343", "34343", "3434", "34342", "34323", "43434", "3n343", "3434w", "33343", ""];
+    let c2 = ["3234342343", "3234342343", "323434234", "32343423", "3234342342", "3234342333", "3234342443"];
+    let half = ["32343", "3234", "32342", "3234332343", "3234343434", "3234332", "323434234w", "n234342343"];
+    let marks = [a1.as_slice(), &c2, &half].concat();
     let mut letters = String::new();
     for _ in 0..random.between(0, 4) {
         let noise = random.between(0, 6);
@@ -33,7 +36,7 @@ fn track_letters(random: &mut Random) -> String {
 
 fn start_about(letters: &str, random: &mut Random) -> u64 {
     let length = letters.len() as u64;
-    let sync_end = letters.find("34343").or(letters.find("32343")).unwrap_or(0) as u64;
+    let sync_end = LOCK_ENDS.iter().find_map(|end| letters.find(end)).unwrap_or(0) as u64;
     match random.between(0, 9) {
         0..=3 => 0,
         4 => sync_end.saturating_sub(64),

@@ -2,7 +2,7 @@
 
 use super::WORKED;
 use crate::compare::Compare;
-use crate::paper::{stream_of, written_count, CHECK_ORDER, MOST_BYTES, MOST_INTERVALS};
+use crate::paper::{stream_of, written_count, CHECK_ORDER, LOCK_ENDS, MOST_BYTES, MOST_INTERVALS};
 use crate::random::Random;
 
 /// Lists about 6,400 items and written bytes.
@@ -86,18 +86,21 @@ pub fn field(compare: &mut Compare, random: &mut Random) {
 
 /// Long tracks with the lock at the very front, at the very end, cut off by one, and none.
 pub fn finder(compare: &mut Compare, random: &mut Random) {
-    let lock = "2".repeat(64) + "34343";
-    let gap = "3".repeat(100_000);
-    let huge = [100_000, 100_001, 99_999, 100_069, 100_070, 1 << 32, (1 << 32) + 100_000, u64::MAX - 63, u64::MAX];
-    for letters in [lock.clone(), lock.clone() + &gap, gap.clone() + &lock, gap.clone(), gap.clone() + &lock[..68]] {
-        let intervals = random.intervals(&WORKED, &letters);
-        for start in [0, 1, 2].into_iter().chain(huge) {
-            compare.find(&WORKED, &intervals, start);
+    for end in LOCK_ENDS {
+        let lock = "2".repeat(64) + end;
+        let cut = &lock[..lock.len() - 1];
+        let gap = "3".repeat(100_000);
+        let huge = [100_000, 100_001, 99_999, 100_069, 100_070, 1 << 32, (1 << 32) + 100_000, u64::MAX - 63, u64::MAX];
+        for letters in [lock.clone(), lock.clone() + &gap, gap.clone() + &lock, gap.clone(), gap.clone() + cut] {
+            let intervals = random.intervals(&WORKED, &letters);
+            for start in [0, 1, 2].into_iter().chain(huge) {
+                compare.find(&WORKED, &intervals, start);
+            }
         }
-    }
-    for length in 60..75 {
-        let intervals = random.intervals(&WORKED, &(lock.clone() + &lock)[..length]);
-        compare.find(&WORKED, &intervals, 0);
+        for length in 60..80 {
+            let intervals = random.intervals(&WORKED, &(lock.clone() + &lock)[..length]);
+            compare.find(&WORKED, &intervals, 0);
+        }
     }
 }
 

@@ -86,6 +86,9 @@ pub fn read(nine: &Nine, intervals: &[u16], room: usize) -> Result<Vec<u16>, Ref
     fit(items_of(&reading.bytes(n)?), room)
 }
 
+/// The classes behind the 64 of a lock: those of a mark A1, or those of two marks C2 (request (ii)).
+pub const LOCK_ENDS: [&str; 2] = ["34343", "3234342343"];
+
 /// The finder, by looking at every place.
 pub fn find(nine: &Nine, intervals: &[u16], start: u64) -> Result<u64, Refused> {
     check_profile(nine)?;
@@ -93,7 +96,7 @@ pub fn find(nine: &Nine, intervals: &[u16], start: u64) -> Result<u64, Refused> 
     let sync = "2".repeat(64);
     let lock_at = |k: usize| {
         let behind = &letters[k..];
-        letters[..k].ends_with(&sync) && (behind.starts_with("34343") || behind.starts_with("32343"))
+        letters[..k].ends_with(&sync) && LOCK_ENDS.iter().any(|end| behind.starts_with(end))
     };
     let places = (64..letters.len()).filter(|k| *k as u64 - 64 >= start);
     match places.into_iter().find(|k| lock_at(*k)) {
