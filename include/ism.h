@@ -3,8 +3,8 @@
  *
  * The library turns data bytes, mark bytes and check orders into the intervals between flux transitions, with write
  * precompensation, and turns measured intervals back into bytes. It also finds the address mark behind a sync field,
- * reads one field, makes the items of one sector, exchanges bit images with drive emulators and models the chip's
- * two-item FIFO with its error register.
+ * reads one field, makes the items of one sector, merges the sectors of two passes over a track, exchanges bit images
+ * with drive emulators and models the chip's two-item FIFO with its error register.
  *
  * Common to all functions
  *
@@ -59,12 +59,19 @@ extern "C" {
 #define ISM_MISCOUNT 12u /* n outside 1 to 1,030 */
 #define ISM_MISFIT 13u   /* length code above 3, or data not that long */
 #define ISM_GARBLED 14u  /* only from the strip program: garbled input; place: lowest faulty line, 0 if too long */
+#define ISM_CROWDED 15u  /* more than 32 sectors */
 #define ISM_UNRULY 16u   /* a word that no item has after its previous bit; place: the lowest such word */
+#define ISM_AT_ODDS 17u  /* a sector number twice in a set, or two good copies unlike; place: the lowest such number */
 
-/* Limits. ISM_MAX_INTERVALS intervals always hold the stream of ISM_MAX_BYTES written bytes. */
+/*
+ * Limits. ISM_MAX_INTERVALS intervals always hold the stream of ISM_MAX_BYTES written bytes, and ISM_MAX_SET_BYTES
+ * bytes a set of ISM_MAX_SECTORS sectors.
+ */
 #define ISM_MAX_BYTES 6400u
 #define ISM_MAX_INTERVALS 51202u
 #define ISM_MAX_FIELD_BYTES 1030u
+#define ISM_MAX_SECTORS 32u
+#define ISM_MAX_SET_BYTES 32864u
 
 /*
  * Items: 0 to 255 is a data byte, ISM_MARK_A1 and ISM_MARK_C2 are the two mark bytes, ISM_CHECK is a check order. No
@@ -226,6 +233,33 @@ ism_answer ism_make_image(const uint16_t *items, size_t n, uint16_t *words, size
  * Check bytes come back as the two data bytes they are.
  */
 ism_answer ism_read_image(const uint16_t *words, size_t n, uint16_t *items, size_t room);
+
+/*
+ * Merge: the sectors that two passes over one track read. A set of sectors is one list of bytes, its sectors one after
+ * the other with nothing between them:
+ *
+ *     +--------+------+------+- - - - - - - -+--------+------+------+- - - - - - - -+
+ *     | number | code | good |     data      | number | code | good |     data      |  ...
+ *     +--------+------+------+- - - - - - - -+--------+------+------+- - - - - - - -+
+ *       byte 0     1      2    3 to 2 + size
+ *
+ *   number  the sector number
+ *   code    length code: 0, 1, 2, 3 for a size of 128, 256, 512, 1,024 data bytes
+ *   good    0 if the sector's sum fails, any other number if it holds; the result has 0 or 1
+ *
+ * A number in one set only is taken from it. In both, the copy whose sum holds is taken; if neither holds, the first
+ * set's; if both hold they must agree. The result is a set by ascending sector number.
+ *
+ *   first, n   the set that the first pass read; 0 bytes are the empty set
+ *   second, m  the second pass's
+ *   out, room  the merged set; ISM_MAX_SET_BYTES is always room enough, and so is n + m
+ *   count      sectors in the merged set
+ *   used       its bytes
+ *   refusals   ISM_MISFIT (a code above 3, or a list that ends within a sector, in either set, looked for to its end),
+ *              ISM_CROWDED (more than 32 sectors in a set, or different numbers in both together), ISM_AT_ODDS (a
+ *              number twice in one set, or in both with both sums good and another code or other data), ISM_FULL
+ */
+ism_answer ism_merge(const uint8_t *first, size_t n, const uint8_t *second, size_t m, uint8_t *out, size_t room);
 
 /*
  * The FIFO of two items and the error register, first in first out. Each operation takes a state and hands back the

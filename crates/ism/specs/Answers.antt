@@ -4,6 +4,7 @@ use mathlib.Core.Bool.{Bool, true, false}
 use mathlib.Core.List.{List, [], _∷_}
 use Rattle.refusal.specs.Answer.{Answer}
 use Rattle.fields.specs.FieldRule.{FieldAnswer}
+use Rattle.merge.specs.Rule.{MergeAnswer}
 use Rattle.timing.specs.Numbers.{fromNumbers}
 use Rattle.timing.specs.declared.Profile.{Profile}
 use Rattle.ism.specs.declared.IsmProfile.{IsmProfile}
@@ -35,4 +36,15 @@ fieldAnswerOf f =
       count = f .answer .count;
       used = f .used;
       holds = asNumber (f .holds);
+    }
+
+-- the merge's, with the bytes stored
+abbrev pub givenMerge : MergeAnswer → IsmAnswer
+givenMerge m =
+    record {
+      number = m .answer .number;
+      place = m .answer .place;
+      count = m .answer .count;
+      used = m .stored;
+      holds = 0;
     }

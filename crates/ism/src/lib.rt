@@ -13,6 +13,7 @@ use timing::Profile;
 
 pub mod disk;
 pub mod image;
+pub mod passes;
 pub mod queue;
 
 #[repr(C)]

@@ -16,7 +16,7 @@ use Rattle.refusal.specs.declared.Refusal.the-variants.{ProfileOutOfRang
 use Rattle.refusal.specs.declared.Refusal.the-variants.{TooLong, IntervalTooShort, IntervalTooLong}
 use Rattle.refusal.specs.declared.Refusal.the-variants.{NotWholeBytes, MisplacedMark, OutputTooShort, NoLock}
 use Rattle.refusal.specs.declared.Refusal.the-variants.{EndsEarly, CountOutOfRange, SectorSizeMismatch}
-use Rattle.refusal.specs.declared.Refusal.the-variants.{MalformedInput, UnrulyWord}
+use Rattle.refusal.specs.declared.Refusal.the-variants.{MalformedInput, TooManySectors, UnrulyWord, SectorsAtOdds}
 use Rattle.refusal.specs.declared.Verdict.{Verdict}
 use Rattle.refusal.specs.declared.Verdict.the-variants.{Accepted, Refused}
 
@@ -35,7 +35,9 @@ number-is-not-zero EndsEarly = refl
 number-is-not-zero CountOutOfRange = refl
 number-is-not-zero SectorSizeMismatch = refl
 number-is-not-zero (MalformedInput line) = refl
+number-is-not-zero TooManySectors = refl
 number-is-not-zero (UnrulyWord at) = refl
+number-is-not-zero (SectorsAtOdds sector) = refl
 
 -- a rule that was found to refuse decides; the later tests are not asked
 pub refusal-decides

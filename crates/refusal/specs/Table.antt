@@ -5,7 +5,7 @@ use Rattle.refusal.specs.declared.Refusal.the-variants.{ProfileOutOfRang
 use Rattle.refusal.specs.declared.Refusal.the-variants.{TooLong, IntervalTooShort, IntervalTooLong}
 use Rattle.refusal.specs.declared.Refusal.the-variants.{NotWholeBytes, MisplacedMark, OutputTooShort, NoLock}
 use Rattle.refusal.specs.declared.Refusal.the-variants.{EndsEarly, CountOutOfRange, SectorSizeMismatch}
-use Rattle.refusal.specs.declared.Refusal.the-variants.{MalformedInput, UnrulyWord}
+use Rattle.refusal.specs.declared.Refusal.the-variants.{MalformedInput, TooManySectors, UnrulyWord, SectorsAtOdds}
 
 -- the column "No."
 abbrev pub numberOf : Refusal → ℕ
@@ -23,7 +23,9 @@ numberOf EndsEarly = 11
 numberOf CountOutOfRange = 12
 numberOf SectorSizeMismatch = 13
 numberOf (MalformedInput line) = 14
+numberOf TooManySectors = 15
 numberOf (UnrulyWord at) = 16
+numberOf (SectorsAtOdds sector) = 17
 
 -- the column "Place given"
 abbrev pub placeOf : Refusal → ℕ
@@ -41,4 +43,6 @@ placeOf EndsEarly = 0
 placeOf CountOutOfRange = 0
 placeOf SectorSizeMismatch = 0
 placeOf (MalformedInput line) = line
+placeOf TooManySectors = 0
 placeOf (UnrulyWord at) = at
+placeOf (SectorsAtOdds sector) = sector

@@ -31,8 +31,12 @@ pub enum Refusal {
     SectorSizeMismatch,
     // 14, garbled: which line, from 1; 0 where the input is too long
     MalformedInput(u32),
+    // 15, crowded
+    TooManySectors,
     // 16, unruly: which word of an image, from 0
     UnrulyWord(u32),
+    // 17, at odds: which sector number
+    SectorsAtOdds(u32),
 }
 
 // What a test answers that gives no value.
@@ -67,7 +71,9 @@ impl Refusal {
             Refusal::CountOutOfRange => 12,
             Refusal::SectorSizeMismatch => 13,
             Refusal::MalformedInput(_) => 14,
+            Refusal::TooManySectors => 15,
             Refusal::UnrulyWord(_) => 16,
+            Refusal::SectorsAtOdds(_) => 17,
         }
     }
 
@@ -90,7 +96,9 @@ impl Refusal {
             Refusal::CountOutOfRange => 0,
             Refusal::SectorSizeMismatch => 0,
             Refusal::MalformedInput(line) => line,
+            Refusal::TooManySectors => 0,
             Refusal::UnrulyWord(at) => at,
+            Refusal::SectorsAtOdds(sector) => sector,
         }
     }
 }

@@ -16,10 +16,12 @@
 //! ```
 
 mod fifo;
+mod passes;
 mod refusal;
 pub mod sys;
 
 pub use fifo::{Fifo, FifoMode};
+pub use passes::{merge, sectors, Sector, SectorSet, Sectors, MAX_SECTORS, MAX_SET_BYTES};
 pub use refusal::Refusal;
 pub use sys::Profile;
 

@@ -33,8 +33,12 @@ pub enum Refusal {
     CountOutOfRange,
     /// 13, misfit: length code above 3, or data not that long
     SectorSizeMismatch,
+    /// 15, crowded: more than 32 sectors
+    TooManySectors,
     /// 16, unruly: the lowest word of an image that no item has after its previous bit
     UnrulyWord { place: u32 },
+    /// 17, at odds: the lowest sector number that is twice in one set, or whose two good copies are unlike
+    SectorsAtOdds { sector: u32 },
     /// A number that this version of the interface does not list: the linked library is of another version
     Unlisted { number: u32, place: u32 },
 }
@@ -57,7 +61,9 @@ impl Refusal {
             11 => Refusal::EndsEarly,
             12 => Refusal::CountOutOfRange,
             13 => Refusal::SectorSizeMismatch,
+            15 => Refusal::TooManySectors,
             16 => Refusal::UnrulyWord { place },
+            17 => Refusal::SectorsAtOdds { sector: place },
             _ => Refusal::Unlisted { number, place },
         })
     }
@@ -78,15 +84,18 @@ impl Refusal {
             Refusal::EndsEarly => 11,
             Refusal::CountOutOfRange => 12,
             Refusal::SectorSizeMismatch => 13,
+            Refusal::TooManySectors => 15,
             Refusal::UnrulyWord { .. } => 16,
+            Refusal::SectorsAtOdds { .. } => 17,
             Refusal::Unlisted { number, .. } => *number,
         }
     }
 
-    /// The place: which profile number (from 1), which item, interval or word (from 0), otherwise 0.
+    /// The place: which profile number (from 1), which item, interval or word (from 0), which sector number, otherwise 0.
     pub fn place(&self) -> u32 {
         match self {
             Refusal::ProfileOutOfRange { field } => *field,
+            Refusal::SectorsAtOdds { sector } => *sector,
             Refusal::NotAnItem { place }
             | Refusal::IntervalTooShort { place }
             | Refusal::IntervalTooLong { place }
@@ -116,7 +125,11 @@ impl fmt::Display for Refusal {
             Refusal::EndsEarly => write!(f, "the intervals end before the bytes asked for"),
             Refusal::CountOutOfRange => write!(f, "the byte count is outside 1 to 1,030"),
             Refusal::SectorSizeMismatch => write!(f, "the length code is above 3 or the data is not that long"),
+            Refusal::TooManySectors => write!(f, "more than 32 sectors"),
             Refusal::UnrulyWord { place } => write!(f, "word {place} is that of no item after its previous bit"),
+            Refusal::SectorsAtOdds { sector } => {
+                write!(f, "sector {sector} is twice in one set, or its two good copies differ")
+            }
             Refusal::Unlisted { number, place } => write!(f, "unlisted refusal {number} at place {place}"),
         }
     }

@@ -74,6 +74,7 @@ extern "C" {
         out: *mut u16,
         room: usize,
     ) -> Answer;
+    pub fn ism_merge(first: *const u8, n: usize, second: *const u8, m: usize, out: *mut u8, room: usize) -> Answer;
     pub fn ism_fifo_new(mode: u16) -> Fifo;
     pub fn ism_fifo_put(fifo: Fifo, item: u16) -> FifoAnswer;
     pub fn ism_fifo_chip_put(fifo: Fifo, item: u16) -> FifoAnswer;

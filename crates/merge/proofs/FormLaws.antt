@@ -1,0 +1,152 @@
+-- Why reading and printing a set undo each other: both go sector by sector, and a sector's length code tells where it
+-- ends. Rests on no axiom.
+use Prim.Native.Nat.{ℕ, zero, suc, _≤_}
+use mathlib.Core.Path.{_≡_, refl, ap, _∙_}
+use mathlib.Core.Bool.{Bool, true, false, cond, not, _&&_, _||_, true≢false, false≢true}
+use mathlib.Core.List.{List, [], _∷_, _++_}
+use mathlib.Core.Option.{Option, none, some}
+use native.Mathlib.Omega.{arith}
+use borrow.Author.Tests.{leb-true, eqb-true, eqb-false, ltb-false, le-ltb, le-leb, eq-eqb}
+use lib.Dec.{eqb, ltb, leb}
+use lib.ListN.{length, take, drop, length-append, take-append-drop}
+use lib.Seq.{take-at, drop-at, length-take-le}
+use Rattle.lists.specs.Place.{everywhere}
+use Rattle.lists.proofs.PlaceLaws.{everywhere-of-none, everywhere-of-passing}
+use Rattle.lists.proofs.PlaceLaws.{everywhere-passes-at-first, everywhere-in-rest}
+use Rattle.sectors.specs.Sector.{sectorSize}
+use Rattle.merge.specs.Set.{Sector, asByte, sectorBytes, setBytes, sectorOf, withFirst, setWithin, setOf}
+use Rattle.merge.specs.Set.{isNone, orEmpty}
+use Rattle.merge.specs.Claims.{isSector, Restates, end, same, yes, SetsAsBytes}
+use Rattle.merge.proofs.SetLaws.{set-of-none, set-of-sector}
+
+-- ---- printed, then read
+
+both : (t u : Bool) → (t && u) ≡ true → (t ≡ true) × (u ≡ true)
+both true u h = (refl, h)
+both false u h = absurd (false≢true h)
+
+pub sector-fits : (s : Sector) → isSector s ≡ true → (s .code ≤ 3) × (length (s .bytes) ≡ sectorSize (s .code))
+unfolding isSector
+sector-fits s h =
+    let t = both (leb (s .code) 3) (eqb (length (s .bytes)) (sectorSize (s .code))) h in
+    (leb-true _ _ (t .0), eqb-true _ _ (t .1))
+
+yes-or-no : (b : Bool) → not (eqb (asByte b) 0) ≡ b
+yes-or-no true = refl
+yes-or-no false = refl
+
+pub print-then-read : (ss : List Sector) → everywhere isSector ss ≡ true → setOf (setBytes ss) ≡ some ss
+unfolding setBytes sectorBytes sectorOf
+print-then-read [] e = set-of-none
+print-then-read (s ∷ ss) e =
+    let fits = sector-fits s (everywhere-passes-at-first isSector s ss e) in
+    let rest = setBytes ss in
+    let room : sectorSize (s .code) ≤ length (s .bytes ++ rest) =
+    rw (length-append (s .bytes) rest) (omega (arith, fits .1)) in
+    set-of-sector (s .number) (s .code) (asByte (s .holds)) (s .bytes ++ rest)
+    ∙ rw (
+      le-ltb 3 (s .code) (fits .0),
+      le-ltb (length (s .bytes ++ rest)) (sectorSize (s .code)) room,
+      yes-or-no (s .holds),
+      take-at (s .bytes) rest (sectorSize (s .code)) (fits .1),
+      drop-at (s .bytes) rest (sectorSize (s .code)) (fits .1),
+      print-then-read ss (everywhere-in-rest isSector s ss e),
+    )
+
+-- ---- read, then printed
+
+restates-after : (bs : List ℕ) {new old : List ℕ} → Restates new old → Restates (bs ++ new) (bs ++ old)
+restates-after [] r = r
+restates-after (b ∷ bs) r = same (restates-after bs r)
+
+sum-restates
+    : (sum : ℕ) {new old : List ℕ} → Restates new old → Restates (asByte (not (eqb sum 0)) ∷ new) (sum ∷ old)
+sum-restates sum {new} {old} r = by (eqb sum 0) refl
+  where
+    by : (t : Bool) → eqb sum 0 ≡ t → Restates (asByte (not t) ∷ new) (sum ∷ old)
+    by true e = rw (eqb-true sum 0 e) (same r)
+    by false e = yes (eqb-false sum 0 e) r
+
+sector-restates
+    : (a b s : ℕ) (rest : List ℕ) (ss : List Sector)
+    → Restates (setBytes ss) (drop (sectorSize b) rest)
+    → Restates (setBytes (sectorOf a b s rest ∷ ss)) (a ∷ b ∷ s ∷ rest)
+unfolding setBytes sectorBytes sectorOf
+sector-restates a b s rest ss r =
+    same (same (sum-restates s
+    (rw (take-append-drop (sectorSize b) rest) at (restates-after (take (sectorSize b) rest) r))))
+
+module _
+    (P : List Sector → List ℕ → Type 0)
+    (at-end : P [] [])
+    (at-sector
+    : (a b s : ℕ) (rest : List ℕ) (ss : List Sector)
+    → b ≤ 3
+    → sectorSize b ≤ length rest
+    → P ss (drop (sectorSize b) rest)
+    → P (sectorOf a b s rest ∷ ss) (a ∷ b ∷ s ∷ rest))
+  where
+    -- what holds of nothing, and of a sector more, holds of every set that was read
+    read-within : (n : ℕ) (bs : List ℕ) → isNone (setWithin n bs) ≡ false → P (orEmpty (setWithin n bs)) bs
+    unfolding setWithin
+    read-within zero [] e = at-end
+    read-within zero (b ∷ bs) e = absurd (true≢false e)
+    read-within (suc n) [] e = at-end
+    read-within (suc n) (a ∷ []) e = absurd (true≢false e)
+    read-within (suc n) (a ∷ b ∷ []) e = absurd (true≢false e)
+    read-within (suc n) (a ∷ b ∷ s ∷ rest) e =
+        by (ltb 3 b) (ltb (length rest) (sectorSize b)) refl refl (read-within n (drop (sectorSize b) rest)) e
+      where
+        first
+            : (o : Option (List Sector))
+            → (isNone o ≡ false → P (orEmpty o) (drop (sectorSize b) rest))
+            → b ≤ 3
+            → sectorSize b ≤ length rest
+            → isNone (withFirst (sectorOf a b s rest) o) ≡ false
+            → P (orEmpty (withFirst (sectorOf a b s rest) o)) (a ∷ b ∷ s ∷ rest)
+        first none p h k e = absurd (true≢false e)
+        first (some ss) p h k e = at-sector a b s rest ss h k (p refl)
+
+        by
+            : (t u : Bool)
+            → ltb 3 b ≡ t
+            → ltb (length rest) (sectorSize b) ≡ u
+            → (isNone (setWithin n (drop (sectorSize b) rest)) ≡ false
+            → P (orEmpty (setWithin n (drop (sectorSize b) rest))) (drop (sectorSize b) rest))
+            → isNone (cond (t || u) none (withFirst (sectorOf a b s rest) (setWithin n (drop (sectorSize b) rest))))
+            ≡ false
+            → P
+            (orEmpty (cond (t || u) none (withFirst (sectorOf a b s rest) (setWithin n (drop (sectorSize b) rest)))))
+            (a ∷ b ∷ s ∷ rest)
+        by true u f g r h = absurd (true≢false h)
+        by false true f g r h = absurd (true≢false h)
+        by false false f g r h =
+            first
+            (setWithin n (drop (sectorSize b) rest))
+            r
+            (ltb-false _ _ f)
+            (ltb-false _ _ g)
+            h
+
+    pub read-holds : (bs : List ℕ) (ss : List Sector) → setOf bs ≡ some ss → P ss bs
+    unfolding setOf
+    read-holds bs ss e = rw (ap orEmpty e) at (read-within (length bs) bs (ap isNone e))
+
+read-is-a-sector
+    : (a b s : ℕ) (rest : List ℕ) → b ≤ 3 → sectorSize b ≤ length rest → isSector (sectorOf a b s rest) ≡ true
+unfolding isSector sectorOf
+read-is-a-sector a b s rest h k = rw (le-leb b 3 h, eq-eqb _ _ (length-take-le (sectorSize b) rest k))
+
+pub sets-as-bytes : SetsAsBytes
+unfolding setBytes
+sets-as-bytes =
+    record {
+      print-then-read = print-then-read;
+      read-then-print =
+          read-holds (λ ss bs. Restates (setBytes ss) bs) end
+          (λ a b s rest ss h k r. sector-restates a b s rest ss r);
+      read-is-sectors =
+          read-holds (λ ss bs. everywhere isSector ss ≡ true) (everywhere-of-none isSector)
+          (λ a b s rest ss h k r.
+          everywhere-of-passing isSector (sectorOf a b s rest) ss (read-is-a-sector a b s rest h k) ∙ r);
+    }

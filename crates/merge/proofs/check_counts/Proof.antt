@@ -1,0 +1,16 @@
+-- Why `merge::check_counts` answers 15 above 32: it makes the two tests one after the other. Rests on no axiom.
+use borrow.Author.Tests.{lt-ltb, le-ltb}
+use Rattle.merge.proofs.check_counts.Statement.{statement}
+use Rattle.merge.proofs.check_counts.Tie as tie
+
+returns : tie.Need-returns
+returns c = rw (lt-ltb _ _ (c .if1 .taken))
+
+returns-2 : tie.Need-returns-2
+returns-2 c = rw (le-ltb _ _ (c .before .if1 .left), lt-ltb _ _ (c .if2 .taken))
+
+returns-3 : tie.Need-returns-3
+returns-3 c = rw (le-ltb _ _ (c .before .if1 .left), le-ltb _ _ (c .if2 .left))
+
+pub check-counts-spec : {M : Type 1} → statement M
+check-counts-spec = tie.close (tie.spec returns returns-2 returns-3)

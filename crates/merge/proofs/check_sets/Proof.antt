@@ -1,0 +1,76 @@
+-- Why `merge::check_sets` answers `setsRule`: a set that cannot be counted is a misfit, and else the counts decide.
+-- Rests on no axiom.
+use mathlib.Core.Path.{sym, ap, _∙_}
+use Rattle.refusal.specs.Answer.{countedAnswer}
+use Rattle.merge.proofs.RuleLaws.{misfit-first, misfit-second, counts-decide}
+use borrow.Author.Needs.{needs}
+use Rattle.merge.proofs.check_sets.Statement.{statement}
+use Rattle.merge.proofs.check_sets.Tie as tie
+
+count-sectors-requires : tie.Need-count-sectors-requires
+count-sectors-requires c κs = search needs
+
+enum-known-refusal : tie.Need-enum-known-refusal
+enum-known-refusal c = search needs
+
+enum-known-a : tie.Need-enum-known-a
+enum-known-a c = search needs
+
+count-sectors-requires-2 : tie.Need-count-sectors-requires-2
+count-sectors-requires-2 c κs = search needs
+
+enum-known-refusal-2 : tie.Need-enum-known-refusal-2
+enum-known-refusal-2 c = search needs
+
+enum-known-b : tie.Need-enum-known-b
+enum-known-b c = search needs
+
+check-counts-requires : tie.Need-check-counts-requires
+check-counts-requires c κs = search needs
+
+returns : tie.Need-returns
+returns c =
+    misfit-first
+    _
+    _
+    (c .before .refusal .given .0 .0)
+    (sym (ap countedAnswer (c .before .refusal .given .1)) ∙ c .before .before .before .count-sectors .ensures)
+
+returns-2 : tie.Need-returns-2
+returns-2 c =
+    let first = c .before .before .before .before .before in
+    misfit-second
+    _
+    _
+    (c .before .refusal2 .given .0 .0)
+    (first .a .given .0 .0)
+    (sym (ap countedAnswer (first .a .given .1)) ∙ first .before .before .count-sectors .ensures)
+    (sym (ap countedAnswer (c .before .refusal2 .given .1)) ∙ c .before .before .before .count-sectors2 .ensures)
+
+returns-3 : tie.Need-returns-3
+returns-3 c =
+    let second = c .before .before in
+    let first = second .before .before .before .before in
+    c .check-counts .ensures
+    ∙ counts-decide
+    _
+    _
+    (first .a .given .0 .0)
+    (second .b .given .0 .0)
+    (sym (ap countedAnswer (first .a .given .1)) ∙ first .before .before .count-sectors .ensures)
+    (sym (ap countedAnswer (second .b .given .1)) ∙ second .before .before .count-sectors2 .ensures)
+
+pub check-sets-spec : {M : Type 1} → statement M
+check-sets-spec =
+    tie.close
+    (tie.spec
+    count-sectors-requires
+    enum-known-refusal
+    enum-known-a
+    count-sectors-requires-2
+    enum-known-refusal-2
+    enum-known-b
+    check-counts-requires
+    returns
+    returns-2
+    returns-3)

@@ -1,0 +1,92 @@
+-- Why `merge::choice::lowest_at_odds` answers the lowest number at which the sets are at odds: it tries them in
+-- ascending order. Rests on no axiom.
+use Prim.Native.Nat.{_+_, _-_, _≤_}
+use mathlib.Core.Path.{_≡_, sym, _∙_}
+use native.Mathlib.Nat.{zero-add}
+use lib.ListN.{drop}
+use Rattle.lists.specs.Place.{lowest}
+use Rattle.merge.specs.Set.{sectorsIn}
+use Rattle.merge.specs.Merge.{atOddsAt, numbers}
+use Rattle.merge.proofs.NumberLaws.{lowest-is-here, lowest-is-further, lowest-at-end}
+use Rattle.merge.proofs.ChoiceLaws.{entries-at-odds}
+use borrow.Author.Needs.{needs}
+use native.Mathlib.Omega.{arith}
+use Rattle.merge.proofs.choice.lowest_at_odds.Statement.{statement}
+use Rattle.merge.proofs.choice.lowest_at_odds.Tie as tie
+
+abbrev Inv-loop : tie.InvT-loop
+Inv-loop first a second b n₀ n =
+    (n ≤ 256)
+    × (n + lowest (atOddsAt (sectorsIn first) (sectorsIn second)) (drop n numbers)
+    ≡ lowest (atOddsAt (sectorsIn first) (sectorsIn second)) numbers)
+
+abbrev μ-loop : tie.MeasureT-loop
+μ-loop first a second b n₀ n = 256 - n
+
+loop-holds : tie.Need-loop-holds Inv-loop μ-loop
+loop-holds c = (omega arith, zero-add _)
+
+mul-at-odds : tie.Need-mul-at-odds Inv-loop μ-loop
+mul-at-odds c = omega arith
+
+element-copy-out-at-odds : tie.Need-element-copy-out-at-odds Inv-loop μ-loop
+element-copy-out-at-odds c = search needs
+
+mul-at-odds-2 : tie.Need-mul-at-odds-2 Inv-loop μ-loop
+mul-at-odds-2 c = omega arith
+
+element-copy-out-at-odds-2 : tie.Need-element-copy-out-at-odds-2 Inv-loop μ-loop
+element-copy-out-at-odds-2 c = search needs
+
+at-odds-requires : tie.Need-at-odds-requires Inv-loop μ-loop
+at-odds-requires c κs =
+    let turn = c .before .before in
+    let start = turn .before .before .before .before in
+    (start .pre .0 .within _ (turn .loop-test .taken), start .pre .1 .within _ (turn .loop-test .taken))
+
+returns : tie.Need-returns Inv-loop μ-loop
+returns c =
+    let turn = c .before .before .before .before in
+    let start = turn .before .before .before .before in
+    let inside = turn .loop-test .taken in
+    let here = entries-at-odds _ _ _ _ (start .pre .0) (start .pre .1) _ inside in
+    lowest-is-here _ _ inside (sym here ∙ sym (c .before .at-odds .ensures) ∙ c .if1 .taken)
+    ∙ turn .before .loop .inv .1
+
+add-n : tie.Need-add-n Inv-loop μ-loop
+add-n c = omega arith
+
+loop-less : tie.Need-loop-less Inv-loop μ-loop
+loop-less c = omega arith
+
+loop-again : tie.Need-loop-again Inv-loop μ-loop
+loop-again c =
+    let turn = c .before .before .before .before in
+    let start = turn .before .before .before .before in
+    let inside = turn .loop-test .taken in
+    let here = entries-at-odds _ _ _ _ (start .pre .0) (start .pre .1) _ inside in (
+      omega arith,
+      lowest-is-further _ _ inside (sym here ∙ sym (c .before .at-odds .ensures) ∙ c .if1 .left)
+          ∙ turn .before .loop .inv .1,
+    )
+
+returns-2 : tie.Need-returns-2 Inv-loop μ-loop
+returns-2 c = lowest-at-end _ _ (c .loop-test .left) ∙ c .before .loop .inv .1
+
+pub lowest-at-odds-spec : {M : Type 1} → statement M
+lowest-at-odds-spec =
+    tie.close
+    (tie.spec
+    Inv-loop
+    μ-loop
+    loop-holds
+    mul-at-odds
+    element-copy-out-at-odds
+    mul-at-odds-2
+    element-copy-out-at-odds-2
+    at-odds-requires
+    returns
+    add-n
+    loop-less
+    loop-again
+    returns-2)

@@ -1,0 +1,78 @@
+-- Why `merge::choice::takes_second` answers `takesSecond`: neither set has the number twice, so an entry that is not
+-- 0 shows one sector. Rests on no axiom.
+use borrow.Author.Tests.{eq-eqb, ne-eqb}
+use Rattle.merge.specs.Set.{sectorOf}
+use Rattle.merge.specs.Index.{sectorAt, takesSecond}
+use Rattle.merge.proofs.ChoiceLaws.{zero-shows-nothing, place-shows-one, no-twice-is-other}
+use Rattle.merge.proofs.ChoiceLaws.{at-peace-is-not-twice}
+use borrow.Author.Needs.{needs}
+use native.Mathlib.Omega.{arith}
+use Rattle.merge.proofs.choice.takes_second.Statement.{statement}
+use Rattle.merge.proofs.choice.takes_second.Tie as tie
+
+returns : tie.Need-returns
+unfolding takesSecond
+returns c = rw (zero-shows-nothing _ _ (c .if1 .taken))
+
+returns-2 : tie.Need-returns-2
+unfolding takesSecond
+returns-2 c =
+    let start = c .before .before in
+    let single = at-peace-is-not-twice _ _ (start .pre .2) in
+    rw (
+      zero-shows-nothing _ _ (c .if2 .taken),
+      place-shows-one _ _ (c .before .if1 .left) (no-twice-is-other _ _ (single .0)),
+    )
+
+add-a-sum : tie.Need-add-a-sum
+add-a-sum c = search needs
+
+shared-slice-read-if3 : tie.Need-shared-slice-read-if3
+shared-slice-read-if3 c =
+    let start = c .before .before .before in
+    let single = at-peace-is-not-twice _ _ (start .pre .2) in
+    omega (arith, start .pre .0 (c .before .before .if1 .left) (no-twice-is-other _ _ (single .0)))
+
+returns-3 : tie.Need-returns-3
+unfolding takesSecond sectorAt sectorOf
+returns-3 c =
+    let start = c .before .before .before .before in
+    let single = at-peace-is-not-twice _ _ (start .pre .2) in
+    rw (
+      place-shows-one _ _ (c .before .before .before .if1 .left) (no-twice-is-other _ _ (single .0)),
+      place-shows-one _ _ (c .before .before .if2 .left) (no-twice-is-other _ _ (single .1)),
+      ne-eqb _ 0 (c .if3 .taken),
+    )
+
+add-b-sum : tie.Need-add-b-sum
+add-b-sum c = search needs
+
+shared-slice-read-result : tie.Need-shared-slice-read-result
+shared-slice-read-result c =
+    let start = c .before .before .before .before .before in
+    let single = at-peace-is-not-twice _ _ (start .pre .2) in
+    omega (arith, start .pre .1 (c .before .before .before .if2 .left) (no-twice-is-other _ _ (single .1)))
+
+returns-4 : tie.Need-returns-4
+unfolding takesSecond sectorAt sectorOf
+returns-4 c =
+    let start = c .before .before .before .before .before in
+    let single = at-peace-is-not-twice _ _ (start .pre .2) in
+    rw (
+      place-shows-one _ _ (c .before .before .before .before .if1 .left) (no-twice-is-other _ _ (single .0)),
+      place-shows-one _ _ (c .before .before .before .if2 .left) (no-twice-is-other _ _ (single .1)),
+      eq-eqb _ 0 (c .before .if3 .left),
+    )
+
+pub takes-second-spec : {M : Type 1} → statement M
+takes-second-spec =
+    tie.close
+    (tie.spec
+    returns
+    returns-2
+    add-a-sum
+    shared-slice-read-if3
+    returns-3
+    add-b-sum
+    shared-slice-read-result
+    returns-4)

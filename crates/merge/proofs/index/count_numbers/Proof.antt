@@ -1,0 +1,98 @@
+-- Why `merge::index::count_numbers` counts the numbers that one of two indexes has: what was counted and what is left
+-- to count stay one sum from turn to turn. Rests on no axiom.
+use Prim.Native.Nat.{ℕ, _+_, _-_, _≤_}
+use mathlib.Core.Path.{_≡_, sym, ap, _∙_}
+use mathlib.Core.Logic.{⊎-elim}
+use native.Mathlib.Nat.{zero-add}
+use lib.ListN.{drop}
+use Rattle.merge.specs.Merge.{howMany, numbers}
+use Rattle.merge.specs.Index.{entryInEither}
+use Rattle.merge.proofs.NumberLaws.{count-of-passing, count-of-failing, count-at-end}
+use borrow.Author.Needs.{needs}
+use native.Mathlib.Omega.{arith}
+use Rattle.merge.proofs.index.count_numbers.Statement.{statement}
+use Rattle.merge.proofs.index.count_numbers.Tie as tie
+
+abbrev Inv-loop : tie.InvT-loop
+Inv-loop a b count₀ n₀ count n =
+    (n ≤ 256)
+    × (count ≤ n)
+    × (count + howMany (entryInEither a b) (drop n numbers) ≡ howMany (entryInEither a b) numbers)
+
+abbrev μ-loop : tie.MeasureT-loop
+μ-loop a b count₀ n₀ count n = 256 - n
+
+loop-holds : tie.Need-loop-holds Inv-loop μ-loop
+loop-holds c = (omega arith, omega arith, zero-add _)
+
+mul-in-either : tie.Need-mul-in-either Inv-loop μ-loop
+mul-in-either c = search needs
+
+element-copy-out-in-either : tie.Need-element-copy-out-in-either Inv-loop μ-loop
+element-copy-out-in-either c = search needs
+
+mul-in-either-2 : tie.Need-mul-in-either-2 Inv-loop μ-loop
+mul-in-either-2 c = search needs
+
+element-copy-out-in-either-2 : tie.Need-element-copy-out-in-either-2 Inv-loop μ-loop
+element-copy-out-in-either-2 c = search needs
+
+in-either-requires : tie.Need-in-either-requires Inv-loop μ-loop
+in-either-requires c κs = search needs
+
+add-count : tie.Need-add-count Inv-loop μ-loop
+add-count c = omega arith
+
+add-n : tie.Need-add-n Inv-loop μ-loop
+add-n c = omega arith
+
+loop-less : tie.Need-loop-less Inv-loop μ-loop
+loop-less c = omega arith
+
+loop-again : tie.Need-loop-again Inv-loop μ-loop
+unfolding entryInEither
+loop-again c =
+    let turn = c .before .before .before .before in
+    let n = turn .before .loop .n in
+    let args = turn .before .before .args in
+    let f = entryInEither (args .a .now) (args .b .now) in
+    let inside = turn .loop-test .taken in
+    let sum = turn .before .loop .inv .2 in
+    let here = c .before .in-either .ensures in
+    ⊎-elim
+    (λ w. (
+      omega arith,
+      omega arith,
+      ap (λ (k : ℕ). k + howMany f (drop (n + 1) numbers)) (w .1)
+          ∙ count-of-passing f _ n inside (sym here ∙ w .0 .taken)
+          ∙ sum,
+    ))
+    (λ w. (
+      omega arith,
+      omega arith,
+      ap (λ (k : ℕ). k + howMany f (drop (n + 1) numbers)) (w .1)
+          ∙ count-of-failing f _ n inside (sym here ∙ w .0 .left)
+          ∙ sum,
+    ))
+    (c .if1 .came)
+
+returns : tie.Need-returns Inv-loop μ-loop
+returns c = count-at-end _ _ _ (c .loop-test .left) ∙ c .before .loop .inv .2
+
+pub count-numbers-spec : {M : Type 1} → statement M
+count-numbers-spec =
+    tie.close
+    (tie.spec
+    Inv-loop
+    μ-loop
+    loop-holds
+    mul-in-either
+    element-copy-out-in-either
+    mul-in-either-2
+    element-copy-out-in-either-2
+    in-either-requires
+    add-count
+    add-n
+    loop-less
+    loop-again
+    returns)

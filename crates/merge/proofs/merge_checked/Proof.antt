@@ -1,0 +1,84 @@
+-- Why `merge::merge_checked` answers `checkedRule`: with both indexes made, the numbers decide, and then the room.
+-- Rests on no axiom.
+use mathlib.Core.Path.{refl, sym, ap, _∙_}
+use Rattle.refusal.specs.Answer.{countedAnswer}
+use Rattle.merge.specs.Index.{checkedRule}
+use Rattle.merge.proofs.RuleLaws.{accepted-sets-are-short}
+use Rattle.merge.proofs.SettleLaws.{refusal-settles, acceptance-leaves}
+use borrow.Author.Needs.{needs}
+use Rattle.merge.proofs.merge_checked.Statement.{statement}
+use Rattle.merge.proofs.merge_checked.Tie as tie
+
+index-set-requires : tie.Need-index-set-requires
+index-set-requires c κs =
+    let short = accepted-sets-are-short _ _ (c .before .before .before .before .pre) in
+    (short .first-fits, short .first-short, refl)
+
+index-set-requires-2 : tie.Need-index-set-requires-2
+index-set-requires-2 c κs =
+    let short = accepted-sets-are-short _ _ (c .before .before .before .before .before .before .pre) in
+    (short .second-fits, short .second-short, refl)
+
+check-numbers-requires : tie.Need-check-numbers-requires
+check-numbers-requires c κs = search needs
+
+enum-known-refusal : tie.Need-enum-known-refusal
+enum-known-refusal c = search needs
+
+enum-known-count : tie.Need-enum-known-count
+enum-known-count c = search needs
+
+deliver-requires : tie.Need-deliver-requires
+deliver-requires c κs =
+    let counted = c .before .before .before .before in
+    let asked = counted .before .before in
+    let indexed = asked .before .before .before in (
+      indexed .before .before .index-set .ensures,
+      indexed .index-set2 .ensures,
+      sym (ap countedAnswer (counted .count .given .1)) ∙ asked .check-numbers .ensures,
+    )
+
+returns : tie.Need-returns
+unfolding checkedRule
+returns c =
+    refusal-settles
+    _
+    _
+    (c .before .refusal .given .0 .0)
+    _
+    _
+    _
+    (sym (ap countedAnswer (c .before .refusal .given .1)) ∙ c .before .before .before .check-numbers .ensures)
+
+same-length : tie.Need-same-length
+same-length c = search needs
+
+returns-2 : tie.Need-returns-2
+unfolding checkedRule
+returns-2 c =
+    let counted = c .before .before .before .before .before .before .before in
+    acceptance-leaves
+    _
+    _
+    (counted .count .given .0 .0)
+    _
+    _
+    _
+    _
+    _
+    (sym (ap countedAnswer (counted .count .given .1)) ∙ counted .before .before .check-numbers .ensures)
+    (c .before .before .deliver .ensures)
+
+pub merge-checked-spec : {M : Type 1} → statement M
+merge-checked-spec =
+    tie.close
+    (tie.spec
+    index-set-requires
+    index-set-requires-2
+    check-numbers-requires
+    enum-known-refusal
+    enum-known-count
+    deliver-requires
+    returns
+    same-length
+    returns-2)

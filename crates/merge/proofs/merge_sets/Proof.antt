@@ -1,0 +1,74 @@
+-- Why `merge::merge_sets` answers `mergeAnswer` and leaves `mergeOutput`: the tests of each set, then those of both
+-- together, are the rule's tests in its order. Rests on no axiom.
+use mathlib.Core.Path.{sym, ap, _∙_}
+use Rattle.refusal.specs.Answer.{verdictAnswer}
+use Rattle.merge.proofs.SettleLaws.{refusal-settles, acceptance-leaves, merge-settles}
+use borrow.Author.Needs.{needs}
+use Rattle.merge.proofs.merge_sets.Statement.{statement}
+use Rattle.merge.proofs.merge_sets.Tie as tie
+
+check-sets-requires : tie.Need-check-sets-requires
+check-sets-requires c κs = search needs
+
+enum-known-refusal : tie.Need-enum-known-refusal
+enum-known-refusal c = search needs
+
+enum-told : tie.Need-enum-told
+enum-told c = search needs
+
+merge-checked-requires : tie.Need-merge-checked-requires
+merge-checked-requires c κs =
+    sym (ap verdictAnswer (c .before .enum-told .given .1)) ∙ c .before .before .before .check-sets .ensures
+
+returns : tie.Need-returns
+returns c =
+    merge-settles
+    _
+    _
+    _
+    _
+    _
+    (refusal-settles
+    _
+    _
+    (c .before .refusal .given .0 .0)
+    _
+    _
+    _
+    (sym (ap verdictAnswer (c .before .refusal .given .1)) ∙ c .before .before .before .check-sets .ensures))
+
+same-length : tie.Need-same-length
+same-length c = search needs
+
+returns-2 : tie.Need-returns-2
+returns-2 c =
+    let told = c .before .before .before .before in
+    merge-settles
+    _
+    _
+    _
+    _
+    _
+    (acceptance-leaves
+    _
+    _
+    0
+    _
+    _
+    _
+    _
+    _
+    (sym (ap verdictAnswer (told .enum-told .given .1)) ∙ told .before .before .check-sets .ensures)
+    (c .before .before .merge-checked .ensures))
+
+pub merge-sets-spec : {M : Type 1} → statement M
+merge-sets-spec =
+    tie.close
+    (tie.spec
+    check-sets-requires
+    enum-known-refusal
+    enum-told
+    merge-checked-requires
+    returns
+    same-length
+    returns-2)

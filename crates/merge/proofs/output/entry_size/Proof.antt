@@ -1,0 +1,40 @@
+-- Why `merge::output::entry_size` answers the number of bytes of what an entry shows: three beside a sector's data,
+-- or none. Rests on no axiom.
+use Prim.Native.Nat.{ℕ, _+_}
+use mathlib.Core.Path.{sym, ap, _∙_}
+use lib.ListN.{length}
+use Rattle.merge.proofs.OutputLaws.{bytes-of-entry, bytes-of-no-entry, sector-bytes-length}
+use borrow.Author.Needs.{needs}
+use native.Mathlib.Omega.{arith}
+use Rattle.merge.proofs.output.entry_size.Statement.{statement}
+use Rattle.merge.proofs.output.entry_size.Tie as tie
+
+returns : tie.Need-returns
+returns c = sym (ap length (bytes-of-no-entry _ _ (c .if1 .taken)))
+
+shared-slice-read-sector-size : tie.Need-shared-slice-read-sector-size
+shared-slice-read-sector-size c =
+    let start = c .before .before .before in
+    omega (arith, start .pre .0 (c .before .if1 .left) (start .pre .1))
+
+sector-size-requires : tie.Need-sector-size-requires
+sector-size-requires c κs = search needs
+
+add-result : tie.Need-add-result
+add-result c =
+    let start = c .before .before .before .before in
+    omega (arith, start .pre .0 (c .before .before .if1 .left) (start .pre .1), c .sector-size .ensures)
+
+returns-2 : tie.Need-returns-2
+returns-2 c =
+    let start = c .before .before .before .before in
+    let there = c .before .before .if1 .left in
+    let within = start .pre .0 there (start .pre .1) in
+    ap (λ (n : ℕ). 3 + n) (c .sector-size .ensures)
+    ∙ sym
+    (ap length (bytes-of-entry _ _ there (start .pre .1)) ∙ sector-bytes-length _ _ within)
+
+pub entry-size-spec : {M : Type 1} → statement M
+entry-size-spec =
+    tie.close
+    (tie.spec returns shared-slice-read-sector-size sector-size-requires add-result returns-2)

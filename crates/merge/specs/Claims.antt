@@ -1,0 +1,95 @@
+-- Document 02 (vii): what holds of sets as bytes and of the merge. No lemmas here.
+use Prim.Native.Nat.{ℕ, _≤_, _<_}
+use mathlib.Core.Path.{_≡_}
+use mathlib.Core.Bool.{Bool, true, false, not, cond, _&&_}
+use mathlib.Core.List.{List, [], _∷_, map}
+use mathlib.Core.Option.{some}
+use lib.Dec.{eqb, leb}
+use lib.ListN.{length}
+use Rattle.lists.specs.Place.{everywhere}
+use Rattle.refusal.specs.Answer.{accepted}
+use Rattle.sectors.specs.Sector.{sectorSize}
+use Rattle.merge.specs.Set.{Sector, setBytes, setOf, sectorsIn}
+use Rattle.merge.specs.Merge.{Held, Nothing, One, Twice, numbers, heldOf, taken, merged, inEither}
+use Rattle.merge.specs.Rule.{mergeRule, mergeAnswer, mergeOutput}
+
+-- ---- sets as bytes
+
+-- a sector has a length code of 0 to 3 and as many bytes of data
+unfoldable pub isSector : Sector → Bool
+isSector s = leb (s .code) 3 && eqb (length (s .bytes)) (sectorSize (s .code))
+
+-- the same bytes, but that 1 may stand where the other list has another number that is not 0
+pub data Restates : List ℕ → List ℕ → Type 0 where
+  end : Restates [] []
+  same : {b : ℕ} {new old : List ℕ} → Restates new old → Restates (b ∷ new) (b ∷ old)
+  yes : {b : ℕ} {new old : List ℕ} → (b ≡ 0 → ⊥) → Restates new old → Restates (1 ∷ new) (b ∷ old)
+
+pub record SetsAsBytes : Type 0 where
+  -- the bytes of a set are read as that set
+  pub print-then-read : (ss : List Sector) → everywhere isSector ss ≡ true → setOf (setBytes ss) ≡ some ss
+  -- a set that was read has these bytes, a sum that holds now told by 1
+  pub read-then-print : (bs : List ℕ) (ss : List Sector) → setOf bs ≡ some ss → Restates (setBytes ss) bs
+  -- what was read are sectors
+  pub read-is-sectors : (bs : List ℕ) (ss : List Sector) → setOf bs ≡ some ss → everywhere isSector ss ≡ true
+
+-- ---- the merge
+
+-- the numbers that pass a test, in order
+unfoldable pub those : (ℕ → Bool) → List ℕ → List ℕ
+those f [] = []
+those f (n ∷ ns) = cond (f n) (n ∷ those f ns) (those f ns)
+
+-- the bytes of the merged set
+abbrev pub result : List ℕ → List ℕ → List ℕ
+result first second = setBytes (merged (sectorsIn first) (sectorsIn second))
+
+-- the merge takes the two sets wherever the output has room
+abbrev pub Takes : List ℕ → List ℕ → Type 0
+Takes first second =
+    (room : ℕ)
+    → length (result first second) ≤ room
+    → mergeRule first second room ≡ accepted (length (merged (sectorsIn first) (sectorsIn second)))
+
+-- a number that both sets have with neither sum good
+unfoldable pub bothFail : Held → Held → Bool
+bothFail Nothing held = false
+bothFail (One a) Nothing = false
+bothFail (One a) (One b) = not (a .holds) && not (b .holds)
+bothFail (One a) Twice = false
+bothFail Twice held = false
+
+pub record MergeLaws : Type 0 where
+  -- every number of either set is in the result once, none else, in ascending order
+  pub each-number-once
+      : (first second : List ℕ) (room : ℕ)
+      → mergeRule first second room .number ≡ 0
+      → map (λ (s : Sector). s .number) (merged (sectorsIn first) (sectorsIn second))
+      ≡ those (inEither (sectorsIn first) (sectorsIn second)) numbers
+  -- and what it has of a number is what is taken of the two
+  pub each-number-taken
+      : (first second : List ℕ) (room n : ℕ)
+      → mergeRule first second room .number ≡ 0
+      → n < 256
+      → heldOf n (merged (sectorsIn first) (sectorsIn second))
+      ≡ taken (heldOf n (sectorsIn first)) (heldOf n (sectorsIn second))
+  -- a set that is taken with the empty set is taken with it on either side and with itself, and all give it in order
+  pub with-itself
+      : (bs : List ℕ) (room : ℕ)
+      → mergeRule bs [] room .number ≡ 0
+      → Takes bs []
+      × Takes [] bs
+      × Takes bs bs
+      × (result [] bs ≡ result bs [])
+      × (result bs bs ≡ result bs [])
+  -- the merged set is a set that the merge takes, and it is in order
+  pub merged-is-taken
+      : (first second : List ℕ) (room : ℕ)
+      → mergeRule first second room .number ≡ 0
+      → Takes (result first second) [] × (result (result first second) [] ≡ result first second)
+  -- where no number of both sets has two failed sums, nothing depends on which pass came first
+  pub either-pass-first
+      : (first second old : List ℕ)
+      → ((n : ℕ) → n < 256 → bothFail (heldOf n (sectorsIn first)) (heldOf n (sectorsIn second)) ≡ false)
+      → (mergeAnswer first second (length old) ≡ mergeAnswer second first (length old))
+      × (mergeOutput first second old ≡ mergeOutput second first old)
