@@ -7,6 +7,7 @@ pub mod fifo;
 pub mod limits;
 pub mod locks;
 pub mod margins;
+pub mod merges;
 pub mod profiles;
 pub mod sectors;
 pub mod settled;

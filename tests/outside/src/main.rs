@@ -84,6 +84,13 @@ fn library() {
     compare.group("faults together: finder", 0x92, faults::finder);
     compare.group("faults together: field reader", 0x93, faults::field);
     compare.group("faults together: sector maker", 0x94, faults::maker);
+    compare.group("merge: sets by hand", 0xB0, cases::merges::by_hand);
+    compare.group("merge: every choice of a copy", 0xB1, cases::merges::every_choice);
+    compare.group("merge: every size", 0xB2, cases::merges::every_size);
+    compare.group("merge: largest sets", 0xB3, cases::merges::largest);
+    compare.group("merge: misfit sectors", 0xB4, cases::merges::misfits);
+    compare.group("merge: faults together", 0xB5, cases::merges::faults);
+    compare.group("merge: random sets", 0xB6, cases::merges::random_sets);
     check_coverage(&compare);
     println!("outside: {} cases agree", compare.total());
 }
@@ -100,6 +107,7 @@ fn check_coverage(compare: &Compare) {
         ("ism_find", &[0, 1, 2, 10]),
         ("ism_read_field", &[0, 1, 2, 12, 5, 6, 11, 8, 9]),
         ("ism_make_sector", &[0, 13, 9]),
+        ("ism_merge", &[0, 13, 15, 17, 9]),
         ("ism_fifo", &[0, 3]),
     ];
     println!("answers seen, refusal number and times (0 is acceptance):");

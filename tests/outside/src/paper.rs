@@ -7,6 +7,7 @@ mod cells;
 pub mod fifo;
 pub mod image;
 mod items;
+pub mod merge;
 mod profile;
 mod reading;
 mod sector;
