@@ -10,3 +10,4 @@ pub mod ReadLaws
 pub mod Demand2
 pub mod Demand3
 pub mod UniqueImages
+pub mod Stretch

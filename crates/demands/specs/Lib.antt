@@ -6,3 +6,4 @@ pub mod Demand2
 pub mod Demand3
 pub mod Settled
 pub mod UniqueImages
+pub mod Stretch

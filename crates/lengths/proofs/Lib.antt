@@ -12,3 +12,4 @@ pub mod PlaceLaws
 pub mod BrokenLaws
 pub mod PapersMargin
 pub mod PositiveLengths
+pub mod SumLaws

@@ -1,4 +1,5 @@
 pub mod Lengths
+pub mod Points
 pub mod Stream
 pub mod Units
 pub mod Margin

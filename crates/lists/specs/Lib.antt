@@ -1,3 +1,4 @@
 pub mod Place
 pub mod Filled
 pub mod Table
+pub mod Sum

@@ -1,16 +1,17 @@
 -- How many units, cells and bits go together: a cell of u units gives half as many bits, and half a bit is owed after
 -- a 1. So the units alone say how many bits cells give, whether the last is 1, and whether they are whole bytes.
 use Prim.Native.Nat.{ℕ, _+_, _*_, _/_, _%_, _≤_}
-use mathlib.Core.Path.{_≡_, refl, ap, _∙_}
+use mathlib.Core.Path.{_≡_, refl, sym, ap, _∙_}
 use mathlib.Core.Bool.{not, _||_}
-use mathlib.Core.List.{List, [], _∷_}
+use mathlib.Core.List.{List, [], _∷_, _++_, map}
 use native.Mathlib.Omega.{arith}
 use native.Mathlib.Decide.{ℕ-discrete}
 use borrow.Author.Tests.{eq-eqb, ne-eqb}
 use lib.Dec.{eqb}
 use lib.Arith.{digits-mod}
 use lib.ListN.{length, length-append, length-map}
-use Rattle.symbols.specs.Bits.{Bit, O, I, G, isOne, lastOf}
+use Rattle.lists.specs.Sum.{sumOf}
+use Rattle.symbols.specs.Bits.{Bit, O, I, G, isOne, lastOf, allBits}
 use Rattle.symbols.specs.Cells.{writtenCells}
 use Rattle.symbols.specs.Reading.{units, given, lastAfter, readFrom, readBits}
 use Rattle.symbols.specs.Bytes.{digit}
@@ -18,7 +19,7 @@ use Rattle.symbols.specs.Strip.{isRagged, endsInOne}
 use Rattle.symbols.specs.declared.Cell.{Cell}
 use Rattle.symbols.specs.declared.Cell.the-variants.{Short, Medium, Long}
 use Rattle.symbols.proofs.TestLaws.{or-false, or-true, same-test}
-use Rattle.symbols.proofs.ReadingLaws.{last-of-given}
+use Rattle.symbols.proofs.ReadingLaws.{last-of-given, last-of-snoc}
 use Rattle.symbols.proofs.RoundTripLaws.{cells-are-read, read-of-write, bits-count}
 
 -- the sum of some cells in units
@@ -37,6 +38,11 @@ units-of-cell I Long = refl
 units-of-cell G Short = refl
 units-of-cell G Medium = refl
 units-of-cell G Long = refl
+
+sum-of-units : (cs : List Cell) → sumOf (map units cs) ≡ unitsIn cs
+unfolding sumOf unitsIn
+sum-of-units [] = refl
+sum-of-units (c ∷ cs) = ap (λ (n : ℕ). units c + n) (sum-of-units cs)
 
 -- two units to a bit; after a 1 one unit of the next bit is already there
 pub units-of-bits :
@@ -121,3 +127,12 @@ cells-at-most ws =
     let r = cells-are-read ws in
     let n = ap length (read-of-write ws (r .0) (r .1)) ∙ bits-count ws in
     rw (← r .1, length-map (r .0) units) (omega (arith, cells-at-most-bits O (r .0)))
+
+-- and 16 n + 4 units
+pub units-of-written : (ws : List ℕ) → sumOf (writtenCells ws) ≡ 16 * length ws + 4
+unfolding lastOf
+units-of-written ws =
+    let r = cells-are-read ws in
+    let bits = read-of-write ws (r .0) (r .1) in
+    let known = rw (bits, last-of-snoc O O (allBits ws)) at (bits-known (r .0)) in
+    ap sumOf (sym (r .1)) ∙ sum-of-units (r .0) ∙ omega (arith, known, bits-count ws)
