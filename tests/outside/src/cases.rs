@@ -11,6 +11,7 @@ pub mod merges;
 pub mod profiles;
 pub mod sectors;
 pub mod settled;
+pub mod stretch;
 pub mod strip_texts;
 pub mod strips;
 

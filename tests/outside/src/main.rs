@@ -62,6 +62,9 @@ fn library() {
     compare.group("images: cells", 0x39, cases::bit_images::cells);
     compare.group("moved within the margin", 0x40, margins::within_margin);
     compare.group("moved beyond the margin", 0x41, margins::beyond_margin);
+    compare.group("no stretch: short lists", 0x42, cases::stretch::every_short_list);
+    compare.group("no stretch: random lists", 0x43, cases::stretch::random_lists);
+    compare.group("no stretch: longest lists", 0x44, cases::stretch::longest);
     compare.group("finder", 0x50, fields::finder);
     compare.group("tracks", 0x51, fields::tracks);
     compare.group("fields", 0x52, fields::fields);

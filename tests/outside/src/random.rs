@@ -59,12 +59,30 @@ impl Random {
 
     /// A true profile; windows and precompensation reach their ends often.
     pub fn true_profile(&mut self) -> Nine {
+        let points = self.points();
+        let least = 2 * (points[2] - points[0]) + 1;
+        let t1 = self.between_with_edges(least, 1023);
+        let t0 = self.between_with_edges(least, 1023);
+        self.windows(t1, t0, points)
+    }
+
+    /// As `true_profile`, with T1 twice T0.
+    pub fn even_profile(&mut self) -> Nine {
+        let points = self.points();
+        let t0 = self.between_with_edges(2 * (points[2] - points[0]) + 1, 511);
+        self.windows(2 * t0, t0, points)
+    }
+
+    /// Early, Normal, Late.
+    fn points(&mut self) -> [u64; 3] {
         let early = self.between_with_edges(0, 15);
         let late = self.between_with_edges(early, 15);
-        let normal = self.between_with_edges(early, late);
+        [early, self.between_with_edges(early, late), late]
+    }
+
+    /// The profile with windows for these lengths.
+    fn windows(&mut self, t1: u64, t0: u64, [early, normal, late]: [u64; 3]) -> Nine {
         let d = 2 * (late - early);
-        let t1 = self.between_with_edges(d + 1, 1023);
-        let t0 = self.between_with_edges(d + 1, 1023);
         let min = self.between_with_edges(1, t1 - d);
         let b23 = self.between_with_edges(t1 + 1, t1 + t0);
         let b34 = self.between_with_edges(t1 + t0 + d + 1, t1 + 2 * t0);
