@@ -3,8 +3,8 @@
  *
  * The library turns data bytes, mark bytes and check orders into the intervals between flux transitions, with write
  * precompensation, and turns measured intervals back into bytes. It also finds the address mark behind a sync field,
- * reads one field, makes the items of one sector, merges the sectors of two passes over a track, exchanges bit images
- * with drive emulators and models the chip's two-item FIFO with its error register.
+ * reads one field, makes the items of one sector, reports how worn a drive is, merges the sectors of two passes over a
+ * track, exchanges bit images with drive emulators and models the chip's two-item FIFO with its error register.
  *
  * Common to all functions
  *
@@ -16,8 +16,8 @@
  *   code that was interrupted (the red zone). docs/BENCHMARKS.md gives the stack of each function, 3 KB at most.
  *
  *   Every argument value is answered. A refusal comes back in `number` and `place`, changes no buffer, and leaves
- *   `count`, `used` and `holds` 0. When several causes hold at once, the first in the order listed at the function is
- *   answered.
+ *   `count`, `used`, `holds` and the rows of a report 0. When several causes hold at once, the first in the order
+ *   listed at the function is answered.
  *
  *   On acceptance `number` and `place` are 0, the result fills the front of the output, and the rest of the output
  *   keeps its contents. Fields of an answer that a function does not give are 0.
@@ -48,7 +48,8 @@ extern "C" {
 #define ISM_UNSET 1u     /* profile number out of range; place: which of the nine, 1 to 9, the lowest */
 #define ISM_CROSSED 2u   /* profile not true: its windows miss its own cell lengths */
 #define ISM_FOREIGN 3u   /* not an item; place: the lowest such item */
-#define ISM_OVERLONG 4u  /* over 6,400 items, written bytes, bytes read or words, or over 51,202 intervals in a strip */
+#define ISM_OVERLONG 4u  /* over 6,400 items, written bytes, bytes read or words, over 51,202 intervals in a
+                            strip or in the list of a report, or a count or sum of added reports that does not fit in 64 bits */
 #define ISM_NARROW 5u    /* interval below Min; place: the interval */
 #define ISM_WIDE 6u      /* interval of Rpt or more; place: the interval */
 #define ISM_RAGGED 7u    /* the bits are not 8n + 2, or the last of them is 1 */
@@ -260,6 +261,38 @@ ism_answer ism_read_image(const uint16_t *words, size_t n, uint16_t *items, size
  *              number twice in one set, or in both with both sums good and another code or other data), ISM_FULL
  */
 ism_answer ism_merge(const uint8_t *first, size_t n, const uint8_t *second, size_t m, uint8_t *out, size_t room);
+
+/*
+ * Reports: how worn a drive is. A report has a row for each class of interval, in the order narrow, 2, 3, 4, wide: how
+ * many intervals of the list are of that class, the least and the greatest of them, and their sum, in half clocks. An
+ * empty class has four zeros.
+ */
+typedef struct {
+    uint64_t count, least, greatest, sum;
+} ism_report_row;
+
+typedef struct {
+    uint32_t number, place;
+    ism_report_row rows[5];
+} ism_report;
+
+/*
+ * The report of one list of intervals, such as a whole track gives.
+ *
+ *   intervals, n  at most 51,202 intervals, narrow and wide ones too
+ *   refusals      ISM_UNSET, ISM_CROSSED, ISM_OVERLONG
+ */
+ism_report ism_drive_report(ism_profile profile, const uint16_t *intervals, size_t n);
+
+/*
+ * Two reports added, row by row: counts and sums added, the lesser least, the greater greatest. A row whose count is 0
+ * is passed over, whatever else it holds; two such give four zeros. The reports of two lists give the report of the
+ * lists joined, however long, in any order and grouping of the lists. Only the rows are looked at, not `number` and
+ * `place`.
+ *
+ *   refusals  ISM_OVERLONG if a count or a sum does not fit in 64 bits
+ */
+ism_report ism_add_reports(ism_report a, ism_report b);
 
 /*
  * The FIFO of two items and the error register, first in first out. Each operation takes a state and hands back the

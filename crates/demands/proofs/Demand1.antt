@@ -8,9 +8,8 @@ use mathlib.Core.Logic.{_⊎_, inl, inr, ⊎-elim}
 use native.Mathlib.Omega.{arith}
 use lib.ListN.{length, drop}
 use borrow.Author.Tests.{eq-eqb}
-use Rattle.lists.specs.Place.{anywhere, everywhere, lowest, passed}
-use Rattle.refusal.specs.Answer.{Answer, accepted, refused, firstRefusal}
-use Rattle.timing.specs.Profile.{unset, isTrue, profileRule}
+use Rattle.lists.specs.Place.{anywhere, everywhere, lowest}
+use Rattle.refusal.specs.Answer.{accepted, refused}
 use Rattle.timing.specs.Class.{classesOf, classOf, classNumber, classRule}
 use Rattle.timing.specs.declared.Profile.{Profile}
 use Rattle.timing.specs.declared.Class.{Class}
@@ -29,29 +28,18 @@ use Rattle.fields.specs.Field.{fieldStop, fieldStray, fieldStrayPlace}
 use Rattle.fields.specs.FieldRule.{gatherRule, deliverRule, checkedRule, fieldRule}
 use Rattle.fields.proofs.FirstLockLaws.{lock-from-found, adrift-has-no-lock}
 use Rattle.sectors.specs.Sector.{isMisfit, sectorItems, sectorRule}
-use Rattle.demands.specs.Order.{Order, accept, turn, at0, InTurn, orderNumbers, Answers}
+use Rattle.demands.specs.Order.{accept, turn, at0, InTurn, orderNumbers, Answers}
 use Rattle.demands.specs.Causes.{profileOrder, writerOrder, stripOrder, finderOrder, fieldOrder, makerOrder}
 use Rattle.demands.specs.Demand1.{Demand1}
-use Rattle.demands.proofs.OrderLaws.{turn-by-test, turn-before, means-itself, means-below, means-not}
+use Rattle.demands.proofs.OrderLaws.{turn-by-test, turn-before, means-itself, means-below}
 use Rattle.demands.proofs.OrderLaws.{means-either, means-at, answers, first-refusal-of-first, NoCauseOf}
 use Rattle.demands.proofs.OrderLaws.{not-answered}
+use Rattle.demands.proofs.ProfileOrder.{profile-in-turn, accepted-in-turn}
+use Rattle.demands.proofs.ReportOrder.{drive-report, report-sum}
 use Rattle.demands.proofs.StopLaws.{edges-in-turn, stop-in-turn}
 use Rattle.demands.proofs.LentLaws.{writer-output, strip-output, field-output, maker-output}
 
--- ---- 1, 2, then what an operation says under an accepted profile
-
-profile-in-turn
-    : (p : Profile) (order : Order) (later : Answer)
-    → InTurn order later
-    → InTurn (profileOrder p order) (firstRefusal (profileRule p) later)
-unfolding profileRule
-profile-in-turn p order later rest =
-    turn-before 0 _ _ later (means-at (anywhere passed (unset p)) (suc (lowest passed (unset p))))
-    (turn-before 1 order (accepted 0) later (means-not (isTrue p)) rest)
-
-accepted-in-turn : (n : ℕ) → InTurn accept (accepted n)
-unfolding InTurn
-accepted-in-turn n = refl
+-- ---- margin and class
 
 margin : (p : Profile) → Answers (profileOrder p accept) (marginRule p)
 unfolding marginRule orderNumbers everywhere
@@ -179,6 +167,8 @@ demand-1 =
       finder = finder;
       field-reader = field-reader;
       maker = maker;
+      drive-report = drive-report;
+      report-sum = report-sum;
       writer-output = writer-output;
       strip-output = strip-output;
       field-output = field-output;

@@ -1,4 +1,6 @@
 pub mod OrderLaws
+pub mod ProfileOrder
+pub mod ReportOrder
 pub mod UnreadLaws
 pub mod StopLaws
 pub mod LentLaws

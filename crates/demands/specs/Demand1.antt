@@ -14,8 +14,10 @@ use Rattle.fields.specs.Lock.{findRule}
 use Rattle.fields.specs.Field.{fieldItems}
 use Rattle.fields.specs.FieldRule.{fieldRule, fieldOutput}
 use Rattle.sectors.specs.Sector.{sectorItems, sectorRule, sectorOutput}
+use Rattle.report.specs.Report.{Report, reportRule, addRule}
 use Rattle.demands.specs.Order.{accept, Answers, Lent}
 use Rattle.demands.specs.Causes.{profileOrder, writerOrder, stripOrder, finderOrder, fieldOrder, makerOrder}
+use Rattle.demands.specs.ReportCauses.{reportOrder, addOrder}
 
 pub record Demand1 : Type 0 where
   -- refused first, and accepted then: every operation by its order
@@ -29,6 +31,8 @@ pub record Demand1 : Type 0 where
   pub maker
       : (track side sector code : ℕ) (bytes : List ℕ) (room : ℕ)
       → Answers (makerOrder track side sector code bytes room) (sectorRule track side sector code bytes room)
+  pub drive-report : (p : Profile) (ds : List ℕ) → Answers (reportOrder p ds) (reportRule p ds)
+  pub report-sum : (a b : Report) → Answers (addOrder a b) (addRule a b)
   -- a refusal alters nothing the caller lent: every operation that lends a buffer
   pub writer-output
       : (p : Profile) (items old : List ℕ)

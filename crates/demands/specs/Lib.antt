@@ -1,5 +1,6 @@
 pub mod Order
 pub mod Causes
+pub mod ReportCauses
 pub mod Demand1
 pub mod Streams
 pub mod Demand2

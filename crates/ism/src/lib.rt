@@ -12,6 +12,7 @@ use refusal::Counted;
 use timing::Profile;
 
 pub mod disk;
+pub mod drive;
 pub mod image;
 pub mod passes;
 pub mod queue;

@@ -18,12 +18,14 @@
 mod fifo;
 mod passes;
 mod refusal;
+mod report;
 pub mod sys;
 
 pub use fifo::{Fifo, FifoMode};
 pub use passes::{merge, sectors, Sector, SectorSet, Sectors, MAX_SECTORS, MAX_SET_BYTES};
 pub use refusal::Refusal;
-pub use sys::Profile;
+pub use report::{drive_report, Report};
+pub use sys::{Profile, ReportRow};
 
 use refusal::accepted;
 

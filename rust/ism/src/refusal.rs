@@ -13,7 +13,8 @@ pub enum Refusal {
     ProfileInconsistent,
     /// 3, foreign: the lowest number in the list that is no item
     NotAnItem { place: u32 },
-    /// 4, overlong: over 6,400 items, written bytes, bytes read or words, or over 51,202 intervals in a strip
+    /// 4, overlong: over 6,400 items, written bytes, bytes read or words; over 51,202 intervals in a strip or a
+    /// report's list; a count or sum of added reports over 64 bits
     TooLong,
     /// 5, narrow: an interval below Min
     IntervalTooShort { place: u32 },
@@ -115,7 +116,9 @@ impl fmt::Display for Refusal {
             Refusal::NotAnItem { place } => {
                 write!(f, "number {place} of the list is no data byte, mark A1 or C2, or check order")
             }
-            Refusal::TooLong => write!(f, "more than 6,400 bytes or words, or 51,202 intervals"),
+            Refusal::TooLong => {
+                write!(f, "more than 6,400 bytes or words, or 51,202 intervals, or a report that does not fit in 64 bits")
+            }
             Refusal::IntervalTooShort { place } => write!(f, "interval {place} is below Min"),
             Refusal::IntervalTooLong { place } => write!(f, "interval {place} is Rpt or more"),
             Refusal::NotWholeBytes => write!(f, "the intervals do not end on a whole byte"),

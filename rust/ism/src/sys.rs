@@ -27,6 +27,25 @@ pub struct Answer {
     pub holds: u32,
 }
 
+/// `ism_report_row`: the intervals of one class
+#[repr(C)]
+#[derive(Clone, Copy, Debug, Default, PartialEq, Eq)]
+pub struct ReportRow {
+    pub count: u64,
+    pub least: u64,
+    pub greatest: u64,
+    pub sum: u64,
+}
+
+/// `ism_report`
+#[repr(C)]
+#[derive(Clone, Copy, Debug, PartialEq, Eq)]
+pub struct Report {
+    pub number: u32,
+    pub place: u32,
+    pub rows: [ReportRow; 5],
+}
+
 /// `ism_fifo`
 #[repr(C)]
 #[derive(Clone, Copy, Debug, PartialEq, Eq)]
@@ -75,6 +94,8 @@ extern "C" {
         room: usize,
     ) -> Answer;
     pub fn ism_merge(first: *const u8, n: usize, second: *const u8, m: usize, out: *mut u8, room: usize) -> Answer;
+    pub fn ism_drive_report(profile: Profile, intervals: *const u16, n: usize) -> Report;
+    pub fn ism_add_reports(a: Report, b: Report) -> Report;
     pub fn ism_fifo_new(mode: u16) -> Fifo;
     pub fn ism_fifo_put(fifo: Fifo, item: u16) -> FifoAnswer;
     pub fn ism_fifo_chip_put(fifo: Fifo, item: u16) -> FifoAnswer;

@@ -1,0 +1,50 @@
+-- Each interval is of one class: the counts of a report add up to the length of the list, and its sums to the list's
+-- sum. Rests on no axiom.
+use Prim.Native.Nat.{ℕ, _+_}
+use mathlib.Core.Path.{_≡_, refl}
+use mathlib.Core.List.{List, [], _∷_, map}
+use native.Mathlib.Omega.{arith}
+use lib.ListN.{length}
+use Rattle.timing.specs.declared.Class.{Class}
+use Rattle.timing.specs.declared.Class.the-variants.{Narrow, Two, Three, Four, Wide}
+use Rattle.report.specs.Row.{countIn, sumIn, total, rowOf}
+use Rattle.report.specs.Report.{ofClass, reportBy}
+
+-- a number for each class, added up
+abbrev overClasses : (Class → ℕ) → ℕ
+overClasses f = f Narrow + (f Two + (f Three + (f Four + (f Wide + 0))))
+
+-- a number of a list to which each element adds
+module _
+    (f : List ℕ → ℕ)
+    (step : ℕ → ℕ)
+    (none : f [] ≡ 0)
+    (more : (d : ℕ) (ds : List ℕ) → f (d ∷ ds) ≡ step d + f ds)
+  where
+    over-classes
+        : (cs : List Class) (ds : List ℕ)
+        → length cs ≡ length ds
+        → overClasses (λ (c : Class). f (ofClass c cs ds)) ≡ f ds
+    unfolding ofClass
+    over-classes [] [] h = rw none (omega arith)
+    over-classes [] (d ∷ ds) h = absurd (omega arith)
+    over-classes (e ∷ cs) [] h = absurd (omega arith)
+    over-classes (Narrow ∷ cs) (d ∷ ds) h =
+        let rest = over-classes cs ds (omega arith) in rw (more d ds, more d (ofClass Narrow cs ds)) (omega arith)
+    over-classes (Two ∷ cs) (d ∷ ds) h =
+        let rest = over-classes cs ds (omega arith) in rw (more d ds, more d (ofClass Two cs ds)) (omega arith)
+    over-classes (Three ∷ cs) (d ∷ ds) h =
+        let rest = over-classes cs ds (omega arith) in rw (more d ds, more d (ofClass Three cs ds)) (omega arith)
+    over-classes (Four ∷ cs) (d ∷ ds) h =
+        let rest = over-classes cs ds (omega arith) in rw (more d ds, more d (ofClass Four cs ds)) (omega arith)
+    over-classes (Wide ∷ cs) (d ∷ ds) h =
+        let rest = over-classes cs ds (omega arith) in rw (more d ds, more d (ofClass Wide cs ds)) (omega arith)
+
+module _ (cs : List Class) (ds : List ℕ) (h : length cs ≡ length ds) where
+  pub counts-add-up : total (map countIn (reportBy cs ds)) ≡ length ds
+  unfolding reportBy rowOf total
+  counts-add-up = over-classes length (λ d. 1) refl (λ d es. omega arith) cs ds h
+
+  pub sums-add-up : total (map sumIn (reportBy cs ds)) ≡ total ds
+  unfolding reportBy rowOf total
+  sums-add-up = over-classes total (λ d. d) refl (λ d es. refl) cs ds h

@@ -1,0 +1,37 @@
+-- Why `add` answers `added`: the rows are added where the sum is accepted. Rests on no axiom.
+use mathlib.Core.Path.{_∙_}
+use Rattle.refusal.proofs.AnswerLaws.{verdict-accepts}
+use Rattle.report.specs.Report.{added}
+use Rattle.report.proofs.RefusalLaws.{refused-gives-zeros, accepted-gives-report}
+use borrow.Author.Needs.{needs}
+use Rattle.report.proofs.add.Statement.{statement}
+use Rattle.report.proofs.add.Tie as tie
+
+check-sum-requires : tie.Need-check-sum-requires
+check-sum-requires c κs = search needs
+
+enum-told : tie.Need-enum-told
+enum-told c = search needs
+
+enum-told-2 : tie.Need-enum-told-2
+enum-told-2 c = search needs
+
+add-rows-requires : tie.Need-add-rows-requires
+add-rows-requires c κs = verdict-accepts _ _ (c .before .before .check-sum .ensures) (c .enum-told2 .given .1)
+
+returns : tie.Need-returns
+unfolding added
+returns c =
+    refused-gives-zeros _ _ _ (c .before .before .check-sum .ensures) _ (c .enum-told .given .1)
+
+returns-2 : tie.Need-returns-2
+unfolding added
+returns-2 c =
+    let told = c .before in
+    c .add-rows .ensures
+    ∙ accepted-gives-report _ _ _ (told .before .before .check-sum .ensures) (told .enum-told2 .given .1)
+
+pub add-spec : {M : Type 1} → statement M
+add-spec =
+    tie.close
+    (tie.spec check-sum-requires enum-told enum-told-2 add-rows-requires returns returns-2)

@@ -1,0 +1,84 @@
+-- Why `add_rows` answers `addReports`: each turn puts the sum of two rows in its place. Rests on no axiom.
+use Prim.Native.Nat.{_-_, _≤_}
+use mathlib.Core.Path.{_≡_, refl, ap₂, _∙_}
+use mathlib.Core.List.{_++_}
+use native.Mathlib.Omega.{arith}
+use lib.ListN.{set, take, drop}
+use borrow.Author.Needs.{needs}
+use Rattle.report.specs.Row.{Row}
+use Rattle.report.specs.Report.{Report, addReports, noReport}
+use Rattle.report.proofs.SumLaws.{row-of-sum-fits, next-row, rows-at-end}
+use Rattle.report.proofs.add_rows.Statement.{statement}
+use Rattle.report.proofs.add_rows.Tie as tie
+
+abbrev Inv-loop : tie.InvT-loop
+Inv-loop a b rows₀ k₀ rows k = (k ≤ 5) × (rows ≡ take k (addReports a b) ++ drop k noReport)
+
+abbrev μ-loop : tie.MeasureT-loop
+μ-loop a b rows₀ k₀ rows k = 5 - k
+
+loop-holds : tie.Need-loop-holds Inv-loop μ-loop
+loop-holds c = (search needs, refl)
+
+mul-add : tie.Need-mul-add Inv-loop μ-loop
+mul-add c = search needs
+
+array-copy-out-add : tie.Need-array-copy-out-add Inv-loop μ-loop
+array-copy-out-add c = search needs
+
+mul-add-2 : tie.Need-mul-add-2 Inv-loop μ-loop
+mul-add-2 c = search needs
+
+array-copy-out-add-2 : tie.Need-array-copy-out-add-2 Inv-loop μ-loop
+array-copy-out-add-2 c = search needs
+
+add-requires : tie.Need-add-requires Inv-loop μ-loop
+add-requires c κs =
+    let turn = c .before .before in
+    row-of-sum-fits _ _ _ (turn .loop-test .taken) (turn .before .before .pre)
+
+mul-rows : tie.Need-mul-rows Inv-loop μ-loop
+mul-rows c = search needs
+
+array-set-from-rows : tie.Need-array-set-from-rows Inv-loop μ-loop
+array-set-from-rows c = search needs
+
+add-k : tie.Need-add-k Inv-loop μ-loop
+add-k c = search needs
+
+loop-less : tie.Need-loop-less Inv-loop μ-loop
+loop-less c = search needs
+
+loop-again : tie.Need-loop-again Inv-loop μ-loop
+loop-again c =
+    let turn = c .before .before .before in (
+      search needs,
+      ap₂
+          (λ (rows : Report) (row : Row). set rows (turn .before .loop .k) row)
+          (turn .before .loop .inv .1)
+          (c .add .ensures)
+          ∙ next-row _ _ _ (turn .loop-test .taken),
+    )
+
+returns : tie.Need-returns Inv-loop μ-loop
+returns c =
+    c .before .loop .inv .1 ∙ rows-at-end _ _ (c .before .loop .k) (omega arith)
+
+pub add-rows-spec : {M : Type 1} → statement M
+add-rows-spec =
+    tie.close
+    (tie.spec
+    Inv-loop
+    μ-loop
+    loop-holds
+    mul-add
+    array-copy-out-add
+    mul-add-2
+    array-copy-out-add-2
+    add-requires
+    mul-rows
+    array-set-from-rows
+    add-k
+    loop-less
+    loop-again
+    returns)

@@ -1,0 +1,40 @@
+-- Why `check_list` answers `reportRule`: it makes the same tests in the same order. Rests on no axiom.
+use mathlib.Core.Path.{sym, ap, _∙_}
+use mathlib.Core.Bool.{Bool}
+use borrow.Author.Tests.{lt-ltb, le-ltb}
+use Rattle.refusal.specs.Answer.{accepted, refuseIf}
+use Rattle.refusal.proofs.AnswerLaws.{verdict-refuses, verdict-passes}
+use Rattle.report.specs.Report.{reportRule}
+use borrow.Author.Needs.{needs}
+use Rattle.report.proofs.check_list.Statement.{statement}
+use Rattle.report.proofs.check_list.Tie as tie
+
+check-requires : tie.Need-check-requires
+check-requires c κs = search needs
+
+enum-known-refusal : tie.Need-enum-known-refusal
+enum-known-refusal c = search needs
+
+enum-told : tie.Need-enum-told
+enum-told c = search needs
+
+returns : tie.Need-returns
+unfolding reportRule
+returns c =
+    ap (λ (t : Bool). refuseIf t 4 0 (accepted 0)) (sym (lt-ltb _ _ (c .if1 .taken)))
+    ∙ verdict-passes _ _ _ (c .before .before .before .check .ensures) (c .before .enum-told .given .1)
+
+returns-2 : tie.Need-returns-2
+unfolding reportRule
+returns-2 c =
+    verdict-refuses _ _ _ _ (c .before .before .before .check .ensures) (c .before .refusal .given .1)
+
+returns-3 : tie.Need-returns-3
+unfolding reportRule
+returns-3 c =
+    ap (λ (t : Bool). refuseIf t 4 0 (accepted 0)) (sym (le-ltb _ _ (c .if1 .left)))
+    ∙ verdict-passes _ _ _ (c .before .before .before .check .ensures) (c .before .enum-told .given .1)
+
+pub check-list-spec : {M : Type 1} → statement M
+check-list-spec =
+    tie.close (tie.spec check-requires enum-known-refusal enum-told returns returns-2 returns-3)

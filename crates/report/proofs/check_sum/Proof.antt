@@ -1,0 +1,81 @@
+-- Why `check_sum` answers `addRule`: the loop goes over the rows of the sum and ends at the first that does not fit.
+-- Rests on no axiom.
+use Prim.Native.Nat.{_-_, _≤_}
+use mathlib.Core.Path.{_≡_, refl, sym, _∙_}
+use lib.ListN.{drop}
+use borrow.Author.Needs.{needs}
+use Rattle.lists.specs.Place.{anywhere}
+use Rattle.report.specs.Row.{isOverlarge}
+use Rattle.report.specs.Report.{addReports, addRule}
+use Rattle.report.proofs.SumLaws.{overflows-here, fits-here, fits-at-end}
+use Rattle.report.proofs.check_sum.Statement.{statement}
+use Rattle.report.proofs.check_sum.Tie as tie
+
+abbrev Inv-loop : tie.InvT-loop
+Inv-loop a b k₀ k =
+    (k ≤ 5) × (anywhere isOverlarge (drop k (addReports a b)) ≡ anywhere isOverlarge (addReports a b))
+
+abbrev μ-loop : tie.MeasureT-loop
+μ-loop a b k₀ k = 5 - k
+
+loop-holds : tie.Need-loop-holds Inv-loop μ-loop
+loop-holds c = (search needs, refl)
+
+mul-overflows : tie.Need-mul-overflows Inv-loop μ-loop
+mul-overflows c = search needs
+
+array-copy-out-overflows : tie.Need-array-copy-out-overflows Inv-loop μ-loop
+array-copy-out-overflows c = search needs
+
+mul-overflows-2 : tie.Need-mul-overflows-2 Inv-loop μ-loop
+mul-overflows-2 c = search needs
+
+array-copy-out-overflows-2 : tie.Need-array-copy-out-overflows-2 Inv-loop μ-loop
+array-copy-out-overflows-2 c = search needs
+
+overflows-requires : tie.Need-overflows-requires Inv-loop μ-loop
+overflows-requires c κs = search needs
+
+returns : tie.Need-returns Inv-loop μ-loop
+unfolding addRule
+returns c =
+    let turn = c .before .before .before .before in
+    let overflows = sym (c .before .overflows .ensures) ∙ c .if1 .taken in
+    rw (sym (turn .before .loop .inv .1) ∙ overflows-here _ _ _ (turn .loop-test .taken) overflows)
+
+add-k : tie.Need-add-k Inv-loop μ-loop
+add-k c = search needs
+
+loop-less : tie.Need-loop-less Inv-loop μ-loop
+loop-less c = search needs
+
+loop-again : tie.Need-loop-again Inv-loop μ-loop
+loop-again c =
+    let turn = c .before .before .before .before in (
+      search needs,
+      fits-here _ _ _ (turn .loop-test .taken) (sym (c .before .overflows .ensures) ∙ c .if1 .left)
+          ∙ turn .before .loop .inv .1,
+    )
+
+returns-2 : tie.Need-returns-2 Inv-loop μ-loop
+unfolding addRule
+returns-2 c =
+    rw (sym (c .before .loop .inv .1) ∙ fits-at-end _ _ _ (c .loop-test .left))
+
+pub check-sum-spec : {M : Type 1} → statement M
+check-sum-spec =
+    tie.close
+    (tie.spec
+    Inv-loop
+    μ-loop
+    loop-holds
+    mul-overflows
+    array-copy-out-overflows
+    mul-overflows-2
+    array-copy-out-overflows-2
+    overflows-requires
+    returns
+    add-k
+    loop-less
+    loop-again
+    returns-2)

@@ -1,0 +1,68 @@
+-- Why `list::gather` answers `reportFrom`: each turn classes an interval and renews the row of its class, which is what
+-- the report of one interval more is. Rests on no axiom.
+mod Turn
+use Prim.Native.Nat.{ℕ, _-_, _≤_}
+use native.Mathlib.Omega.{arith}
+use lib.ListN.{length, getD}
+use borrow.Author.Needs.{needs}
+use Rattle.report.proofs.list.gather.Proof.Turn.{Gathered, nothing-gathered, gathered-by-step, gathered-all}
+use Rattle.report.proofs.list.gather.Proof.Turn.{renewed-row-fits}
+use Rattle.report.proofs.list.gather.Statement.{statement}
+use Rattle.report.proofs.list.gather.Tie as tie
+
+abbrev Inv-loop : tie.InvT-loop
+Inv-loop intervals cursor₀ rows₀ k₀ cursor rows k = Gathered cursor₀ intervals cursor rows k
+
+abbrev μ-loop : tie.MeasureT-loop
+μ-loop intervals cursor₀ rows₀ k₀ cursor rows k = length intervals - k
+
+loop-holds : tie.Need-loop-holds Inv-loop μ-loop
+loop-holds c = nothing-gathered _ _
+
+mul-interval : tie.Need-mul-interval Inv-loop μ-loop
+mul-interval c = search needs
+
+shared-slice-read-interval : tie.Need-shared-slice-read-interval Inv-loop μ-loop
+shared-slice-read-interval c = search needs
+
+step-requires : tie.Need-step-requires Inv-loop μ-loop
+step-requires c κs = search needs
+
+renew-requires : tie.Need-renew-requires Inv-loop μ-loop
+renew-requires c κs =
+    let turn = c .before .before .before in
+    let small : (i : ℕ) → getD (turn .before .before .args .intervals .now) i 0 ≤ 65535 =
+    λ i. let known = c .before .shared-slice-known2 .given i in omega arith in
+    let more = c .before .before .loop-test .taken in
+    renewed-row-fits (turn .loop .inv) more (turn .before .before .pre) small (c .step .ensures)
+
+add-k : tie.Need-add-k Inv-loop μ-loop
+add-k c = search needs
+
+loop-less : tie.Need-loop-less Inv-loop μ-loop
+loop-less c = search needs
+
+loop-again : tie.Need-loop-again Inv-loop μ-loop
+loop-again c =
+    let turn = c .before .before .before .before in
+    gathered-by-step (turn .before .loop .inv) (turn .loop-test .taken) (c .before .before .step .ensures)
+    (c .before .renew .ensures)
+
+returns : tie.Need-returns Inv-loop μ-loop
+returns c = gathered-all (c .before .loop .inv) (c .loop-test .left)
+
+pub gather-spec : {M : Type 1} → statement M
+gather-spec =
+    tie.close
+    (tie.spec
+    Inv-loop
+    μ-loop
+    loop-holds
+    mul-interval
+    shared-slice-read-interval
+    step-requires
+    renew-requires
+    add-k
+    loop-less
+    loop-again
+    returns)

@@ -1,0 +1,56 @@
+-- Document 02, (i): what holds of reports, for lists of any length. No lemmas here.
+use Prim.Native.Nat.{ℕ, _<_, _≤_}
+use mathlib.Core.Path.{_≡_}
+use mathlib.Core.List.{List, [], _∷_, _++_, map}
+use lib.ListN.{length, getD}
+use Rattle.timing.specs.Class.{cursorAfter}
+use Rattle.timing.specs.declared.Profile.{Profile}
+use Rattle.timing.specs.declared.cursor.Cursor.{Cursor}
+use Rattle.report.specs.Row.{countIn, sumIn, least, greatest, total}
+use Rattle.report.specs.Report.{Report, reportOf, reportFrom, addReports, noReport, addRule, added}
+
+-- the lists of an afternoon joined, and their reports added
+unfoldable pub allJoined : List (List ℕ) → List ℕ
+allJoined [] = []
+allJoined (ds ∷ lists) = ds ++ allJoined lists
+
+unfoldable pub allAdded : Profile → List (List ℕ) → Report
+allAdded p [] = noReport
+allAdded p (ds ∷ lists) = addReports (reportOf p ds) (allAdded p lists)
+
+-- two numbers are the least and the greatest of some intervals
+pub record Spanned (ds : List ℕ) (low high : ℕ) : Type 0 where
+  pub none-below : (k : ℕ) → k < length ds → low ≤ getD ds k 0
+  pub none-above : (k : ℕ) → k < length ds → getD ds k 0 ≤ high
+  pub low-is-there : 0 < length ds → (k : ℕ) × (k < length ds) × (getD ds k 0 ≡ low)
+  pub high-is-there : 0 < length ds → (k : ℕ) × (k < length ds) × (getD ds k 0 ≡ high)
+
+-- three reports whose sum is accepted in one order, in the other
+pub record Regrouped (a b c : Report) : Type 0 where
+  pub later-accepted : addRule b c .number ≡ 0
+  pub whole-accepted : addRule a (added b c) .number ≡ 0
+  pub same : added (added a b) c ≡ added a (added b c)
+
+pub record DriveReports : Type 0 where
+  -- adding the reports of two lists gives the report of the lists joined: the second classed from where the classing of
+  -- the first ends
+  pub joined-there
+      : (cursor : Cursor) (ds es : List ℕ)
+      → reportFrom cursor (ds ++ es) ≡ addReports (reportFrom cursor ds) (reportFrom (cursorAfter cursor ds) es)
+  -- and classed as a list of its own
+  pub joined : (p : Profile) (ds es : List ℕ) → reportOf p (ds ++ es) ≡ addReports (reportOf p ds) (reportOf p es)
+  -- any number of lists
+  pub all-joined : (p : Profile) (lists : List (List ℕ)) → reportOf p (allJoined lists) ≡ allAdded p lists
+  -- the report of no interval adds nothing
+  pub neutral-first : (p : Profile) (ds : List ℕ) → addReports (reportOf p []) (reportOf p ds) ≡ reportOf p ds
+  pub neutral-second : (p : Profile) (ds : List ℕ) → addReports (reportOf p ds) (reportOf p []) ≡ reportOf p ds
+  -- any two reports, also with what is turned away
+  pub commutative : (a b : Report) → (addRule a b ≡ addRule b a) × (added a b ≡ added b a)
+  -- any three, where nothing overflows
+  pub associative
+      : (a b c : Report) → addRule a b .number ≡ 0 → addRule (added a b) c .number ≡ 0 → Regrouped a b c
+  -- counts and sums are those of the whole list
+  pub counts : (p : Profile) (ds : List ℕ) → total (map countIn (reportOf p ds)) ≡ length ds
+  pub sums : (p : Profile) (ds : List ℕ) → total (map sumIn (reportOf p ds)) ≡ total ds
+  -- least and greatest are what they say
+  pub spanned : (ds : List ℕ) → Spanned ds (least ds) (greatest ds)
