@@ -9,6 +9,7 @@ pub mod locks;
 pub mod margins;
 pub mod merges;
 pub mod profiles;
+pub mod reports;
 pub mod sectors;
 pub mod settled;
 pub mod stretch;

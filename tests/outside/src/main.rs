@@ -78,6 +78,15 @@ fn library() {
     compare.group("sectors within the margin", 0x62, sectors::found_within_margin);
     compare.group("FIFO states", 0x70, fifo::every_state);
     compare.group("FIFO rows", 0x71, fifo::rows);
+    compare.group("report: figures by hand", 0x72, cases::reports::by_hand);
+    compare.group("report: limits", 0x73, cases::reports::limits);
+    compare.group("report: faults together", 0x74, cases::reports::faults);
+    compare.group("report: random lists", 0x75, cases::reports::random_lists);
+    compare.group("report: lists joined", 0x76, cases::reports::joined);
+    compare.group("report: an afternoon", 0x77, cases::reports::afternoon);
+    compare.group("report: sums about 2^64", 0x78, cases::reports::overflow);
+    compare.group("report: rows passed over", 0x79, cases::reports::passed_over);
+    compare.group("report: random rows", 0x7A, cases::reports::random_rows);
     compare.group("limits of the writer", 0x80, limits::written);
     compare.group("limits of the strip reader", 0x81, limits::read);
     compare.group("limits of the field reader", 0x82, limits::field);
@@ -103,6 +112,8 @@ fn check_coverage(compare: &Compare) {
     let orders: &[(&str, &[u32])] = &[
         ("ism_margin", &[0, 1, 2]),
         ("ism_class", &[0, 1, 2]),
+        ("ism_drive_report", &[0, 1, 2, 4]),
+        ("ism_add_reports", &[0, 4]),
         ("ism_write", &[0, 1, 2, 4, 3, 9]),
         ("ism_read", &[0, 1, 2, 4, 5, 6, 7, 8, 9]),
         ("ism_make_image", &[0, 4, 3, 9]),

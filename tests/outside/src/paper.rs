@@ -10,6 +10,7 @@ mod items;
 pub mod merge;
 mod profile;
 mod reading;
+pub mod report;
 mod sector;
 pub mod strip;
 
