@@ -36,6 +36,7 @@ use Rattle.demands.proofs.OrderLaws.{means-either, means-at, answers, f
 use Rattle.demands.proofs.OrderLaws.{not-answered}
 use Rattle.demands.proofs.ProfileOrder.{profile-in-turn, accepted-in-turn}
 use Rattle.demands.proofs.ReportOrder.{drive-report, report-sum}
+use Rattle.demands.proofs.ImageOrder.{image-maker, image-reader, image-output, image-items}
 use Rattle.demands.proofs.StopLaws.{edges-in-turn, stop-in-turn}
 use Rattle.demands.proofs.LentLaws.{writer-output, strip-output, field-output, maker-output}
 
@@ -169,8 +170,12 @@ demand-1 =
       maker = maker;
       drive-report = drive-report;
       report-sum = report-sum;
+      image-maker = image-maker;
+      image-reader = image-reader;
       writer-output = writer-output;
       strip-output = strip-output;
       field-output = field-output;
       maker-output = maker-output;
+      image-output = image-output;
+      image-items = image-items;
     }

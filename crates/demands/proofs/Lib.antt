@@ -1,6 +1,7 @@
 pub mod OrderLaws
 pub mod ProfileOrder
 pub mod ReportOrder
+pub mod ImageOrder
 pub mod UnreadLaws
 pub mod StopLaws
 pub mod LentLaws

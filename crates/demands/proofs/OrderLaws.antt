@@ -74,24 +74,19 @@ pub means-not : (t : Bool) → Means (not t) 0 (at0 (t ≡ false))
 means-not true = record { holds = λ e. absurd (false≢true e); fails = λ e k c. true≢false (c .0) }
 means-not false = record { holds = λ e. (refl, refl); fails = λ e. absurd (true≢false e) }
 
+-- one test or the other
+pub means-or
+    : {s t : Bool} {A B : Type 0} → Means s 0 (at0 A) → Means t 0 (at0 B) → Means (s || t) 0 (at0 (A ⊎ B))
+means-or {s = true} m n = record { holds = λ e. (inl (m .holds refl .0), refl); fails = λ e. absurd (true≢false e) }
+means-or {s = false} m n =
+    record {
+      holds = λ e. (inr (n .holds e .0), refl);
+      fails = λ e k c. ⊎-elim (λ a. m .fails refl 0 (a, refl)) (λ b. n .fails e 0 (b, refl)) (c .0);
+    }
+
 pub means-either
     : (a b c d : ℕ) → Means (ltb a b || ltb c d) 0 (at0 ((a < b) ⊎ (c < d)))
-means-either a b c d = split (ltb a b) (ltb c d) refl refl
-  where
-    split
-        : (s t : Bool) → ltb a b ≡ s → ltb c d ≡ t → Means (s || t) 0 (at0 ((a < b) ⊎ (c < d)))
-    split true t e f = record { holds = λ g. (inl (ltb-true a b e), refl); fails = λ g. absurd (true≢false g) }
-    split false true e f = record { holds = λ g. (inr (ltb-true c d f), refl); fails = λ g. absurd (true≢false g) }
-    split false false e f =
-        record {
-          holds = λ g. absurd (false≢true g);
-          fails =
-              λ g k h.
-              ⊎-elim
-              (λ l. let q = ltb-false a b e in omega arith)
-              (λ l. let q = ltb-false c d f in omega arith)
-              (h .0);
-        }
+means-either a b c d = means-or (means-below a b) (means-below c d)
 
 -- a test that has a place
 pub means-at : (t : Bool) (place : ℕ) → Means t place (λ k. (t ≡ true) × (k ≡ place))

@@ -6,6 +6,7 @@ use mathlib.Core.List.{List}
 use lib.ListN.{length}
 use Rattle.timing.specs.Class.{classesOf, classRule}
 use Rattle.timing.specs.declared.Profile.{Profile}
+use Rattle.items.specs.Written.{written}
 use Rattle.lengths.specs.Stream.{streamOf}
 use Rattle.lengths.specs.Margin.{marginRule}
 use Rattle.codec.specs.Writer.{writeRule, writeOutput}
@@ -15,9 +16,12 @@ use Rattle.fields.specs.Field.{fieldItems}
 use Rattle.fields.specs.FieldRule.{fieldRule, fieldOutput}
 use Rattle.sectors.specs.Sector.{sectorItems, sectorRule, sectorOutput}
 use Rattle.report.specs.Report.{Report, reportRule, addRule}
+use Rattle.images.specs.Image.{imageOf, bytesIn}
+use Rattle.images.specs.Rules.{makeRule, makeOutput, readRule as readImageRule, readOutput as readImageOutput}
 use Rattle.demands.specs.Order.{accept, Answers, Lent}
 use Rattle.demands.specs.Causes.{profileOrder, writerOrder, stripOrder, finderOrder, fieldOrder, makerOrder}
 use Rattle.demands.specs.ReportCauses.{reportOrder, addOrder}
+use Rattle.demands.specs.ImageCauses.{imageMakerOrder, imageReaderOrder}
 
 pub record Demand1 : Type 0 where
   -- refused first, and accepted then: every operation by its order
@@ -33,6 +37,8 @@ pub record Demand1 : Type 0 where
       → Answers (makerOrder track side sector code bytes room) (sectorRule track side sector code bytes room)
   pub drive-report : (p : Profile) (ds : List ℕ) → Answers (reportOrder p ds) (reportRule p ds)
   pub report-sum : (a b : Report) → Answers (addOrder a b) (addRule a b)
+  pub image-maker : (items : List ℕ) (room : ℕ) → Answers (imageMakerOrder items room) (makeRule items room)
+  pub image-reader : (words : List ℕ) (room : ℕ) → Answers (imageReaderOrder words room) (readImageRule words room)
   -- a refusal alters nothing the caller lent: every operation that lends a buffer
   pub writer-output
       : (p : Profile) (items old : List ℕ)
@@ -47,3 +53,8 @@ pub record Demand1 : Type 0 where
       : (track side sector code : ℕ) (bytes old : List ℕ)
       → Lent (sectorRule track side sector code bytes (length old)) (sectorItems track side sector code bytes) old
       (sectorOutput track side sector code bytes old)
+  pub image-output
+      : (items old : List ℕ) → Lent (makeRule items (length old)) (imageOf (written items)) old (makeOutput items old)
+  pub image-items
+      : (words old : List ℕ)
+      → Lent (readImageRule words (length old)) (bytesIn words) old (readImageOutput words old)

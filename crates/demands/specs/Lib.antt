@@ -1,6 +1,7 @@
 pub mod Order
 pub mod Causes
 pub mod ReportCauses
+pub mod ImageCauses
 pub mod Demand1
 pub mod Streams
 pub mod Demand2
