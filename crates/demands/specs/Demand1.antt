@@ -18,10 +18,14 @@ use Rattle.sectors.specs.Sector.{sectorItems, sectorRule, sectorOutput}
 use Rattle.report.specs.Report.{Report, reportRule, addRule}
 use Rattle.images.specs.Image.{imageOf, bytesIn}
 use Rattle.images.specs.Rules.{makeRule, makeOutput, readRule as readImageRule, readOutput as readImageOutput}
+use Rattle.merge.specs.Set.{setBytes, sectorsIn}
+use Rattle.merge.specs.Merge.{merged}
+use Rattle.merge.specs.Rule.{mergeRule, mergeAnswer, mergeOutput}
 use Rattle.demands.specs.Order.{accept, Answers, Lent}
 use Rattle.demands.specs.Causes.{profileOrder, writerOrder, stripOrder, finderOrder, fieldOrder, makerOrder}
 use Rattle.demands.specs.ReportCauses.{reportOrder, addOrder}
 use Rattle.demands.specs.ImageCauses.{imageMakerOrder, imageReaderOrder}
+use Rattle.demands.specs.MergeCauses.{mergeOrder, countedInBytes}
 
 pub record Demand1 : Type 0 where
   -- refused first, and accepted then: every operation by its order
@@ -39,6 +43,7 @@ pub record Demand1 : Type 0 where
   pub report-sum : (a b : Report) → Answers (addOrder a b) (addRule a b)
   pub image-maker : (items : List ℕ) (room : ℕ) → Answers (imageMakerOrder items room) (makeRule items room)
   pub image-reader : (words : List ℕ) (room : ℕ) → Answers (imageReaderOrder words room) (readImageRule words room)
+  pub merge : (first second : List ℕ) (room : ℕ) → Answers (mergeOrder first second room) (mergeRule first second room)
   -- a refusal alters nothing the caller lent: every operation that lends a buffer
   pub writer-output
       : (p : Profile) (items old : List ℕ)
@@ -58,3 +63,7 @@ pub record Demand1 : Type 0 where
   pub image-items
       : (words old : List ℕ)
       → Lent (readImageRule words (length old)) (bytesIn words) old (readImageOutput words old)
+  pub merge-output
+      : (first second old : List ℕ)
+      → Lent (countedInBytes (mergeAnswer first second (length old)))
+      (setBytes (merged (sectorsIn first) (sectorsIn second))) old (mergeOutput first second old)
