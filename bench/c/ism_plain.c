@@ -1,7 +1,13 @@
 /*
- * The contract of ism.h in plain C, as a baseline for the benchmark: no proof, no heap, one pass to check and one to
- * write. Functions are named plain_c_..; PLAIN_PREFIX gives them another prefix.
+ * The contract of ism.h in plain C, as a baseline for the benchmark: no proof, no heap, no table that a call builds
+ * beyond what depends on its profile. Functions are named plain_c_..; PLAIN_PREFIX gives them another prefix.
+ *
+ * A stream is seen as half cells, a clock and a data half cell for each bit, sixteen to a byte. A transition is a one.
+ * Half cell 0 is the first transition, the clock of the lead 0; half cell 1 is its data; byte k has the half cells from
+ * 16 k + 2. A cell of class c is c half cells, the last of them a one.
  */
+#include <limits.h>
+#include <stdbool.h>
 #include <string.h>
 
 #include "ism.h"
@@ -41,17 +47,16 @@ static uint32_t out_of_range(const ism_profile *p) {
     return 0;
 }
 
+static inline int32_t lesser(int32_t a, int32_t b) { return a < b ? a : b; }
+
 /* The margin, below 0 if the windows miss the cell lengths. */
 static int32_t least_distance(const ism_profile *p) {
     int32_t d = 2 * (p->late - p->early);
     int32_t two = p->t1, three = two + p->t0, four = three + p->t0;
-    int32_t distances[6] = {two - d - p->min,       p->b23 - 1 - two, three - p->b23,
-                            p->b34 - 1 - three - d, four - p->b34,    p->rpt - 1 - four - d};
-    int32_t least = distances[0];
-    for (int i = 1; i < 6; i++) {
-        if (distances[i] < least) least = distances[i];
-    }
-    return least;
+    int32_t class_2 = lesser(two - d - p->min, p->b23 - 1 - two);
+    int32_t class_3 = lesser(three - p->b23, p->b34 - 1 - three - d);
+    int32_t class_4 = lesser(four - p->b34, p->rpt - 1 - four - d);
+    return lesser(class_2, lesser(class_3, class_4));
 }
 
 /* The refusal of a profile; number 0 if it is accepted. */
@@ -62,12 +67,9 @@ static ism_answer check_profile(const ism_profile *p) {
     return counted(0);
 }
 
+/* The edges of a true profile ascend, so the class is one more than the number of edges that the interval reaches. */
 static inline unsigned classify(const ism_profile *p, uint16_t interval) {
-    if (interval < p->min) return ISM_CLASS_NARROW;
-    if (interval < p->b23) return ISM_CLASS_2;
-    if (interval < p->b34) return ISM_CLASS_3;
-    if (interval < p->rpt) return ISM_CLASS_4;
-    return ISM_CLASS_WIDE;
+    return ISM_CLASS_NARROW + (interval >= p->min) + (interval >= p->b23) + (interval >= p->b34) + (interval >= p->rpt);
 }
 
 ism_answer NAME(margin)(ism_profile profile) {
@@ -84,315 +86,608 @@ ism_answer NAME(class)(ism_profile profile, uint16_t interval) {
 
 /* ---------------------------------------------------------------------------------------------- items and register */
 
-static const uint16_t crc_table[256] = {
-    0x0000, 0x1021, 0x2042, 0x3063, 0x4084, 0x50A5, 0x60C6, 0x70E7, 0x8108, 0x9129, 0xA14A, 0xB16B, 0xC18C, 0xD1AD,
-    0xE1CE, 0xF1EF, 0x1231, 0x0210, 0x3273, 0x2252, 0x52B5, 0x4294, 0x72F7, 0x62D6, 0x9339, 0x8318, 0xB37B, 0xA35A,
-    0xD3BD, 0xC39C, 0xF3FF, 0xE3DE, 0x2462, 0x3443, 0x0420, 0x1401, 0x64E6, 0x74C7, 0x44A4, 0x5485, 0xA56A, 0xB54B,
-    0x8528, 0x9509, 0xE5EE, 0xF5CF, 0xC5AC, 0xD58D, 0x3653, 0x2672, 0x1611, 0x0630, 0x76D7, 0x66F6, 0x5695, 0x46B4,
-    0xB75B, 0xA77A, 0x9719, 0x8738, 0xF7DF, 0xE7FE, 0xD79D, 0xC7BC, 0x48C4, 0x58E5, 0x6886, 0x78A7, 0x0840, 0x1861,
-    0x2802, 0x3823, 0xC9CC, 0xD9ED, 0xE98E, 0xF9AF, 0x8948, 0x9969, 0xA90A, 0xB92B, 0x5AF5, 0x4AD4, 0x7AB7, 0x6A96,
-    0x1A71, 0x0A50, 0x3A33, 0x2A12, 0xDBFD, 0xCBDC, 0xFBBF, 0xEB9E, 0x9B79, 0x8B58, 0xBB3B, 0xAB1A, 0x6CA6, 0x7C87,
-    0x4CE4, 0x5CC5, 0x2C22, 0x3C03, 0x0C60, 0x1C41, 0xEDAE, 0xFD8F, 0xCDEC, 0xDDCD, 0xAD2A, 0xBD0B, 0x8D68, 0x9D49,
-    0x7E97, 0x6EB6, 0x5ED5, 0x4EF4, 0x3E13, 0x2E32, 0x1E51, 0x0E70, 0xFF9F, 0xEFBE, 0xDFDD, 0xCFFC, 0xBF1B, 0xAF3A,
-    0x9F59, 0x8F78, 0x9188, 0x81A9, 0xB1CA, 0xA1EB, 0xD10C, 0xC12D, 0xF14E, 0xE16F, 0x1080, 0x00A1, 0x30C2, 0x20E3,
-    0x5004, 0x4025, 0x7046, 0x6067, 0x83B9, 0x9398, 0xA3FB, 0xB3DA, 0xC33D, 0xD31C, 0xE37F, 0xF35E, 0x02B1, 0x1290,
-    0x22F3, 0x32D2, 0x4235, 0x5214, 0x6277, 0x7256, 0xB5EA, 0xA5CB, 0x95A8, 0x8589, 0xF56E, 0xE54F, 0xD52C, 0xC50D,
-    0x34E2, 0x24C3, 0x14A0, 0x0481, 0x7466, 0x6447, 0x5424, 0x4405, 0xA7DB, 0xB7FA, 0x8799, 0x97B8, 0xE75F, 0xF77E,
-    0xC71D, 0xD73C, 0x26D3, 0x36F2, 0x0691, 0x16B0, 0x6657, 0x7676, 0x4615, 0x5634, 0xD94C, 0xC96D, 0xF90E, 0xE92F,
-    0x99C8, 0x89E9, 0xB98A, 0xA9AB, 0x5844, 0x4865, 0x7806, 0x6827, 0x18C0, 0x08E1, 0x3882, 0x28A3, 0xCB7D, 0xDB5C,
-    0xEB3F, 0xFB1E, 0x8BF9, 0x9BD8, 0xABBB, 0xBB9A, 0x4A75, 0x5A54, 0x6A37, 0x7A16, 0x0AF1, 0x1AD0, 0x2AB3, 0x3A92,
-    0xFD2E, 0xED0F, 0xDD6C, 0xCD4D, 0xBDAA, 0xAD8B, 0x9DE8, 0x8DC9, 0x7C26, 0x6C07, 0x5C64, 0x4C45, 0x3CA2, 0x2C83,
-    0x1CE0, 0x0CC1, 0xEF1F, 0xFF3E, 0xCF5D, 0xDF7C, 0xAF9B, 0xBFBA, 0x8FD9, 0x9FF8, 0x6E17, 0x7E36, 0x4E55, 0x5E74,
-    0x2E93, 0x3EB2, 0x0ED1, 0x1EF0,
-};
+#define ALL_ONES 0xFFFFu
 
-static inline uint16_t crc_step(uint16_t crc, unsigned byte) {
-    return (uint16_t)((crc << 8) ^ crc_table[(crc >> 8) ^ byte]);
+static inline bool is_mark(uint16_t item) { return item == ISM_MARK_A1 || item == ISM_MARK_C2; }
+
+static inline bool is_item(uint16_t item) { return (item < 256) | is_mark(item) | (item == ISM_CHECK); }
+
+/*
+ * The CRC register after 64 bits, which begin with the register itself: the remainder of t x^16 by
+ * x^16 + x^12 + x^5 + 1. The quotient satisfies q = t ^ q >> 4 ^ q >> 11 ^ q >> 16, so it is t times
+ * 1 / (1 + s4 + s11 + s16), where s4 is the shift by 4 and so on. Over bits squaring only doubles the exponents, so
+ * that is (1 + s4 + s11 + s16)(1 + s8 + s22 + s32)(1 + s16 + s44)(1 + s32); shifts by 64 or more give nothing.
+ */
+static inline uint16_t remainder_of(uint64_t t) {
+    t ^= t >> 32;
+    t ^= t >> 16 ^ t >> 44;
+    t ^= t >> 8 ^ t >> 22 ^ t >> 32;
+    t ^= t >> 4 ^ t >> 11 ^ t >> 16;
+    return (uint16_t)(t ^ t << 5 ^ t << 12);
 }
 
-static inline int is_mark(uint16_t item) { return item == ISM_MARK_A1 || item == ISM_MARK_C2; }
+static inline uint64_t first_highest(const uint8_t *bytes) {
+    return (uint64_t)bytes[0] << 56 | (uint64_t)bytes[1] << 48 | (uint64_t)bytes[2] << 40 | (uint64_t)bytes[3] << 32 |
+           (uint64_t)bytes[4] << 24 | (uint64_t)bytes[5] << 16 | (uint64_t)bytes[6] << 8 | (uint64_t)bytes[7];
+}
 
-static inline int is_item(uint16_t item) { return item < 256 || is_mark(item) || item == ISM_CHECK; }
+/* The register after the bytes of the items, eight at a time. */
+static uint16_t crc_after(uint16_t crc, const uint16_t *items, size_t n) {
+    uint8_t bytes[64];
+    size_t i = 0;
+    for (; n - i >= sizeof bytes; i += sizeof bytes) {
+        for (size_t k = 0; k < sizeof bytes; k++) bytes[k] = (uint8_t)items[i + k];
+        for (size_t k = 0; k < sizeof bytes; k += 8) crc = remainder_of(first_highest(bytes + k) ^ (uint64_t)crc << 48);
+    }
+    for (; n - i >= 8; i += 8) {
+        for (size_t k = 0; k < 8; k++) bytes[k] = (uint8_t)items[i + k];
+        crc = remainder_of(first_highest(bytes) ^ (uint64_t)crc << 48);
+    }
+    for (; i < n; i++) crc = (uint16_t)(crc << 8) ^ remainder_of((items[i] & 0xFF) ^ crc >> 8);
+    return crc;
+}
 
-/* The CRC register with what it must know of the byte before. */
-struct crc_state {
-    uint16_t crc;
-    uint16_t after_mark;
-};
+static inline unsigned any_bit_of_eight(const uint16_t *items) {
+    return (unsigned)(items[0] | items[1] | items[2] | items[3] | items[4] | items[5] | items[6] | items[7]);
+}
 
-static inline void crc_pass(struct crc_state *s, unsigned byte, unsigned mark) {
-    if (mark && !s->after_mark) s->crc = 0xFFFF;
-    s->after_mark = (uint16_t)mark;
-    s->crc = crc_step(s->crc, byte);
+/*
+ * The register after items `from` to `to` of a list, which hold no check order; `from` is the start of the list or
+ * follows one. Only the last reset counts: it stands before the first of the last marks that follow each other.
+ */
+static uint16_t register_after(uint16_t crc, const uint16_t *items, size_t from, size_t to) {
+    size_t start = to;
+    while (start - from >= 8 && any_bit_of_eight(items + start - 8) < ISM_MARK) start -= 8;
+    while (start > from && items[start - 1] < ISM_MARK) start--;
+    if (start == from) return crc_after(crc, items + from, to - from);
+    while (start > from && items[start - 1] >= ISM_MARK) start--;
+    return crc_after(ALL_ONES, items + start, to - start);
 }
 
 /* --------------------------------------------------------------------------------------------------------- writer */
 
 /*
- * Cells leave one behind: the compare point at the end of a cell depends on whether the next cell has zeros. `out` is
- * null while cells are only counted.
+ * Bits become cells by what stands around them. A bit has a transition unless it is a 0 behind a 1. The cell that ends
+ * there depends on three bits before and one behind: bits that differ are what makes a cell longer than 2 units. So a
+ * window of five bits has the cell that ends in its fourth, and a window of eight bits, three before, four and one
+ * behind, the cells that end in its four middle bits.
  */
+#define BIT(window, shift) ((window) >> (shift)&1)
+#define CELL_ENDS(window, shift) (((window) >> (shift)&3) != 2)
+#define ZEROS_BEFORE(w) (BIT(w, 2) ? !BIT(w, 3) : BIT(w, 4) ^ BIT(w, 3)) /* some or none, in the cell before */
+#define ZEROS(w) (BIT(w, 2) ? 0 : BIT(w, 3) + BIT(w, 1))
+#define LENGTH_INDEX(w) (6 * ZEROS_BEFORE(w) + 2 * ZEROS(w) + (BIT(w, 1) ^ BIT(w, 0)))
+#define CELLS_IN(w) (CELL_ENDS(w, 4) + CELL_ENDS(w, 3) + CELL_ENDS(w, 2) + CELL_ENDS(w, 1))
+#define FOR_4(of, w) of(w), of((w) + 1), of((w) + 2), of((w) + 3)
+#define FOR_16(of, w) FOR_4(of, w), FOR_4(of, (w) + 4), FOR_4(of, (w) + 8), FOR_4(of, (w) + 12)
+#define FOR_64(of, w) FOR_16(of, w), FOR_16(of, (w) + 16), FOR_16(of, (w) + 32), FOR_16(of, (w) + 48)
+
+static const uint8_t length_index[32] = {FOR_16(LENGTH_INDEX, 0), FOR_16(LENGTH_INDEX, 16)};
+static const uint8_t cells_in[256] = {FOR_64(CELLS_IN, 0), FOR_64(CELLS_IN, 64), FOR_64(CELLS_IN, 128),
+                                      FOR_64(CELLS_IN, 192)};
+
+#define LEAD 0x400u /* what stands before the first byte: a 0 that is no part of a byte */
+#define FEW 128u    /* up to so many bytes the table of eight bits costs more than it saves */
+
 struct cell_writer {
-    int32_t nominal[3];  /* length of a cell by its zeros, without precompensation */
-    int32_t point[2][2]; /* twice the compare point, by zeros before and zeros after the transition */
+    uint16_t length[12];    /* 6 x zeros in the cell before, 2 x zeros, zeros in the cell behind; ends: none or some */
+    uint16_t one[32];       /* by window of five bits: the length of its cell */
+    uint16_t cells[256][4]; /* by window of eight bits: the lengths of its cells, the first cells_in of them */
+    bool few;               /* without `cells` */
     uint16_t *out;
-    size_t count;    /* cells finished */
-    int32_t pending; /* zeros of the last cell, whose end is not yet known; below 0 before the first */
-    int32_t start;   /* twice the compare point at its start */
-    unsigned last_bit;
-    int32_t zeros; /* zeros of the cell that is growing */
+    unsigned last; /* the byte whose second half waits for the bit behind it */
 };
 
-static void start_writer(struct cell_writer *w, const ism_profile *p, uint16_t *out) {
-    for (int zeros = 0; zeros < 3; zeros++) w->nominal[zeros] = p->t1 + zeros * p->t0;
-    w->point[0][0] = w->point[1][1] = 2 * p->normal;
-    w->point[0][1] = 2 * p->early;
-    w->point[1][0] = 2 * p->late;
-    w->out = out;
-    w->count = 0;
-    w->pending = -1;
-    w->start = 0;
-    w->last_bit = 0;
-    w->zeros = 0;
+static inline uint16_t length(const struct cell_writer *w, unsigned before, unsigned zeros, unsigned behind) {
+    return w->length[6 * before + 2 * zeros + behind];
 }
 
-/* A transition after `zeros` zeros. */
-static inline void end_cell(struct cell_writer *w, int32_t zeros) {
-    int32_t point = w->point[w->pending > 0][zeros > 0];
-    if (w->pending >= 0) {
-        if (w->out) w->out[w->count] = (uint16_t)(w->nominal[w->pending] + point - w->start);
-        w->count++;
-    }
-    w->start = point;
-    w->pending = zeros;
+static void set_lengths(struct cell_writer *w, const ism_profile *p) {
+    const int32_t point[2][2] = {{2 * p->normal, 2 * p->early}, {2 * p->late, 2 * p->normal}};
+    uint16_t *at = w->length;
+    for (int before = 0; before < 2; before++)
+        for (int zeros = 0; zeros < 3; zeros++)
+            for (int behind = 0; behind < 2; behind++)
+                *at++ = (uint16_t)(p->t1 + zeros * p->t0 + point[zeros > 0][behind] - point[before][zeros > 0]);
+    for (unsigned v = 0; v < 32; v++) w->one[v] = w->length[length_index[v]];
 }
 
-static inline void write_bit(struct cell_writer *w, unsigned bit) {
-    if (w->last_bit) {
-        if (bit) {
-            end_cell(w, w->zeros);
-            w->zeros = 0;
-        } else {
-            w->zeros++;
+/* Cells of two bits and of four: the cells of the second half stand behind those of the first. */
+static void set_cells(struct cell_writer *w) {
+    uint16_t two[64][2];
+    for (unsigned first = 0; first < 32; first++) {
+        for (unsigned v = 2 * first; v < 2 * first + 2; v++) {
+            two[v][0] = two[v][1] = w->one[first];
+            two[v][CELL_ENDS(first, 1)] = w->one[v & 31];
         }
-    } else {
-        end_cell(w, w->zeros + (int32_t)bit);
-        w->zeros = 0;
     }
-    w->last_bit = bit;
-}
-
-/* `gap` is the bit, from the most significant, at which the transition before it is left out; 8 for none. */
-static inline void write_byte(struct cell_writer *w, unsigned byte, unsigned gap) {
-    for (unsigned i = 0; i < 8; i++) {
-        if (i == gap) {
-            w->zeros += 2;
-            w->last_bit = 0;
-        } else {
-            write_bit(w, (byte >> (7 - i)) & 1);
+    for (unsigned first = 0; first < 64; first++) {
+        unsigned cells_in_first = CELL_ENDS(first, 2) + CELL_ENDS(first, 1);
+        for (unsigned v = 4 * first; v < 4 * first + 4; v++) {
+            memcpy(w->cells[v], two[first], sizeof two[0]);
+            memcpy(w->cells[v] + cells_in_first, two[v & 63], sizeof two[0]);
         }
     }
 }
 
-static inline unsigned gap_of(uint16_t item) { return item == ISM_MARK_A1 ? 5 : item == ISM_MARK_C2 ? 4 : 8; }
+/* The cells of a window; up to four places are filled. */
+static inline uint16_t *put_window(const struct cell_writer *w, bool few, uint16_t *out, unsigned window) {
+    if (!few) {
+        memcpy(out, w->cells[window & 0xFF], sizeof w->cells[0]);
+        return out + cells_in[window & 0xFF];
+    }
+    for (int shift = 3; shift >= 0; shift--) {
+        *out = w->one[window >> shift & 31];
+        out += CELL_ENDS(window, shift + 1);
+    }
+    return out;
+}
 
-/* Runs the items, all of them accepted, through register and cells; the number of cells. */
-static size_t write_items(const ism_profile *p, const uint16_t *items, size_t n, uint16_t *out) {
-    struct cell_writer w;
-    struct crc_state s = {0xFFFF, 0};
-    start_writer(&w, p, out);
+/* The second half of a byte: of a mark, whose left out clock makes a cell of 4 units, or as its window says. */
+static uint16_t *put_second_half(const struct cell_writer *w, uint16_t *out, unsigned byte, unsigned next) {
+    if (byte < 256) return put_window(w, w->few, out, byte << 1 | next >> 7);
+    if (byte == LEAD) return out;
+    if (byte == ISM_MARK_A1) *out++ = length(w, 1, 1, 1);
+    *out++ = length(w, 1, 2, 1);
+    *out++ = length(w, 1, 1, byte == ISM_MARK_A1 ? next < 128 : 1);
+    return out;
+}
+
+/* A byte that is a mark or follows one or the lead. In C2 the cell behind the first half is the one of 4 units. */
+static uint16_t *put_beside_mark(const struct cell_writer *w, uint16_t *out, unsigned last, unsigned byte) {
+    out = put_second_half(w, out, last, byte & 0xFF);
+    out = put_window(w, w->few, out, (last << 8 | (byte & 0xFF)) >> 3);
+    if (byte == ISM_MARK_C2) out[-1] = length(w, 0, 1, 1);
+    return out;
+}
+
+/*
+ * Bytes, data or marks. Four places are filled for every half byte. What goes beyond its cells is still of this
+ * stream: at least two cells of the last half byte and the closing one are to come.
+ */
+static inline void put_bytes(struct cell_writer *w, bool few, const uint16_t *bytes, size_t n) {
+    uint16_t *out = w->out;
+    unsigned last = w->last;
     for (size_t i = 0; i < n; i++) {
-        if (items[i] == ISM_CHECK) {
-            unsigned crc = s.crc;
-            for (int shift = 8; shift >= 0; shift -= 8) {
-                write_byte(&w, (crc >> shift) & 0xFF, 8);
-                crc_pass(&s, (crc >> shift) & 0xFF, 0);
-            }
+        unsigned byte = bytes[i], bits = last << 8 | byte;
+        if ((last | byte) > 0xFF) {
+            out = put_beside_mark(w, out, last, byte);
         } else {
-            write_byte(&w, items[i] & 0xFF, gap_of(items[i]));
-            crc_pass(&s, items[i] & 0xFF, items[i] >= ISM_MARK);
+            out = put_window(w, few, out, bits >> 7);
+            out = put_window(w, few, out, bits >> 3);
         }
+        last = byte;
     }
-    write_bit(&w, 0);
-    write_bit(&w, 0);
-    end_cell(&w, 0);
-    return w.count;
+    w->out = out;
+    w->last = last;
+}
+
+/* The last half byte and the closing 0s, whose cells are exactly counted. */
+static void close_cells(struct cell_writer *w) {
+    uint16_t cells[8];
+    uint16_t *end = put_second_half(w, cells, w->last, 0);
+    put_window(w, w->few, end, w->last << 5);
+    end += w->last & 1 ? 1 : 2;
+    memcpy(w->out, cells, (size_t)(end - cells) * sizeof *cells);
+    w->out += end - cells;
+}
+
+/* The written bytes of a list, in stretches: those up to the next check order, then its two bytes. */
+struct stretches {
+    const uint16_t *items;
+    size_t n, at;
+    size_t checks; /* check orders from `at` on */
+    uint16_t crc;  /* register at `at` */
+    uint16_t check[2];
+};
+
+static struct stretches stretches_of(const uint16_t *items, size_t n, size_t checks) {
+    struct stretches s = {items, n, 0, checks, ALL_ONES, {0, 0}};
+    return s;
+}
+
+/* The next stretch; it is empty at the end. After its own two bytes the register is 0. */
+static size_t next_stretch(struct stretches *s, const uint16_t **bytes) {
+    size_t from = s->at, to = s->n;
+    if (from < to && s->items[from] == ISM_CHECK) {
+        s->check[0] = s->crc >> 8;
+        s->check[1] = s->crc & 0xFF;
+        s->crc = 0;
+        s->checks--;
+        s->at++;
+        *bytes = s->check;
+        return 2;
+    }
+    if (s->checks > 0) {
+        for (to = from; s->items[to] != ISM_CHECK;) to++;
+        s->crc = register_after(s->crc, s->items, from, to);
+    }
+    *bytes = s->items + from;
+    s->at = to;
+    return to - from;
+}
+
+static inline uint16_t bits_without_cell_in(unsigned before, unsigned byte) {
+    unsigned falls = (before << 7 | (byte & 0xFF) >> 1) & ~byte & 0xFF;
+    falls = (falls & 0x55) + (falls >> 1 & 0x55);
+    falls = (falls & 0x33) + (falls >> 2 & 0x33);
+    return (uint16_t)((falls & 15) + (falls >> 4) + (byte >> 8));
+}
+
+/* Bits in which no cell ends: a 0 behind a 1, and the left out clock of a mark. */
+static size_t bits_without_cell(unsigned last, const uint16_t *bytes, size_t n) {
+    uint16_t total = bits_without_cell_in(last, bytes[0]);
+    for (size_t i = 1; i < n; i++) total = (uint16_t)(total + bits_without_cell_in(bytes[i - 1], bytes[i]));
+    return total;
+}
+
+static size_t count_cells(struct stretches s, size_t written) {
+    size_t n, without = 0;
+    const uint16_t *bytes;
+    unsigned last = 0;
+    while ((n = next_stretch(&s, &bytes)) > 0) {
+        without += bits_without_cell(last, bytes, n);
+        last = bytes[n - 1];
+    }
+    return 8 * written + 2 - without - (last & 1);
+}
+
+static size_t write_cells(const ism_profile *p, struct stretches s, size_t written, uint16_t *out) {
+    struct cell_writer w;
+    size_t n;
+    const uint16_t *bytes;
+    set_lengths(&w, p);
+    w.few = written <= FEW;
+    if (!w.few) set_cells(&w);
+    w.out = out;
+    w.last = LEAD;
+    while ((n = next_stretch(&s, &bytes)) > 0) {
+        if (w.few)
+            put_bytes(&w, true, bytes, n);
+        else
+            put_bytes(&w, false, bytes, n);
+    }
+    close_cells(&w);
+    return (size_t)(w.out - out);
+}
+
+static size_t lowest_foreign(const uint16_t *items) {
+    size_t place = 0;
+    while (is_item(items[place])) place++;
+    return place;
 }
 
 ism_answer NAME(write)(ism_profile profile, const uint16_t *items, size_t n, uint16_t *out, size_t room) {
     ism_answer verdict = check_profile(&profile);
     if (verdict.number != ISM_ACCEPTED) return verdict;
     if (n > ISM_MAX_BYTES) return refused(ISM_OVERLONG, 0);
-    size_t bytes = n, foreign = n;
+    uint16_t checks = 0, foreign = 0;
     for (size_t i = 0; i < n; i++) {
-        bytes += items[i] == ISM_CHECK;
-        if (foreign == n && !is_item(items[i])) foreign = i;
+        checks = (uint16_t)(checks + (items[i] == ISM_CHECK));
+        foreign |= !is_item(items[i]);
     }
-    if (bytes > ISM_MAX_BYTES) return refused(ISM_OVERLONG, 0);
-    if (foreign < n) return refused(ISM_FOREIGN, foreign);
-    if (room < 8 * bytes + 2 && room < write_items(&profile, items, n, 0)) return refused(ISM_FULL, 0);
-    return counted(write_items(&profile, items, n, out));
+    size_t written = n + checks;
+    if (written > ISM_MAX_BYTES) return refused(ISM_OVERLONG, 0);
+    if (foreign) return refused(ISM_FOREIGN, lowest_foreign(items));
+    struct stretches s = stretches_of(items, n, checks);
+    if (room < 8 * written + 2 && room < count_cells(s, written)) return refused(ISM_FULL, 0);
+    return counted(write_cells(&profile, s, written, out));
 }
 
 /* -------------------------------------------------------------------------------------------------------- readers */
 
-#define NO_PLACE SIZE_MAX
+#define BLOCK 64u
 
-/* Bits as they become known; the lead 0 is the first of them. */
-struct bit_reader {
-    size_t known;     /* bits known */
-    unsigned last;    /* the last of them */
-    unsigned byte;    /* bits of the byte that is growing */
-    unsigned gap;     /* bit at which a mark's gap starts in that byte, 8 for none */
-    size_t gap_place; /* the interval that gave it */
-    size_t stray;     /* lowest interval with a gap out of place */
+/*
+ * The zeros of the cells of a block, and whether all intervals are in the windows. The edges are below 32,768, and an
+ * interval that is not is in no window, so signed compares do.
+ */
+static inline bool zeros_of(const ism_profile *p, const uint16_t *intervals, size_t n, uint16_t *zeros) {
+    int16_t b23 = (int16_t)p->b23, b34 = (int16_t)p->b34;
+    uint16_t min = p->min, width = (uint16_t)(p->rpt - min), outside = 0;
+    for (size_t i = 0; i < n; i++) {
+        int16_t interval = (int16_t)intervals[i];
+        zeros[i] = (uint16_t)((interval >= b23) + (interval >= b34));
+        outside |= (uint16_t)(intervals[i] - min) >= width;
+    }
+    return !outside;
+}
+
+/* The first interval of a block that is narrow or wide. */
+static size_t lowest_outside(const ism_profile *p, const uint16_t *intervals) {
+    size_t place = 0;
+    while (intervals[place] >= p->min && intervals[place] < p->rpt) place++;
+    return place;
+}
+
+static ism_answer refused_outside(const ism_profile *p, const uint16_t *intervals, size_t place) {
+    return refused(intervals[place] < p->min ? ISM_NARROW : ISM_WIDE, place);
+}
+
+/* Four cells with a, b, c, d zeros: their half cells and how many these are. */
+#define FOUR(a, b, c, d)                                                                                               \
+    { 1 << (6 + (b) + (c) + (d)) | 1 << (4 + (c) + (d)) | 1 << (2 + (d)) | 1, 8 + (a) + (b) + (c) + (d) }
+#define FOUR_3(a, b, c) FOUR(a, b, c, 0), FOUR(a, b, c, 1), FOUR(a, b, c, 2)
+#define FOUR_9(a, b) FOUR_3(a, b, 0), FOUR_3(a, b, 1), FOUR_3(a, b, 2)
+#define FOUR_27(a) FOUR_9(a, 0), FOUR_9(a, 1), FOUR_9(a, 2)
+
+static const struct { uint16_t half_cells, count; } four_cells[81] = {FOUR_27(0), FOUR_27(1), FOUR_27(2)};
+
+/*
+ * Half cells as they become known, to words of sixteen. Word 0 ends with the lead 0, so that word k is the k-th byte's
+ * from 1; up to two words beyond `whole` may be overwritten.
+ */
+struct word_reader {
+    uint16_t *words;
+    size_t whole;        /* words that are whole */
+    uint64_t half_cells; /* the newest are the lowest */
+    unsigned behind;     /* half cells behind the whole words */
 };
 
-static void start_reader(struct bit_reader *r) {
-    r->known = 0;
-    r->last = 0;
-    r->byte = 0;
-    r->gap = 8;
-    r->gap_place = NO_PLACE;
-    r->stray = NO_PLACE;
+static struct word_reader reader_into(uint16_t *words) {
+    struct word_reader r = {words, 0, 1, 15};
+    return r;
 }
 
-/* Adds a bit; 0 to 0x1FF is the item of the byte that it completes, -1 stands for none. */
-static inline int add_bit(struct bit_reader *r, unsigned bit) {
-    r->byte = r->byte << 1 | bit;
-    r->last = bit;
-    r->known++;
-    if (r->known % 8 != 1 || r->known == 1) return -1;
-    unsigned byte = r->byte & 0xFF, gap = r->gap;
-    if (gap == 8) return (int)byte;
-    r->gap = 8;
-    if ((byte == 0xA1 && gap == 4) || (byte == 0xC2 && gap == 3)) return (int)(ISM_MARK | byte);
-    if (r->stray == NO_PLACE) r->stray = r->gap_place;
-    return (int)byte;
+/* Half cells since the first transition. */
+static inline size_t known(const struct word_reader *r) { return 16 * r->whole + r->behind - 15; }
+
+/* The product has 27 a + 9 b + 3 c + d in its highest sixteen bits; nothing below carries. */
+static inline void add_four(struct word_reader *r, const uint16_t *zeros) {
+    uint64_t all = zeros[0] | (uint64_t)zeros[1] << 16 | (uint64_t)zeros[2] << 32 | (uint64_t)zeros[3] << 48;
+    uint64_t index = all * 0x001B000900030001 >> 48;
+    unsigned count = four_cells[index].count;
+    r->half_cells = r->half_cells << count | four_cells[index].half_cells;
+    r->behind += count;
 }
 
-/* A mark's gap is about to give two 0s. Behind a first gap in its place no second fits into the same byte. */
-static inline void note_gap(struct bit_reader *r, size_t place) {
-    if (r->known == 0) {
-        if (r->stray == NO_PLACE) r->stray = place;
-    } else if (r->gap == 8) {
-        r->gap = (unsigned)(r->known - 1) % 8;
-        r->gap_place = place;
+/* Eight cells, 16 to 32 half cells, make one word whole or two. */
+static inline void add_eight(struct word_reader *r, const uint16_t *zeros) {
+    add_four(r, zeros);
+    add_four(r, zeros + 4);
+    uint64_t words = r->half_cells << (64 - r->behind);
+    r->words[r->whole] = (uint16_t)(words >> 48);
+    r->words[r->whole + 1] = (uint16_t)(words >> 32);
+    r->whole += r->behind >> 4;
+    r->behind &= 15;
+}
+
+static inline void add_one(struct word_reader *r, unsigned zeros) {
+    r->half_cells = r->half_cells << (2 + zeros) | 1;
+    r->behind += 2 + zeros;
+    r->words[r->whole] = (uint16_t)(r->half_cells << 16 >> r->behind);
+    r->whole += r->behind >> 4;
+    r->behind &= 15;
+}
+
+static inline void add_block(struct word_reader *r, const uint16_t *zeros, size_t n) {
+    size_t i = 0;
+    for (; n - i >= 8; i += 8) add_eight(r, zeros + i);
+    for (; i < n; i++) add_one(r, zeros[i]);
+}
+
+#define WORD_A1 0x4489u
+#define WORD_C2 0x5224u
+#define DATA 0x5555u
+#define CLOCKS 0xAAAAu
+
+/*
+ * The clocks that a word lacks: those beside which both bits are 0, the one before and its own. Where cells have two
+ * units or more, no clock is there too much.
+ */
+static inline uint16_t missing_clocks(uint16_t before, uint16_t word) {
+    return (uint16_t) ~((uint16_t)(word << 1) | word | word >> 1 | (uint16_t)(before << 15)) & CLOCKS;
+}
+
+static inline bool is_mark_word(uint16_t word) { return (word == WORD_A1) | (word == WORD_C2); }
+
+/* Whether a word lacks a clock that is not its mark's. */
+static bool any_stray(const uint16_t *words, size_t n) {
+    uint16_t stray = 0;
+    for (size_t k = 1; k <= n; k++) {
+        uint16_t missing = missing_clocks(words[k - 1], words[k]);
+        if (words[k] == WORD_A1) missing = 0;
+        if (words[k] == WORD_C2) missing = 0;
+        stray |= missing;
+    }
+    return stray != 0;
+}
+
+static inline unsigned ones_in(unsigned word) {
+    word -= word >> 1 & 0x5555;
+    word = (word & 0x3333) + (word >> 2 & 0x3333);
+    word = (word + (word >> 4)) & 0x0F0F;
+    return (word + (word >> 8)) & 0x1F;
+}
+
+/* The interval over the first clock that is missing without a mark: as many intervals as ones stand before it. */
+static size_t lowest_stray(const uint16_t *words) {
+    size_t k = 1, place = 0;
+    while (is_mark_word(words[k]) || missing_clocks(words[k - 1], words[k]) == 0) k++;
+    for (size_t i = 1; i < k; i++) place += ones_in(words[i]);
+    unsigned missing = missing_clocks(words[k - 1], words[k]), shift = 16;
+    while (missing < 1u << shift) shift--;
+    return place + ones_in(words[k] >> shift);
+}
+
+static void items_of(const uint16_t *words, size_t n, uint16_t *out) {
+    for (size_t k = 1; k <= n; k++) {
+        uint16_t data = words[k] & DATA;
+        data = (data | data >> 1) & 0x3333;
+        data = (data | data >> 2) & 0x0F0F;
+        data = (data | data >> 4) & 0x00FF;
+        out[k - 1] = (uint16_t)(data | (is_mark_word(words[k]) ? ISM_MARK : 0));
     }
 }
 
-/* Takes an interval of class 2, 3 or 4; the item that it completes or -1. */
-static inline int add_interval(struct bit_reader *r, unsigned class, size_t place) {
-    if (class == ISM_CLASS_2) return add_bit(r, r->last);
-    if (class == ISM_CLASS_3 && r->last) return add_bit(r, 0);
-    unsigned second = 1;
-    if (class == ISM_CLASS_4 && !r->last) {
-        note_gap(r, place);
-        second = 0;
+/* The words of a strip; a refusal if an interval is narrow or wide. Words over the limit are counted, not kept. */
+static ism_answer strip_words(const ism_profile *p, const uint16_t *intervals, size_t n, struct word_reader *r) {
+    size_t beyond = 0;
+    for (size_t i = 0; i < n; i += BLOCK) {
+        uint16_t zeros[BLOCK];
+        size_t count = n - i < BLOCK ? n - i : BLOCK;
+        bool inside =
+            count == BLOCK ? zeros_of(p, intervals + i, BLOCK, zeros) : zeros_of(p, intervals + i, count, zeros);
+        if (!inside) return refused_outside(p, intervals, i + lowest_outside(p, intervals + i));
+        add_block(r, zeros, count);
+        if (r->whole > ISM_MAX_BYTES + 1) {
+            beyond += r->whole - 1;
+            r->whole = 1;
+        }
     }
-    int item = add_bit(r, 0);
-    int other = add_bit(r, second);
-    return item >= 0 ? item : other;
+    r->whole += beyond;
+    return counted(0);
 }
 
-static uint32_t refusal_of_class(unsigned class) {
-    return class == ISM_CLASS_NARROW ? ISM_NARROW : class == ISM_CLASS_WIDE ? ISM_WIDE : 0;
-}
-
-/* Writes the first `bytes` items of intervals that were checked. */
-static void write_read_items(const ism_profile *p, const uint16_t *intervals, size_t bytes, uint16_t *out) {
-    struct bit_reader r;
-    start_reader(&r);
-    for (size_t i = 0, count = 0; count < bytes; i++) {
-        int item = add_interval(&r, classify(p, intervals[i]), i);
-        if (item >= 0) out[count++] = (uint16_t)item;
-    }
-}
-
+/* A strip of n bytes has 16 n + 4 half cells: the lead 0's data, the words, and closing clock, data and clock. */
 ism_answer NAME(read)(ism_profile profile, const uint16_t *intervals, size_t n, uint16_t *out, size_t room) {
     ism_answer verdict = check_profile(&profile);
     if (verdict.number != ISM_ACCEPTED) return verdict;
     if (n > ISM_MAX_INTERVALS) return refused(ISM_OVERLONG, 0);
-    struct bit_reader r;
-    start_reader(&r);
-    for (size_t i = 0; i < n; i++) {
-        unsigned class = classify(&profile, intervals[i]);
-        uint32_t refusal = refusal_of_class(class);
-        if (refusal) return refused(refusal, i);
-        add_interval(&r, class, i);
-    }
-    if (r.known % 8 != 2 || r.last) return refused(ISM_RAGGED, 0);
-    size_t bytes = r.known / 8;
+    uint16_t words[ISM_MAX_BYTES + 2 + BLOCK / 4 + 2];
+    struct word_reader r = reader_into(words);
+    verdict = strip_words(&profile, intervals, n, &r);
+    if (verdict.number != ISM_ACCEPTED) return verdict;
+    if (known(&r) % 16 != 4) return refused(ISM_RAGGED, 0);
+    size_t bytes = known(&r) / 16;
     if (bytes > ISM_MAX_BYTES) return refused(ISM_OVERLONG, 0);
-    if (r.stray != NO_PLACE) return refused(ISM_STRAY, r.stray);
+    words[bytes + 1] = (uint16_t)(r.half_cells << 13) | 0x0AAA; /* the closing 0s, then clocks as of 0s */
+    if (any_stray(words, bytes + 1)) return refused(ISM_STRAY, lowest_stray(words));
     if (room < bytes) return refused(ISM_FULL, 0);
-    write_read_items(&profile, intervals, bytes, out);
+    items_of(words, bytes, out);
     return counted(bytes);
 }
 
-/* Whether the intervals from k are those of a mark; k + 5 is within the list. */
-static int is_mark_at(const ism_profile *p, const uint16_t *intervals) {
-    unsigned second = classify(p, intervals[1]);
-    return classify(p, intervals[0]) == ISM_CLASS_3 && (second == ISM_CLASS_4 || second == ISM_CLASS_2) &&
-           classify(p, intervals[2]) == ISM_CLASS_3 && classify(p, intervals[3]) == ISM_CLASS_4 &&
-           classify(p, intervals[4]) == ISM_CLASS_3;
+/* Cells until a field is known or the block ends; how many. Eight cells are less than two words and a half cell. */
+static inline size_t add_until(struct word_reader *r, const uint16_t *zeros, size_t n, size_t bytes) {
+    size_t i = 0;
+    for (; n - i >= 8 && r->whole + 1 < bytes; i += 8) add_eight(r, zeros + i);
+    for (; i < n && known(r) <= 16 * bytes; i++) add_one(r, zeros[i]);
+    return i;
 }
 
-ism_answer NAME(find)(ism_profile profile, const uint16_t *intervals, size_t n, uint64_t start) {
-    ism_answer verdict = check_profile(&profile);
-    if (verdict.number != ISM_ACCEPTED) return verdict;
-    if (start >= n) return refused(ISM_ADRIFT, 0);
-    size_t run = 0;
-    for (size_t k = (size_t)start; k + 5 <= n; k++) {
-        if (classify(&profile, intervals[k]) == ISM_CLASS_2) {
-            run++;
-        } else {
-            if (run >= 64 && is_mark_at(&profile, intervals + k)) return counted(k);
-            run = 0;
-        }
+/* The words of a field, from as many intervals as it needs; the answer counts them, or refuses. */
+static ism_answer field_words(const ism_profile *p, const uint16_t *intervals, size_t n, size_t bytes,
+                              struct word_reader *r) {
+    size_t used = 0;
+    while (known(r) <= 16 * bytes) {
+        if (used == n) return refused(ISM_SHORT, 0);
+        uint16_t zeros[BLOCK];
+        const uint16_t *block = intervals + used;
+        size_t count = n - used < BLOCK ? n - used : BLOCK;
+        bool inside = count == BLOCK ? zeros_of(p, block, BLOCK, zeros) : zeros_of(p, block, count, zeros);
+        if (!inside) count = lowest_outside(p, block);
+        used += add_until(r, zeros, count, bytes);
+        if (!inside && known(r) <= 16 * bytes) return refused_outside(p, intervals, used);
     }
-    return refused(ISM_ADRIFT, 0);
+    return counted(used);
 }
 
+/*
+ * A field of n bytes is known with 16 n + 1 half cells: the lead 0's data and the words. Only a gap that begins with
+ * the last bit ends three later.
+ */
 ism_answer NAME(read_field)(ism_profile profile, const uint16_t *intervals, size_t n, uint64_t bytes, uint16_t *out,
                             size_t room) {
     ism_answer verdict = check_profile(&profile);
     if (verdict.number != ISM_ACCEPTED) return verdict;
     if (bytes < 1 || bytes > ISM_MAX_FIELD_BYTES) return refused(ISM_MISCOUNT, 0);
-    struct bit_reader r;
-    struct crc_state s = {0xFFFF, 0};
-    size_t used = 0;
-    start_reader(&r);
-    while (r.known < 1 + 8 * bytes) {
-        if (used == n) return refused(ISM_SHORT, 0);
-        unsigned class = classify(&profile, intervals[used]);
-        uint32_t refusal = refusal_of_class(class);
-        if (refusal) return refused(refusal, used);
-        int item = add_interval(&r, class, used++);
-        if (item >= 0) crc_pass(&s, item & 0xFF, item >= (int)ISM_MARK);
-    }
-    if (r.stray != NO_PLACE) return refused(ISM_STRAY, r.stray);
+    uint16_t words[ISM_MAX_FIELD_BYTES + 4];
+    struct word_reader r = reader_into(words);
+    size_t count = (size_t)bytes;
+    verdict = field_words(&profile, intervals, n, count, &r);
+    if (verdict.number != ISM_ACCEPTED) return verdict;
+    size_t used = (size_t)verdict.count;
+    if (any_stray(words, count)) return refused(ISM_STRAY, lowest_stray(words));
+    if (known(&r) == 16 * count + 4) return refused(ISM_STRAY, used - 1);
     if (room < bytes) return refused(ISM_FULL, 0);
-    write_read_items(&profile, intervals, (size_t)bytes, out);
-    ism_answer answer = {ISM_ACCEPTED, 0, bytes, used, s.crc == 0};
+    items_of(words, count, out);
+    ism_answer answer = {ISM_ACCEPTED, 0, bytes, used, register_after(ALL_ONES, out, 0, count) == 0};
     return answer;
 }
 
 /* The field reader's last step alone, for items that are ready: the items, and whether the register ends as zero. */
 ism_answer NAME(register)(const uint16_t *items, size_t n, uint64_t used, uint16_t *out, size_t room) {
     if (room < n) return refused(ISM_FULL, 0);
-    struct crc_state s = {0xFFFF, 0};
     memcpy(out, items, n * sizeof *items);
-    for (size_t i = 0; i < n; i++) crc_pass(&s, items[i] & 0xFF, items[i] >= ISM_MARK);
-    ism_answer answer = {ISM_ACCEPTED, 0, n, used, s.crc == 0};
+    ism_answer answer = {ISM_ACCEPTED, 0, n, used, register_after(ALL_ONES, items, 0, n) == 0};
     return answer;
+}
+
+/* --------------------------------------------------------------------------------------------------------- finder */
+
+#define SYNC 64u
+#define MARK_CELLS 5u
+
+static inline bool is_class_2(const ism_profile *p, uint16_t interval) {
+    return (uint16_t)(interval - p->min) < (uint16_t)(p->b23 - p->min);
+}
+
+/* Whether the intervals are those of a mark: 3 4 3 4 3 or 3 2 3 4 3. */
+static bool is_mark_at(const ism_profile *p, const uint16_t *intervals) {
+    unsigned second = classify(p, intervals[1]);
+    return classify(p, intervals[0]) == 3 && (second == 4 || second == 2) && classify(p, intervals[2]) == 3 &&
+           classify(p, intervals[3]) == 4 && classify(p, intervals[4]) == 3;
+}
+
+#define NEAR 8u
+#define SPAN 16u
+
+static inline bool all_class_2(const ism_profile *p, const uint16_t *intervals) {
+    uint16_t min = p->min, width = (uint16_t)(p->b23 - min), others = 0;
+    for (size_t i = 0; i < SPAN; i++) others |= (uint16_t)(intervals[i] - min) >= width;
+    return !others;
+}
+
+/* From where on the intervals below `at` are of class 2, not below `from`. In data that is near, else far. */
+static inline size_t run_before(const ism_profile *p, const uint16_t *intervals, size_t from, size_t at) {
+    size_t near = at - from > NEAR ? at - NEAR : from;
+    while (at > near && is_class_2(p, intervals[at - 1])) at--;
+    if (at > near) return at;
+    while (at - from >= SPAN && all_class_2(p, intervals + at - SPAN)) at -= SPAN;
+    while (at > from && is_class_2(p, intervals[at - 1])) at--;
+    return at;
+}
+
+/* To where the intervals from `at` on are of class 2, not beyond `to`. */
+static inline size_t run_behind(const ism_profile *p, const uint16_t *intervals, size_t at, size_t to) {
+    while (to - at >= SPAN && all_class_2(p, intervals + at)) at += SPAN;
+    while (at < to && is_class_2(p, intervals[at])) at++;
+    return at;
+}
+
+/*
+ * The 64 intervals of a run that begins at `first` are looked at from the last one back. One of another class rules
+ * out every run over it, and what was seen behind it is not looked at again, so no interval is seen twice.
+ */
+ism_answer NAME(find)(ism_profile profile, const uint16_t *intervals, size_t n, uint64_t start) {
+    ism_answer verdict = check_profile(&profile);
+    if (verdict.number != ISM_ACCEPTED) return verdict;
+    if (n < SYNC + MARK_CELLS || start > n - SYNC - MARK_CELLS) return refused(ISM_ADRIFT, 0);
+    size_t first = (size_t)start, seen = first, last = n - MARK_CELLS;
+    while (first + SYNC <= last) {
+        if (!is_class_2(&profile, intervals[first + SYNC - 1])) {
+            first = seen = first + SYNC;
+            continue;
+        }
+        size_t at = run_before(&profile, intervals, seen, first + SYNC - 1);
+        if (at > seen) {
+            seen = first + SYNC;
+            first = at;
+            continue;
+        }
+        size_t end = run_behind(&profile, intervals, first + SYNC, last + 1);
+        if (end <= last && is_mark_at(&profile, intervals + end)) return counted(end);
+        first = seen = end + 1;
+    }
+    return refused(ISM_ADRIFT, 0);
 }
 
 /* --------------------------------------------------------------------------------------------------- sector maker */
 
 static uint16_t *repeat(uint16_t *out, size_t times, uint16_t item) {
-    for (size_t i = 0; i < times; i++) *out++ = item;
-    return out;
+    for (size_t i = 0; i < times; i++) out[i] = item;
+    return out + times;
 }
 
 /* Sync field, three marks and the address mark. */
@@ -414,9 +709,9 @@ ism_answer NAME(make_sector)(uint8_t track, uint8_t side, uint8_t sector, uint8_
     *out++ = ISM_CHECK;
     out = repeat(out, 22, 0x4E);
     out = start_field(out, 0xFB);
-    for (size_t i = 0; i < n; i++) *out++ = data[i];
-    *out++ = ISM_CHECK;
-    repeat(out, 54, 0x4E);
+    for (size_t i = 0; i < n; i++) out[i] = data[i];
+    out[n] = ISM_CHECK;
+    repeat(out + n + 1, 54, 0x4E);
     return counted(n + 114);
 }
 

@@ -1,24 +1,31 @@
-//! The three implementations behind one set of function pointers.
+//! The implementations behind one set of function pointers: the library, the plain C of each compiler, the plain Rust.
 
 use bench::plain::*;
-use ism::sys::{self, Answer, Profile};
+use ism::sys::{Answer, Fifo, FifoAnswer, Profile};
 
 /// Track, side, sector, length code.
 pub type Id = [u8; 4];
 
 pub struct Implementation {
     pub name: &'static str,
+    pub margin: fn(Profile) -> Answer,
+    pub class: fn(Profile, u16) -> Answer,
     pub write: fn(Profile, &[u16], &mut [u16]) -> Answer,
     pub read: fn(Profile, &[u16], &mut [u16]) -> Answer,
     pub find: fn(Profile, &[u16], u64) -> Answer,
     pub read_field: fn(Profile, &[u16], u64, &mut [u16]) -> Answer,
     pub make_sector: fn(Id, &[u8], &mut [u16]) -> Answer,
+    /// A FIFO operation by its number, in the order of `ism.h`.
+    pub fifo: fn(u8, Fifo, u16) -> FifoAnswer,
     /// The field reader's last step: the register over the items, and the items to the output. The library has no entry
     /// for that alone, so there it is the whole reading of the field.
     pub register: fn(&Field, &mut [u16]) -> Answer,
     /// What of that is not the last step: for the library, the field refused because the output is one too short.
     pub before_register: fn(&Field, &mut [u16]) -> Answer,
 }
+
+/// FIFO operations behind the making of one, which has the number 0.
+pub const FIFO_OPERATIONS: u8 = 7;
 
 /// A field as intervals and as the items that they read as.
 pub struct Field {
@@ -30,100 +37,163 @@ pub struct Field {
 
 const NOTHING: Answer = Answer { number: 0, place: 0, count: 0, used: 0, holds: 0 };
 
-mod c {
-    use super::{Answer, Profile};
-
-    extern "C" {
-        pub fn plain_c_write(profile: Profile, items: *const u16, n: usize, out: *mut u16, room: usize) -> Answer;
-        pub fn plain_c_read(profile: Profile, intervals: *const u16, n: usize, out: *mut u16, room: usize) -> Answer;
-        pub fn plain_c_find(profile: Profile, intervals: *const u16, n: usize, start: u64) -> Answer;
-        pub fn plain_c_read_field(
-            profile: Profile,
-            intervals: *const u16,
-            n: usize,
-            bytes: u64,
-            out: *mut u16,
-            room: usize,
-        ) -> Answer;
-        pub fn plain_c_make_sector(
-            track: u8,
-            side: u8,
-            sector: u8,
-            code: u8,
-            data: *const u8,
-            n: usize,
-            out: *mut u16,
-            room: usize,
-        ) -> Answer;
-        pub fn plain_c_register(items: *const u16, n: usize, used: u64, out: *mut u16, room: usize) -> Answer;
-    }
+fn made(next: Fifo) -> FifoAnswer {
+    FifoAnswer { number: 0, place: 0, item: 0, next }
 }
 
-fn read_by_library(field: &Field, out: &mut [u16]) -> Answer {
-    let (list, n) = (&field.intervals, field.items.len() as u64);
-    // SAFETY: each pointer comes with the length of its slice
-    unsafe { sys::ism_read_field(field.profile, list.as_ptr(), list.len(), n, out.as_mut_ptr(), out.len()) }
-}
+/// A module with the functions of `ism.h` under another prefix, and the implementation that they are. Each pointer
+/// comes with the length of its slice.
+macro_rules! c_interface {
+    ($module:ident, $prefix:literal) => {
+        mod $module {
+            use super::{made, Answer, Field, Fifo, FifoAnswer, Implementation, Profile};
 
-fn register_in_c(field: &Field, out: &mut [u16]) -> Answer {
-    let items = &field.items;
-    // SAFETY: each pointer comes with the length of its slice
-    unsafe { c::plain_c_register(items.as_ptr(), items.len(), field.used, out.as_mut_ptr(), out.len()) }
-}
+            extern "C" {
+                #[link_name = concat!($prefix, "margin")]
+                fn margin(p: Profile) -> Answer;
+                #[link_name = concat!($prefix, "class")]
+                fn class(p: Profile, interval: u16) -> Answer;
+                #[link_name = concat!($prefix, "write")]
+                fn write(p: Profile, items: *const u16, n: usize, out: *mut u16, room: usize) -> Answer;
+                #[link_name = concat!($prefix, "read")]
+                fn read(p: Profile, list: *const u16, n: usize, out: *mut u16, room: usize) -> Answer;
+                #[link_name = concat!($prefix, "find")]
+                fn find(p: Profile, list: *const u16, n: usize, start: u64) -> Answer;
+                #[link_name = concat!($prefix, "read_field")]
+                fn read_field(p: Profile, list: *const u16, n: usize, bytes: u64, out: *mut u16, room: usize)
+                    -> Answer;
+                #[link_name = concat!($prefix, "make_sector")]
+                fn make_sector(
+                    track: u8,
+                    side: u8,
+                    sector: u8,
+                    code: u8,
+                    data: *const u8,
+                    n: usize,
+                    out: *mut u16,
+                    room: usize,
+                ) -> Answer;
+                #[link_name = concat!($prefix, "fifo_new")]
+                fn fifo_new(mode: u16) -> Fifo;
+                #[link_name = concat!($prefix, "fifo_put")]
+                fn fifo_put(fifo: Fifo, item: u16) -> FifoAnswer;
+                #[link_name = concat!($prefix, "fifo_chip_put")]
+                fn fifo_chip_put(fifo: Fifo, item: u16) -> FifoAnswer;
+                #[link_name = concat!($prefix, "fifo_take_data")]
+                fn fifo_take_data(fifo: Fifo) -> FifoAnswer;
+                #[link_name = concat!($prefix, "fifo_take_mark")]
+                fn fifo_take_mark(fifo: Fifo) -> FifoAnswer;
+                #[link_name = concat!($prefix, "fifo_chip_take")]
+                fn fifo_chip_take(fifo: Fifo) -> FifoAnswer;
+                #[link_name = concat!($prefix, "fifo_read_error")]
+                fn fifo_read_error(fifo: Fifo) -> FifoAnswer;
+            }
 
-/// An implementation with the C interface. Each pointer comes with the length of its slice.
-macro_rules! with_c_interface {
-    ($name:literal, $write:path, $read:path, $find:path, $read_field:path, $make_sector:path, $register:expr, $before:expr) => {
-        Implementation {
-            name: $name,
-            write: |p, list, out| unsafe { $write(p, list.as_ptr(), list.len(), out.as_mut_ptr(), out.len()) },
-            read: |p, list, out| unsafe { $read(p, list.as_ptr(), list.len(), out.as_mut_ptr(), out.len()) },
-            find: |p, list, start| unsafe { $find(p, list.as_ptr(), list.len(), start) },
-            read_field: |p, list, n, out| unsafe {
-                $read_field(p, list.as_ptr(), list.len(), n, out.as_mut_ptr(), out.len())
-            },
-            make_sector: |[track, side, sector, code], data, out| unsafe {
-                $make_sector(track, side, sector, code, data.as_ptr(), data.len(), out.as_mut_ptr(), out.len())
-            },
-            register: $register,
-            before_register: $before,
+            pub fn implementation(
+                name: &'static str,
+                register: fn(&Field, &mut [u16]) -> Answer,
+                before_register: fn(&Field, &mut [u16]) -> Answer,
+            ) -> Implementation {
+                Implementation {
+                    name,
+                    margin: |p| unsafe { margin(p) },
+                    class: |p, interval| unsafe { class(p, interval) },
+                    write: |p, list, out| unsafe { write(p, list.as_ptr(), list.len(), out.as_mut_ptr(), out.len()) },
+                    read: |p, list, out| unsafe { read(p, list.as_ptr(), list.len(), out.as_mut_ptr(), out.len()) },
+                    find: |p, list, start| unsafe { find(p, list.as_ptr(), list.len(), start) },
+                    read_field: |p, list, n, out| unsafe {
+                        read_field(p, list.as_ptr(), list.len(), n, out.as_mut_ptr(), out.len())
+                    },
+                    make_sector: |[track, side, sector, code], data, out| unsafe {
+                        make_sector(track, side, sector, code, data.as_ptr(), data.len(), out.as_mut_ptr(), out.len())
+                    },
+                    fifo: |operation, fifo, item| unsafe {
+                        match operation {
+                            0 => made(fifo_new(fifo.mode)),
+                            1 => fifo_put(fifo, item),
+                            2 => fifo_chip_put(fifo, item),
+                            3 => fifo_take_data(fifo),
+                            4 => fifo_take_mark(fifo),
+                            5 => fifo_chip_take(fifo),
+                            _ => fifo_read_error(fifo),
+                        }
+                    },
+                    register,
+                    before_register,
+                }
+            }
         }
     };
 }
 
-/// Library, plain C, plain Rust.
-pub fn all() -> [Implementation; 3] {
-    use sys::{ism_find, ism_make_sector, ism_read, ism_read_field, ism_write};
+c_interface!(library, "ism_");
+
+c_interface!(gcc_o2, "plain_gcc_o2_");
+c_interface!(gcc_o3, "plain_gcc_o3_");
+c_interface!(clang_o2, "plain_clang_o2_");
+c_interface!(clang_o3, "plain_clang_o3_");
+
+/// The register of a plain C, which is not of `ism.h`.
+macro_rules! c_register {
+    ($name:ident, $symbol:ident) => {
+        fn $name(field: &Field, out: &mut [u16]) -> Answer {
+            extern "C" {
+                fn $symbol(items: *const u16, n: usize, used: u64, out: *mut u16, room: usize) -> Answer;
+            }
+            let items = &field.items;
+            // SAFETY: each pointer comes with the length of its slice
+            unsafe { $symbol(items.as_ptr(), items.len(), field.used, out.as_mut_ptr(), out.len()) }
+        }
+    };
+}
+
+c_register!(gcc_o2_register, plain_gcc_o2_register);
+c_register!(gcc_o3_register, plain_gcc_o3_register);
+c_register!(clang_o2_register, plain_clang_o2_register);
+c_register!(clang_o3_register, plain_clang_o3_register);
+
+fn read_by_library(field: &Field, out: &mut [u16]) -> Answer {
+    let (list, n) = (&field.intervals, field.items.len() as u64);
+    // SAFETY: each pointer comes with the length of its slice
+    unsafe { ism::sys::ism_read_field(field.profile, list.as_ptr(), list.len(), n, out.as_mut_ptr(), out.len()) }
+}
+
+fn nothing(_: &Field, _: &mut [u16]) -> Answer {
+    NOTHING
+}
+
+fn rust_fifo(operation: u8, fifo: Fifo, item: u16) -> FifoAnswer {
+    match operation {
+        0 => made(plain_rust_fifo_new(fifo.mode)),
+        1 => plain_rust_fifo_put(fifo, item),
+        2 => plain_rust_fifo_chip_put(fifo, item),
+        3 => plain_rust_fifo_take_data(fifo),
+        4 => plain_rust_fifo_take_mark(fifo),
+        5 => plain_rust_fifo_chip_take(fifo),
+        _ => plain_rust_fifo_read_error(fifo),
+    }
+}
+
+/// The library first, plain C by compiler, plain Rust last.
+pub fn all() -> [Implementation; 6] {
     [
-        with_c_interface!(
-            "library",
-            ism_write,
-            ism_read,
-            ism_find,
-            ism_read_field,
-            ism_make_sector,
-            read_by_library,
-            |field, out| read_by_library(field, &mut out[1..])
-        ),
-        with_c_interface!(
-            "c",
-            c::plain_c_write,
-            c::plain_c_read,
-            c::plain_c_find,
-            c::plain_c_read_field,
-            c::plain_c_make_sector,
-            register_in_c,
-            |_, _| NOTHING
-        ),
+        library::implementation("library", read_by_library, |field, out| read_by_library(field, &mut out[1..])),
+        gcc_o2::implementation("gcc-O2", gcc_o2_register, nothing),
+        gcc_o3::implementation("gcc-O3", gcc_o3_register, nothing),
+        clang_o2::implementation("clang-O2", clang_o2_register, nothing),
+        clang_o3::implementation("clang-O3", clang_o3_register, nothing),
         Implementation {
             name: "rust",
+            margin: plain_rust_margin,
+            class: plain_rust_class,
             write: plain_rust_write,
             read: plain_rust_read,
             find: plain_rust_find,
             read_field: plain_rust_read_field,
             make_sector: plain_rust_make_sector,
+            fifo: rust_fifo,
             register: |field, out| plain_rust_register(&field.items, field.used, out),
-            before_register: |_, _| NOTHING,
+            before_register: nothing,
         },
     ]
 }

@@ -1,12 +1,14 @@
 //! The library beside plain C and plain Rust. `bench/run` builds this, counts instructions and prints the tables.
 //!
-//!     bench agree                 check that the three give the same answers on every task
+//!     bench agree [CALLS]         check that all give the same answers on every task and on so many random calls
 //!     bench list                  tasks, one a line: name, input, units, unit
+//!     bench names                 implementations, the library first
 //!     bench repeat TASK WHO TIMES run a task so many times and print nothing
 //!     bench before TASK WHO TIMES the same for what of a run does not belong to the task
 //!     bench times                 nanoseconds for each task and implementation
 //!     bench stacks                bytes of stack for each task and implementation
 
+mod agreement;
 mod implementations;
 mod stack;
 mod tasks;
@@ -18,13 +20,21 @@ use std::time::Instant;
 use implementations::Implementation;
 use tasks::Task;
 
+const USAGE: &str =
+    "usage: bench agree [CALLS] | list | names | repeat TASK WHO TIMES | before TASK WHO TIMES | times | stacks";
+
+/// Random calls where no number is given.
+const CALLS: u64 = 20_000;
+
 fn main() {
     let arguments: Vec<String> = std::env::args().skip(1).collect();
     let arguments: Vec<&str> = arguments.iter().map(String::as_str).collect();
     let implementations = implementations::all();
     match arguments[..] {
-        ["agree"] => agree(&implementations),
-        ["list"] => tasks::all().iter().for_each(|t| println!("{}\t{}\t{}\t{}", t.name, t.input, t.units, t.unit)),
+        ["agree"] => agree(&implementations, CALLS),
+        ["agree", calls] => agree(&implementations, calls.parse().expect("a number of calls")),
+        ["list"] => list(),
+        ["names"] => implementations.iter().for_each(|who| println!("{}", who.name)),
         [what @ ("repeat" | "before"), task, who, times] => {
             repeat(what, task, who, times.parse().expect("a number of times"), &implementations)
         }
@@ -32,13 +42,22 @@ fn main() {
         ["stacks"] => {
             each("stack", &implementations, |task, who| beyond_calling(|| task.run(who)));
             for (name, call) in stack::other_entries() {
-                println!("stack\t{name}\t{:.2}\t-\t-", beyond_calling(call));
+                println!("stack\t{name}\t{:.2}", beyond_calling(call));
             }
         }
-        _ => {
-            eprintln!("usage: bench agree | list | repeat TASK WHO TIMES | before TASK WHO TIMES | times | stacks");
-            exit(2);
-        }
+        _ => fail(USAGE, 2),
+    }
+}
+
+fn fail(message: &str, code: i32) -> ! {
+    eprintln!("bench: {message}");
+    exit(code);
+}
+
+fn list() {
+    for plan in tasks::all() {
+        let task = (plan.make)();
+        println!("{}\t{}\t{}\t{}", plan.name, plan.input, task.units, task.unit);
     }
 }
 
@@ -49,10 +68,13 @@ fn beyond_calling(call: impl FnMut() -> ism::sys::Answer) -> f64 {
 
 /// Prints one line for each task: name, then a number for each implementation.
 fn each(what: &str, implementations: &[Implementation], measure: impl Fn(&mut Task, &Implementation) -> f64) {
-    for mut task in tasks::all().into_iter().filter(Task::is_whole) {
-        let numbers: Vec<String> =
-            implementations.iter().map(|who| format!("{:.2}", measure(&mut task, who))).collect();
-        println!("{what}\t{}\t{}", task.name, numbers.join("\t"));
+    for plan in tasks::all() {
+        let mut task = (plan.make)();
+        if task.is_whole() {
+            let numbers: Vec<String> =
+                implementations.iter().map(|who| format!("{:.2}", measure(&mut task, who))).collect();
+            println!("{what}\t{}\t{}", plan.name, numbers.join("\t"));
+        }
     }
 }
 
@@ -67,34 +89,30 @@ fn time(task: &mut Task, who: &Implementation) -> f64 {
 }
 
 fn repeat(what: &str, name: &str, who: &str, times: usize, implementations: &[Implementation]) {
-    let task = tasks::all().into_iter().find(|task| task.name == name);
+    let plan = tasks::all().into_iter().find(|plan| plan.name == name);
     let who = implementations.iter().find(|one| one.name == who);
-    match (task, who) {
-        (Some(mut task), Some(who)) => {
-            for _ in 0..times {
-                match what {
-                    "before" => drop(black_box(task.run_before(who))),
-                    _ => drop(black_box(task.run(who))),
-                }
-            }
-        }
-        _ => {
-            eprintln!("bench: no task {name} or no such implementation");
-            exit(2);
+    let (Some(plan), Some(who)) = (plan, who) else { fail(&format!("no task {name} or no such implementation"), 2) };
+    let mut task = (plan.make)();
+    for _ in 0..times {
+        match what {
+            "before" => drop(black_box(task.run_before(who))),
+            _ => drop(black_box(task.run(who))),
         }
     }
 }
 
-fn agree(implementations: &[Implementation]) {
-    for mut task in tasks::all() {
+fn agree(implementations: &[Implementation], calls: u64) {
+    for plan in tasks::all() {
+        let mut task = (plan.make)();
         let results: Vec<_> = implementations.iter().map(|who| (task.run(who), task.output())).collect();
-        if results[0].0.number != 0 {
-            eprintln!("bench: {} is refused with {:?}", task.name, results[0].0);
-            exit(1);
+        if results[0].0.number != task.number {
+            fail(&format!("{} is answered with {:?}", plan.name, results[0].0), 1);
         }
-        if results.iter().any(|result| *result != results[0]) {
-            eprintln!("bench: the implementations disagree on {}", task.name);
-            exit(1);
+        if let Some(who) = results.iter().position(|result| *result != results[0]) {
+            fail(&format!("{} and the library disagree on {}", implementations[who].name, plan.name), 1);
         }
+    }
+    if let Err(difference) = agreement::run(implementations, calls) {
+        fail(&difference, 1);
     }
 }

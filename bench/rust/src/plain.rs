@@ -1,13 +1,18 @@
-//! The contract of `ism.h` in plain safe Rust, as a baseline for the benchmark: no proof, one pass to check and one to
-//! write.
+//! The contract of `ism.h` in plain safe Rust, as a baseline for the benchmark: no proof, no heap, no table that a call
+//! builds beyond what depends on its profile.
 
 mod fifo;
+mod finder;
 mod reader;
 mod register;
+#[cfg(feature = "requests")]
+pub mod requests;
+mod words;
 mod writer;
 
 pub use fifo::*;
-pub use reader::{plain_rust_find, plain_rust_read, plain_rust_read_field, plain_rust_register};
+pub use finder::plain_rust_find;
+pub use reader::{plain_rust_read, plain_rust_read_field, plain_rust_register};
 pub use writer::{plain_rust_make_sector, plain_rust_write};
 
 use ism::sys::{Answer, Profile};
@@ -24,20 +29,11 @@ fn counted(count: u64) -> Answer {
     Answer { number: 0, place: 0, count, used: 0, holds: 0 }
 }
 
-/// Classes 1 narrow, 2, 3, 4, 5 wide.
+/// Classes 1 narrow, 2, 3, 4, 5 wide. The edges of a true profile ascend, so the class is one more than the number of
+/// edges that the interval reaches.
 #[inline]
 fn classify(p: &Profile, interval: u16) -> u8 {
-    if interval < p.min {
-        1
-    } else if interval < p.b23 {
-        2
-    } else if interval < p.b34 {
-        3
-    } else if interval < p.rpt {
-        4
-    } else {
-        5
-    }
+    [p.min, p.b23, p.b34, p.rpt].iter().fold(1, |class, edge| class + u8::from(interval >= *edge))
 }
 
 /// The margin, below 0 if the windows miss the cell lengths.

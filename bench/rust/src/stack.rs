@@ -48,15 +48,11 @@ type Entry = (&'static str, Box<dyn FnMut() -> Answer>);
 /// The library's entries that no task runs alone.
 pub fn other_entries() -> Vec<Entry> {
     use ism::sys::*;
-    let (data, mut sector) = (vec![0; 1024], vec![0; 1024 + ism::SECTOR_OVERHEAD]);
-    // SAFETY: numbers in, numbers out; each pointer comes with the length of its list
-    let make_sector =
-        move || unsafe { ism_make_sector(7, 0, 3, 3, data.as_ptr(), data.len(), sector.as_mut_ptr(), sector.len()) };
     let fifo = |answer: FifoAnswer| Answer { number: answer.number, ..nothing() };
+    // SAFETY: numbers in, numbers out
     vec![
         ("margin", Box::new(|| unsafe { ism_margin(PROFILE) })),
         ("class", Box::new(|| unsafe { ism_class(PROFILE, 100) })),
-        ("make_sector-1024", Box::new(make_sector)),
         ("fifo_put", Box::new(move || fifo(unsafe { ism_fifo_put(ism_fifo_new(0), 7) }))),
         ("fifo_chip_put", Box::new(move || fifo(unsafe { ism_fifo_chip_put(ism_fifo_new(1), 7) }))),
         ("fifo_take_data", Box::new(move || fifo(unsafe { ism_fifo_take_data(ism_fifo_new(1)) }))),

@@ -4,6 +4,7 @@ use std::rc::Rc;
 
 use bench::plain::{plain_rust_read_field, plain_rust_write};
 use ism::sys::{Answer, Profile};
+use ism::{CHECK, MARK_A1, MARK_C2, MAX_BYTES, MAX_INTERVALS, SECTOR_OVERHEAD};
 
 use crate::implementations::{Field, Implementation};
 
@@ -11,19 +12,19 @@ use crate::implementations::{Field, Implementation};
 pub const PROFILE: Profile =
     Profile { t1: 58, t0: 29, early: 8, normal: 10, late: 12, min: 36, b23: 73, b34: 106, rpt: 139 };
 
-const MARK_A1: u16 = 0x1A1;
-const CHECK: u16 = 0x200;
 const TRACK_INTERVALS: usize = 100_000;
+const RAGGED: u32 = 7;
+const STRAY: u32 = 8;
+const ADRIFT: u32 = 10;
 
 type Run = Box<dyn FnMut(&Implementation, &mut [u16]) -> Answer>;
 
 pub struct Task {
-    pub name: String,
-    /// the input in words
-    pub input: String,
     /// what the work is divided by, and its name
     pub units: usize,
     pub unit: &'static str,
+    /// the number that every implementation answers
+    pub number: u32,
     run: Run,
     /// what of the run does not belong to the task
     before: Option<Run>,
@@ -31,8 +32,12 @@ pub struct Task {
 }
 
 impl Task {
-    fn new(name: &str, size: usize, input: String, units: usize, unit: &'static str, room: usize, run: Run) -> Task {
-        Task { name: format!("{name}-{size}"), input, units, unit, run, before: None, out: vec![0; room] }
+    fn new(units: usize, unit: &'static str, room: usize, run: Run) -> Task {
+        Task { units, unit, number: 0, run, before: None, out: vec![0; room] }
+    }
+
+    fn refused(self, number: u32) -> Task {
+        Task { number, ..self }
     }
 
     pub fn run(&mut self, who: &Implementation) -> Answer {
@@ -56,20 +61,48 @@ impl Task {
     }
 }
 
-pub fn all() -> Vec<Task> {
-    let mut tasks: Vec<Task> = Vec::new();
-    tasks.extend([512, 6_400].map(write_task));
-    tasks.extend([512, 6_400].map(read_task));
-    tasks.push(find_task("find", "of data", stream(&items(ism::MAX_BYTES))));
-    tasks.push(find_task(
-        "find_in_runs",
-        "in runs of 64 of class 2",
-        [vec![PROFILE.t1; 64], vec![PROFILE.b23]].concat(),
-    ));
-    tasks.extend([512, 1_030].map(field_task));
-    tasks.push(register_task(1_030));
-    tasks.extend([512, 1_024].map(sector_task));
-    tasks
+/// A task's name, its input in words, and how it is made; only the one that runs is made.
+pub struct Plan {
+    pub name: &'static str,
+    pub input: &'static str,
+    pub make: fn() -> Task,
+}
+
+macro_rules! plans {
+    ($($name:literal, $input:literal, $make:expr;)*) => { [$(Plan { name: $name, input: $input, make: || $make }),*] };
+}
+
+pub fn all() -> Vec<Plan> {
+    Vec::from(plans! {
+        "write-10", "10 bytes", write(items(10));
+        "write-512", "512 bytes", write(items(512));
+        "write-6400", "6400 bytes", write(items(6_400));
+        "write_exact-512", "512 bytes, output exactly long", write_exactly(items(512));
+        "write_exact-6400", "6400 bytes, output exactly long", write_exactly(items(6_400));
+        "write_marks-6400", "6400 marks, A1 and C2 in turn", write([MARK_A1, MARK_C2].repeat(3_200));
+        "write_checks-3200", "3200 check orders", write(vec![CHECK; 3_200]);
+        "write_few-6400", "6400 bytes AA, the fewest cells", write(vec![0xAA; 6_400]);
+        "read-10", "10 bytes", read(items(10));
+        "read-512", "512 bytes", read(items(512));
+        "read-6400", "6400 bytes", read(items(6_400));
+        "read_marks-6400", "6400 marks, A1 and C2 in turn", read([MARK_A1, MARK_C2].repeat(3_200));
+        "read_ragged-6400", "6400 bytes, ragged", read_ragged(items(6_400));
+        "read_stray-6400", "6400 bytes, stray at the end", read_stray(items(6_400));
+        "find-100000", "100000 intervals of data", find(stream(&items(MAX_BYTES)));
+        "find_in_sync-100000", "100000 intervals of class 2", find(vec![PROFILE.t1]);
+        "find_in_runs_63-100000", "100000 intervals in runs of 63 of class 2", find(run_of(63));
+        "find_in_runs_64-100000", "100000 intervals in runs of 64, no mark", find(run_of(64));
+        "find_in_marks-100000", "100000 intervals of marks", find(stream(&vec![MARK_A1; MAX_BYTES]));
+        "find_nothing-100000", "100000 intervals of data, no lock", find_nothing(stream(&items(MAX_BYTES)));
+        "read_field-10", "10 bytes", read_field(10);
+        "read_field-512", "512 bytes", read_field(512);
+        "read_field-1030", "1030 bytes", read_field(1_030);
+        "register-1030", "1030 bytes", register(1_030);
+        "make_sector-512", "512 data bytes", make_sector(512);
+        "make_sector-1024", "1024 data bytes", make_sector(1_024);
+        "sector-512", "512 data bytes, made and written", sector(512);
+        "sector-1024", "1024 data bytes, made and written", sector(1_024);
+    })
 }
 
 /// Bytes without a pattern, the same in every run.
@@ -87,35 +120,76 @@ fn items(count: usize) -> Vec<u16> {
 }
 
 fn stream(items: &[u16]) -> Vec<u16> {
-    let mut out = vec![0; ism::MAX_INTERVALS];
+    let mut out = vec![0; MAX_INTERVALS];
     let answer = plain_rust_write(PROFILE, items, &mut out);
     assert_eq!(answer.number, 0, "the inputs of the benchmark are accepted");
     out.truncate(answer.count as usize);
     out
 }
 
-fn write_task(size: usize) -> Task {
-    let list = items(size);
+fn write_into(list: Vec<u16>, room: usize) -> Task {
     let intervals = stream(&list).len();
     let run: Run = Box::new(move |who, out| (who.write)(PROFILE, &list, out));
-    Task::new("write", size, format!("{size} bytes"), intervals, "interval", 8 * size + 2, run)
+    Task::new(intervals, "interval", room, run)
 }
 
-fn read_task(size: usize) -> Task {
-    let intervals = stream(&items(size));
+/// Output for the list with the most intervals.
+fn write(list: Vec<u16>) -> Task {
+    let written = list.len() + list.iter().filter(|item| **item == CHECK).count();
+    write_into(list, 8 * written + 2)
+}
+
+fn write_exactly(list: Vec<u16>) -> Task {
+    let room = stream(&list).len();
+    write_into(list, room)
+}
+
+fn read_list(intervals: Vec<u16>, room: usize) -> Task {
     let units = intervals.len();
     let run: Run = Box::new(move |who, out| (who.read)(PROFILE, &intervals, out));
-    Task::new("read", size, format!("{size} bytes"), units, "interval", size, run)
+    Task::new(units, "interval", room, run)
+}
+
+fn read(list: Vec<u16>) -> Task {
+    read_list(stream(&list), list.len())
+}
+
+/// One closing interval is lost.
+fn read_ragged(list: Vec<u16>) -> Task {
+    let mut intervals = stream(&list);
+    intervals.pop();
+    read_list(intervals, list.len()).refused(RAGGED)
+}
+
+/// The last byte is 00, and the closing clock is lost.
+fn read_stray(mut list: Vec<u16>) -> Task {
+    let last = list.len() - 1;
+    list[last] = 0;
+    let mut intervals = stream(&list);
+    intervals.truncate(intervals.len() - 2);
+    intervals.push(PROFILE.t1 + 2 * PROFILE.t0);
+    read_list(intervals, list.len()).refused(STRAY)
+}
+
+fn run_of(length: usize) -> Vec<u16> {
+    [vec![PROFILE.t1; length], vec![PROFILE.b23]].concat()
+}
+
+fn find_in(track: Vec<u16>) -> Task {
+    let run: Run = Box::new(move |who, _| (who.find)(PROFILE, &track, 0));
+    Task::new(TRACK_INTERVALS, "interval", 0, run)
 }
 
 /// A track that repeats some intervals, with the only lock at its very end.
-fn find_task(name: &str, of: &str, repeated: Vec<u16>) -> Task {
+fn find(repeated: Vec<u16>) -> Task {
     let lock = stream(&[vec![0; 12], vec![MARK_A1; 3]].concat());
     let mut track: Vec<u16> = repeated.into_iter().cycle().take(TRACK_INTERVALS - lock.len()).collect();
     track.extend(lock);
-    let run: Run = Box::new(move |who, _| (who.find)(PROFILE, &track, 0));
-    let input = format!("{TRACK_INTERVALS} intervals {of}");
-    Task::new(name, TRACK_INTERVALS, input, TRACK_INTERVALS, "interval", 0, run)
+    find_in(track)
+}
+
+fn find_nothing(repeated: Vec<u16>) -> Task {
+    find_in(repeated.into_iter().cycle().take(TRACK_INTERVALS).collect()).refused(ADRIFT)
 }
 
 /// Three marks, data and check bytes; the register is zero behind them.
@@ -123,34 +197,43 @@ fn field(size: usize) -> Vec<u16> {
     stream(&[vec![MARK_A1; 3], items(size - 5), vec![CHECK]].concat())
 }
 
-fn field_task(size: usize) -> Task {
+fn read_field(size: usize) -> Task {
     let intervals = field(size);
     let units = intervals.len();
     let run: Run = Box::new(move |who, out| (who.read_field)(PROFILE, &intervals, size as u64, out));
-    Task::new("read_field", size, format!("{size} bytes"), units, "interval", size, run)
+    Task::new(units, "interval", size, run)
 }
 
 /// The check register over the items of a field, and the items to the output.
-fn register_task(size: usize) -> Task {
+fn register(size: usize) -> Task {
     let (intervals, mut items) = (field(size), vec![0; size]);
     let used = plain_rust_read_field(PROFILE, &intervals, size as u64, &mut items).used;
     let field = Rc::new(Field { profile: PROFILE, intervals, used, items });
     let same = Rc::clone(&field);
     let run: Run = Box::new(move |who, out| (who.register)(&field, out));
-    let mut task = Task::new("register", size, format!("{size} bytes"), size, "byte", size, run);
+    let mut task = Task::new(size, "byte", size, run);
     task.before = Some(Box::new(move |who, out| (who.before_register)(&same, out)));
     task
 }
 
-/// A sector that is made and written, check bytes included.
-fn sector_task(size: usize) -> Task {
-    let code = (size / 128).ilog2() as u8;
+fn length_code(size: usize) -> u8 {
+    (size / 128).ilog2() as u8
+}
+
+fn make_sector(size: usize) -> Task {
     let data = bytes(size);
-    let mut sector = vec![0; size + ism::SECTOR_OVERHEAD];
+    let run: Run = Box::new(move |who, out| (who.make_sector)([7, 0, 3, length_code(size)], &data, out));
+    Task::new(size + SECTOR_OVERHEAD, "item", size + SECTOR_OVERHEAD, run)
+}
+
+/// A sector that is made and written, check bytes included.
+fn sector(size: usize) -> Task {
+    let data = bytes(size);
+    let mut sector = vec![0; size + SECTOR_OVERHEAD];
     let written = sector.len() + 2;
     let run: Run = Box::new(move |who, out| {
-        (who.make_sector)([7, 0, 3, code], &data, &mut sector);
+        (who.make_sector)([7, 0, 3, length_code(size)], &data, &mut sector);
         (who.write)(PROFILE, &sector, out)
     });
-    Task::new("sector", size, format!("{size} data bytes"), written, "written byte", 8 * written + 2, run)
+    Task::new(written, "written byte", 8 * written + 2, run)
 }

@@ -1,184 +1,158 @@
-//! Strip reader, finder and field reader.
+//! Strip reader and field reader.
 
 use ism::sys::{Answer, Profile};
 
-use super::register::{Register, MARK};
-use super::{check_profile, classify, counted, either, refused, MAX_BYTES, MAX_FIELD_BYTES, MAX_INTERVALS};
+use super::register::{register_after, ALL_ONES};
+use super::words::{any_stray, items_of, lowest_stray, zeros_of_block, WordReader, BLOCK, SLACK};
+use super::{check_profile, counted, either, refused, MAX_BYTES, MAX_FIELD_BYTES, MAX_INTERVALS};
 
-/// Bits as they become known; the lead 0 is the first of them.
-struct BitReader {
-    known: usize,
-    last: u8,
-    byte: u8,
-    /// bit at which a mark's gap starts in the byte that is growing, and the interval that gave it
-    gap: Option<(usize, usize)>,
-    /// lowest interval with a gap out of place
-    stray: Option<usize>,
+/// How many intervals come before the first that is narrow or wide.
+fn inside(p: &Profile, intervals: &[u16]) -> usize {
+    intervals.iter().take_while(|interval| (p.min..p.rpt).contains(interval)).count()
 }
 
-impl BitReader {
-    fn new() -> Self {
-        BitReader { known: 0, last: 0, byte: 0, gap: None, stray: None }
-    }
-
-    /// Adds a bit; the item of the byte that it completes.
-    #[inline]
-    fn add_bit(&mut self, bit: u8) -> Option<u16> {
-        self.byte = self.byte << 1 | bit;
-        self.last = bit;
-        self.known += 1;
-        if self.known % 8 != 1 || self.known == 1 {
-            return None;
-        }
-        let byte = u16::from(self.byte);
-        Some(match (self.gap.take(), self.byte) {
-            (None, _) => byte,
-            (Some((4, _)), 0xA1) | (Some((3, _)), 0xC2) => MARK | byte,
-            (Some((_, place)), _) => {
-                self.stray.get_or_insert(place);
-                byte
-            }
-        })
-    }
-
-    /// A mark's gap is about to give two 0s. Behind a first gap in its place no second fits into the same byte.
-    #[inline]
-    fn note_gap(&mut self, place: usize) {
-        if self.known == 0 {
-            self.stray.get_or_insert(place);
-        } else {
-            let bit = (self.known - 1) % 8;
-            self.gap.get_or_insert((bit, place));
-        }
-    }
-
-    /// Takes an interval of class 2, 3 or 4; the item that it completes.
-    #[inline]
-    fn add_interval(&mut self, class: u8, place: usize) -> Option<u16> {
-        match (class, self.last) {
-            (2, last) => self.add_bit(last),
-            (3, 1) => self.add_bit(0),
-            (4, 0) => {
-                self.note_gap(place);
-                let item = self.add_bit(0);
-                item.or(self.add_bit(0))
-            }
-            _ => {
-                let item = self.add_bit(0);
-                item.or(self.add_bit(1))
-            }
-        }
-    }
+fn refused_outside(p: &Profile, intervals: &[u16], place: usize) -> Answer {
+    refused(if intervals[place] < p.min { 5 } else { 6 }, place)
 }
 
-#[inline]
-fn checked_class(p: &Profile, interval: u16, place: usize) -> Result<u8, Answer> {
-    match classify(p, interval) {
-        1 => Err(refused(5, place)),
-        5 => Err(refused(6, place)),
-        class => Ok(class),
-    }
-}
-
-/// Writes the items of intervals that were checked, as many as `out` is long.
-fn write_items(p: &Profile, intervals: &[u16], out: &mut [u16]) {
-    let mut reader = BitReader::new();
-    let mut slots = out.iter_mut();
-    for (place, interval) in intervals.iter().enumerate() {
-        if let Some(item) = reader.add_interval(classify(p, *interval), place) {
-            match slots.next() {
-                Some(slot) => *slot = item,
-                None => break,
-            }
+/// The words of a strip; words over the limit are counted, not kept.
+fn strip_words(p: &Profile, intervals: &[u16], reader: &mut WordReader) -> Result<(), Answer> {
+    let (mut beyond, keep) = (0, reader.words.len() - SLACK);
+    for (block, at) in intervals.chunks(BLOCK).zip((0..).step_by(BLOCK)) {
+        let mut zeros = [0; BLOCK];
+        if !zeros_of_block(p, block, &mut zeros) {
+            return Err(refused_outside(p, intervals, at + inside(p, block)));
+        }
+        let (eights, rest) = zeros[..block.len()].as_chunks::<8>();
+        eights.iter().for_each(|eight| reader.add_eight(eight));
+        rest.iter().for_each(|zeros| reader.add_one(*zeros));
+        if reader.whole > keep {
+            beyond += reader.whole - 1;
+            reader.whole = 1;
         }
     }
+    reader.whole += beyond;
+    Ok(())
 }
 
 #[inline(never)]
 pub fn plain_rust_read(profile: Profile, intervals: &[u16], out: &mut [u16]) -> Answer {
-    either(read(&profile, intervals, out))
+    // a strip goes through the least buffer, since clearing a large one costs more than reading a short strip
+    const SHORT: usize = 32;
+    const MEDIUM: usize = 1_024;
+    either(match intervals.len() {
+        n if n <= 4 * SHORT => read::<{ SHORT + SLACK }>(&profile, intervals, out),
+        n if n <= 4 * MEDIUM => read::<{ MEDIUM + SLACK }>(&profile, intervals, out),
+        _ => read::<{ MAX_BYTES + 1 + SLACK }>(&profile, intervals, out),
+    })
 }
 
-fn read(p: &Profile, intervals: &[u16], out: &mut [u16]) -> Result<Answer, Answer> {
+/// A strip of n bytes has 16 n + 4 half cells: the lead 0's data, the words, and closing clock, data and clock.
+fn read<const WORDS: usize>(p: &Profile, intervals: &[u16], out: &mut [u16]) -> Result<Answer, Answer> {
     check_profile(p)?;
     if intervals.len() > MAX_INTERVALS {
         return Err(refused(4, 0));
     }
-    let mut reader = BitReader::new();
-    for (place, interval) in intervals.iter().enumerate() {
-        let class = checked_class(p, *interval, place)?;
-        reader.add_interval(class, place);
-    }
-    if reader.known % 8 != 2 || reader.last == 1 {
+    let mut words = [0; WORDS];
+    let mut reader = WordReader::new(&mut words);
+    strip_words(p, intervals, &mut reader)?;
+    if reader.known() % 16 != 4 {
         return Err(refused(7, 0));
     }
-    let bytes = reader.known / 8;
+    let bytes = reader.known() / 16;
     if bytes > MAX_BYTES {
         return Err(refused(4, 0));
     }
-    if let Some(place) = reader.stray {
-        return Err(refused(8, place));
+    // the closing 0s, then clocks as of 0s
+    reader.words[bytes + 1] = (reader.half_cells << 13) as u16 | 0x0AAA;
+    if any_stray(&words[..bytes + 2]) {
+        return Err(refused(8, lowest_stray(&words[..bytes + 2])));
     }
     let out = out.get_mut(..bytes).ok_or(refused(9, 0))?;
-    write_items(p, intervals, out);
+    items_of(&words[..bytes + 1], out);
     Ok(counted(bytes as u64))
 }
 
-#[inline(never)]
-pub fn plain_rust_find(profile: Profile, intervals: &[u16], start: u64) -> Answer {
-    either(find(&profile, intervals, start))
-}
-
-fn find(p: &Profile, intervals: &[u16], start: u64) -> Result<Answer, Answer> {
-    check_profile(p)?;
-    let start = usize::try_from(start).unwrap_or(usize::MAX).min(intervals.len());
-    let mut run = 0;
-    for (place, window) in intervals.windows(5).enumerate().skip(start) {
-        if classify(p, window[0]) == 2 {
-            run += 1;
-            continue;
+/// Cells until a field is known or the block ends; how many. Eight cells are less than two words and a half cell.
+#[inline]
+fn add_until(reader: &mut WordReader, zeros: &[u16], bytes: usize) -> usize {
+    let mut rest = zeros;
+    while let Some((eight, others)) = rest.split_first_chunk::<8>() {
+        if reader.whole + 1 >= bytes {
+            break;
         }
-        if run >= 64 && is_mark(p, window) {
-            return Ok(counted(place as u64));
-        }
-        run = 0;
+        reader.add_eight(eight);
+        rest = others;
     }
-    Err(refused(10, 0))
+    while let Some((one, others)) = rest.split_first() {
+        if reader.known() > 16 * bytes {
+            break;
+        }
+        reader.add_one(*one);
+        rest = others;
+    }
+    zeros.len() - rest.len()
 }
 
-fn is_mark(p: &Profile, window: &[u16]) -> bool {
-    let classes = [0, 1, 2, 3, 4].map(|place| classify(p, window[place]));
-    classes == [3, 4, 3, 4, 3] || classes == [3, 2, 3, 4, 3]
+/// The words of a field, from as many intervals as it needs; how many.
+fn field_words(p: &Profile, intervals: &[u16], bytes: usize, reader: &mut WordReader) -> Result<usize, Answer> {
+    let mut used = 0;
+    while reader.known() <= 16 * bytes {
+        let rest = &intervals[used..];
+        let block = &rest[..rest.len().min(BLOCK)];
+        if block.is_empty() {
+            return Err(refused(11, 0));
+        }
+        let mut zeros = [0; BLOCK];
+        let whole = zeros_of_block(p, block, &mut zeros);
+        let count = if whole { block.len() } else { inside(p, block) };
+        used += add_until(reader, &zeros[..count], bytes);
+        if !whole && reader.known() <= 16 * bytes {
+            return Err(refused_outside(p, intervals, used));
+        }
+    }
+    Ok(used)
 }
 
 #[inline(never)]
 pub fn plain_rust_read_field(profile: Profile, intervals: &[u16], bytes: u64, out: &mut [u16]) -> Answer {
-    either(read_field(&profile, intervals, bytes, out))
+    // an ID field goes through a small buffer, since clearing a large one costs more than the reading
+    const SHORT: u64 = 32;
+    if bytes <= SHORT {
+        either(read_field::<{ SHORT as usize + 4 }>(&profile, intervals, bytes, out))
+    } else {
+        either(read_field::<{ MAX_FIELD_BYTES as usize + 4 }>(&profile, intervals, bytes, out))
+    }
 }
 
-fn read_field(p: &Profile, intervals: &[u16], bytes: u64, out: &mut [u16]) -> Result<Answer, Answer> {
+/// A field of n bytes is known with 16 n + 1 half cells: the lead 0's data and the words. Only a gap that begins with
+/// the last bit ends three later.
+fn read_field<const WORDS: usize>(
+    p: &Profile,
+    intervals: &[u16],
+    bytes: u64,
+    out: &mut [u16],
+) -> Result<Answer, Answer> {
     check_profile(p)?;
     if !(1..=MAX_FIELD_BYTES).contains(&bytes) {
         return Err(refused(12, 0));
     }
     let count = bytes as usize;
-    let mut reader = BitReader::new();
-    let mut register = Register::new();
-    let mut used = 0;
-    while reader.known < 1 + 8 * count {
-        let interval = intervals.get(used).ok_or(refused(11, 0))?;
-        let class = checked_class(p, *interval, used)?;
-        if let Some(item) = reader.add_interval(class, used) {
-            register.pass(item);
-        }
-        used += 1;
+    let mut words = [0; WORDS];
+    let mut reader = WordReader::new(&mut words);
+    let used = field_words(p, intervals, count, &mut reader)?;
+    let known = reader.known();
+    let words = &words[..count + 1];
+    if any_stray(words) {
+        return Err(refused(8, lowest_stray(words)));
     }
-    if let Some(place) = reader.stray {
-        return Err(refused(8, place));
+    if known == 16 * count + 4 {
+        return Err(refused(8, used - 1));
     }
     let out = out.get_mut(..count).ok_or(refused(9, 0))?;
-    write_items(p, &intervals[..used], out);
-    Ok(Answer { used: used as u64, holds: u32::from(register.value == 0), ..counted(bytes) })
+    items_of(words, out);
+    let holds = u32::from(register_after(ALL_ONES, out) == 0);
+    Ok(Answer { used: used as u64, holds, ..counted(bytes) })
 }
 
 /// The field reader's last step alone, for items that are ready: the items and whether the register is zero after them.
@@ -186,7 +160,6 @@ fn read_field(p: &Profile, intervals: &[u16], bytes: u64, out: &mut [u16]) -> Re
 pub fn plain_rust_register(items: &[u16], used: u64, out: &mut [u16]) -> Answer {
     let Some(out) = out.get_mut(..items.len()) else { return refused(9, 0) };
     out.copy_from_slice(items);
-    let mut register = Register::new();
-    items.iter().for_each(|item| register.pass(*item));
-    Answer { used, holds: u32::from(register.value == 0), ..counted(items.len() as u64) }
+    let holds = u32::from(register_after(ALL_ONES, items) == 0);
+    Answer { used, holds, ..counted(items.len() as u64) }
 }

@@ -5,52 +5,60 @@ pub const MARK_A1: u16 = 0x1A1;
 pub const MARK_C2: u16 = 0x1C2;
 pub const CHECK: u16 = 0x200;
 
+/// The register at the start of a list and before the first of some marks.
+pub const ALL_ONES: u16 = 0xFFFF;
+
 pub fn is_mark(item: u16) -> bool {
-    item == MARK_A1 || item == MARK_C2
+    (item == MARK_A1) | (item == MARK_C2)
 }
 
 pub fn is_item(number: u16) -> bool {
-    number < 256 || is_mark(number) || number == CHECK
+    (number < 256) | is_mark(number) | (number == CHECK)
 }
 
-/// x^16 + x^12 + x^5 + 1, one entry for each high byte.
-const TABLE: [u16; 256] = table();
+/// The CRC register after 64 bits, which begin with the register itself: the remainder of t x^16 by
+/// x^16 + x^12 + x^5 + 1. The quotient satisfies q = t ^ q >> 4 ^ q >> 11 ^ q >> 16, so it is t times
+/// 1 / (1 + s4 + s11 + s16), where s4 is the shift by 4 and so on. Over bits squaring only doubles the exponents, so
+/// that is (1 + s4 + s11 + s16)(1 + s8 + s22 + s32)(1 + s16 + s44)(1 + s32); shifts by 64 or more give nothing.
+#[inline]
+fn remainder_of(mut t: u64) -> u16 {
+    t ^= t >> 32;
+    t ^= (t >> 16) ^ (t >> 44);
+    t ^= (t >> 8) ^ (t >> 22) ^ (t >> 32);
+    t ^= (t >> 4) ^ (t >> 11) ^ (t >> 16);
+    (t ^ (t << 5) ^ (t << 12)) as u16
+}
 
-const fn table() -> [u16; 256] {
-    let mut table = [0; 256];
-    let mut byte = 0;
-    while byte < 256 {
-        let mut register = (byte as u16) << 8;
-        let mut bit = 0;
-        while bit < 8 {
-            register = if register & 0x8000 != 0 { (register << 1) ^ 0x1021 } else { register << 1 };
-            bit += 1;
+/// The register after the bytes of the items, eight at a time.
+fn crc_after(mut crc: u16, items: &[u16]) -> u16 {
+    let (blocks, rest) = items.as_chunks::<64>();
+    for block in blocks {
+        let bytes = block.map(|item| item as u8);
+        for eight in bytes.as_chunks::<8>().0 {
+            crc = remainder_of(u64::from_be_bytes(*eight) ^ u64::from(crc) << 48);
         }
-        table[byte] = register;
-        byte += 1;
     }
-    table
+    let (eights, rest) = rest.as_chunks::<8>();
+    for eight in eights {
+        crc = remainder_of(u64::from_be_bytes(eight.map(|item| item as u8)) ^ u64::from(crc) << 48);
+    }
+    for item in rest {
+        crc = (crc << 8) ^ remainder_of(u64::from((item & 0xFF) ^ (crc >> 8)));
+    }
+    crc
 }
 
-pub struct Register {
-    pub value: u16,
-    after_mark: bool,
-}
-
-impl Register {
-    pub fn new() -> Self {
-        Register { value: 0xFFFF, after_mark: false }
-    }
-
-    /// Passes a data or mark byte through.
-    #[inline]
-    pub fn pass(&mut self, item: u16) {
-        let mark = item >= MARK;
-        if mark && !self.after_mark {
-            self.value = 0xFFFF;
+/// The register after items without a check order, which begin a list or follow a check order. Only the last reset
+/// counts: it stands before the first of the last marks that follow each other.
+pub fn register_after(crc: u16, items: &[u16]) -> u16 {
+    let mut front = items;
+    while let Some((rest, eight)) = front.split_last_chunk::<8>() {
+        if eight.iter().fold(0, |bits, item| bits | item) >= MARK {
+            break;
         }
-        self.after_mark = mark;
-        let index = (self.value >> 8) ^ (item & 0xFF);
-        self.value = (self.value << 8) ^ TABLE[usize::from(index)];
+        front = rest;
     }
+    let Some(last) = front.iter().rposition(|item| *item >= MARK) else { return crc_after(crc, items) };
+    let first = front[..last].iter().rposition(|item| *item < MARK).map_or(0, |place| place + 1);
+    crc_after(ALL_ONES, &items[first..])
 }

@@ -2,100 +2,209 @@
 
 use ism::sys::{Answer, Profile};
 
-use super::register::{is_item, Register, CHECK, MARK_A1, MARK_C2};
+use super::register::{is_item, register_after, ALL_ONES, CHECK, MARK_A1, MARK_C2};
 use super::{check_profile, counted, either, refused, MAX_BYTES};
 
-/// Gives the length of each cell to `sink`, one cell behind: the compare point at the end of a cell depends on whether
-/// the next cell has zeros.
-struct CellWriter<S> {
-    nominal: [i32; 3],
-    points: [[i32; 2]; 2],
-    sink: S,
-    pending: Option<usize>,
-    start: i32,
-    last_bit: bool,
-    zeros: usize,
+/// Whether a cell ends in the lower of two neighbouring bits: unless it is a 0 behind a 1.
+const fn cell_ends(window: usize, shift: u32) -> usize {
+    (window >> shift & 3 != 2) as usize
 }
 
-impl<S: FnMut(u16)> CellWriter<S> {
-    fn new(p: &Profile, sink: S) -> Self {
-        let [t1, t0, early, normal, late] = [p.t1, p.t0, p.early, p.normal, p.late].map(i32::from);
-        CellWriter {
-            nominal: [t1, t1 + t0, t1 + 2 * t0],
-            points: [[2 * normal, 2 * early], [2 * late, 2 * normal]],
-            sink,
-            pending: None,
-            start: 0,
-            last_bit: false,
-            zeros: 0,
+/// Bits become cells by what stands around them. The cell that ends in a bit depends on three bits before and one
+/// behind: bits that differ are what makes a cell longer than 2 units. So a window of eight bits, three before, four
+/// and one behind, has the cells that end in its four middle bits. This is how many.
+const CELLS_IN: [u8; 256] = {
+    let mut cells = [0; 256];
+    let mut w = 0;
+    while w < 256 {
+        cells[w] = (cell_ends(w, 4) + cell_ends(w, 3) + cell_ends(w, 2) + cell_ends(w, 1)) as u8;
+        w += 1;
+    }
+    cells
+};
+
+/// What stands before the first byte: a 0 that is no part of a byte.
+const LEAD: u16 = 0x400;
+
+/// Up to so many bytes the table of eight bits costs more than it saves.
+const FEW: usize = 128;
+
+/// What depends on the profile. `WINDOWS` is 256, or 0 to do without `cells`.
+struct Tables<const WINDOWS: usize> {
+    /// by zeros in the cell before, zeros, zeros in the cell behind; before and behind: none or some
+    length: [[[u16; 2]; 3]; 2],
+    /// by window of five bits: the length of the cell that ends in its fourth
+    one: [u16; 32],
+    /// by window of eight bits: the lengths of its cells, the first `CELLS_IN` of them
+    cells: [[u16; 4]; WINDOWS],
+}
+
+fn lengths(p: &Profile) -> [[[u16; 2]; 3]; 2] {
+    let point = [[2 * p.normal, 2 * p.early], [2 * p.late, 2 * p.normal]];
+    let mut length = [[[0; 2]; 3]; 2];
+    for (before, by_zeros) in length.iter_mut().enumerate() {
+        for (zeros, by_behind) in by_zeros.iter_mut().enumerate() {
+            let some = usize::from(zeros > 0);
+            let nominal = p.t1 + zeros as u16 * p.t0;
+            *by_behind =
+                [0, 1].map(|behind| nominal.wrapping_add(point[some][behind]).wrapping_sub(point[before][some]));
+        }
+    }
+    length
+}
+
+/// Which length the cell has that ends in the fourth of five bits a b c d e, if one does.
+const LENGTH_OF: [[u8; 3]; 32] = {
+    let mut places = [[0; 3]; 32];
+    let mut w = 0;
+    while w < 32 {
+        let (a, b, c, d, e) = (w >> 4 & 1, w >> 3 & 1, w >> 2 & 1, w >> 1 & 1, w & 1);
+        places[w as usize] = if c == 1 { [1 - b, 0, d ^ e] } else { [a ^ b, b + d, d ^ e] };
+        w += 1;
+    }
+    places
+};
+
+/// Cells of two bits and of four: the cells of the second half stand behind those of the first.
+fn cells<const WINDOWS: usize>(one: &[u16; 32]) -> [[u16; 4]; WINDOWS] {
+    let (mut two, mut four) = ([[0; 2]; 64], [[0; 4]; WINDOWS]);
+    if WINDOWS > 0 {
+        for (window, cells) in two.iter_mut().enumerate() {
+            *cells = [one[window >> 1]; 2];
+            cells[cell_ends(window, 2)] = one[window & 31];
+        }
+    }
+    for (first, windows) in four.chunks_exact_mut(4).enumerate() {
+        let behind = cell_ends(first, 2) + cell_ends(first, 1);
+        for (last, cells) in windows.iter_mut().enumerate() {
+            cells[..2].copy_from_slice(&two[first & 63]);
+            cells[behind..behind + 2].copy_from_slice(&two[(4 * first + last) & 63]);
+        }
+    }
+    four
+}
+
+impl<const WINDOWS: usize> Tables<WINDOWS> {
+    fn new(p: &Profile) -> Self {
+        let length = lengths(p);
+        let one = LENGTH_OF.map(|place| {
+            let [before, zeros, behind] = place.map(usize::from);
+            length[before][zeros][behind]
+        });
+        Tables { length, one, cells: cells(&one) }
+    }
+
+    /// The cells of a window to the place `at`; up to four are filled. The place behind them.
+    #[inline(always)]
+    fn put_window(&self, out: &mut [u16], mut at: usize, window: u16) -> usize {
+        let window = usize::from(window & 0xFF);
+        if WINDOWS > 0 {
+            out[at..at + 4].copy_from_slice(&self.cells[window]);
+            return at + usize::from(CELLS_IN[window]);
+        }
+        for shift in [3, 2, 1, 0] {
+            out[at] = self.one[window >> shift & 31];
+            at += cell_ends(window, shift + 1);
+        }
+        at
+    }
+
+    fn put(out: &mut [u16], at: usize, lengths: &[u16]) -> usize {
+        out[at..at + lengths.len()].copy_from_slice(lengths);
+        at + lengths.len()
+    }
+
+    /// The second half of a byte: of a mark, whose left out clock makes a cell of 4 units, or as its window says.
+    fn put_second_half(&self, out: &mut [u16], at: usize, byte: u16, next: u16) -> usize {
+        let [_, three, four] = self.length[1];
+        match byte {
+            LEAD => at,
+            MARK_A1 => Self::put(out, at, &[three[1], four[1], three[usize::from(next < 128)]]),
+            MARK_C2 => Self::put(out, at, &[four[1], three[1]]),
+            _ => self.put_window(out, at, byte << 1 | next >> 7),
         }
     }
 
-    /// A transition after `zeros` zeros.
-    #[inline]
-    fn end_cell(&mut self, zeros: usize) {
-        let before = self.pending.unwrap_or(0);
-        let point = self.points[usize::from(before > 0)][usize::from(zeros > 0)];
-        if let Some(pending) = self.pending {
-            (self.sink)((self.nominal[pending] + point - self.start) as u16);
+    /// A byte that is a mark or follows one or the lead. In C2 the cell behind the first half is the one of 4 units.
+    #[inline(never)]
+    fn put_beside_mark(&self, out: &mut [u16], at: usize, last: u16, byte: u16) -> usize {
+        let at = self.put_second_half(out, at, last, byte & 0xFF);
+        let at = self.put_window(out, at, (last << 8 | byte & 0xFF) >> 3);
+        if byte == MARK_C2 {
+            out[at - 1] = self.length[0][1][1];
         }
-        self.start = point;
-        self.pending = Some(zeros);
-        self.zeros = 0;
+        at
     }
 
-    #[inline]
-    fn bit(&mut self, bit: bool) {
-        match (self.last_bit, bit) {
-            (false, false) | (true, true) => self.end_cell(self.zeros),
-            (false, true) => self.end_cell(self.zeros + 1),
-            (true, false) => self.zeros += 1,
-        }
-        self.last_bit = bit;
-    }
-
-    /// `gap` is the bit, from the most significant, at which the transition before it is left out; 8 for none.
-    #[inline]
-    fn byte(&mut self, byte: u8, gap: u32) {
-        for place in 0..8 {
-            if place == gap {
-                self.zeros += 2;
-                self.last_bit = false;
+    /// Bytes, data or marks, behind `last`. Four places are filled for every half byte. What goes beyond its cells is
+    /// still of this stream: at least two cells of the last half byte and the closing one are to come.
+    fn put_bytes(&self, out: &mut [u16], mut at: usize, mut last: u16, bytes: &[u16]) -> (usize, u16) {
+        for byte in bytes {
+            if last | byte > 0xFF {
+                at = self.put_beside_mark(out, at, last, *byte);
             } else {
-                self.bit(byte & (0x80 >> place) != 0);
+                let bits = last << 8 | byte;
+                at = self.put_window(out, at, bits >> 7);
+                at = self.put_window(out, at, bits >> 3);
             }
+            last = *byte;
         }
+        (at, last)
+    }
+
+    /// The last half byte and the closing 0s, whose cells are exactly counted.
+    fn close(&self, out: &mut [u16], at: usize, last: u16) -> usize {
+        let mut rest = [0; 8];
+        let behind = self.put_second_half(&mut rest, 0, last, 0);
+        self.put_window(&mut rest, behind, last << 5);
+        let count = behind + if last & 1 == 1 { 1 } else { 2 };
+        Self::put(out, at, &rest[..count])
     }
 }
 
-fn write_items(p: &Profile, items: &[u16], sink: impl FnMut(u16)) {
-    let mut cells = CellWriter::new(p, sink);
-    let mut register = Register::new();
-    for item in items {
-        if *item == CHECK {
-            for byte in register.value.to_be_bytes() {
-                cells.byte(byte, 8);
-                register.pass(u16::from(byte));
-            }
-        } else {
-            let gap = match *item {
-                MARK_A1 => 5,
-                MARK_C2 => 4,
-                _ => 8,
-            };
-            cells.byte(*item as u8, gap);
-            register.pass(*item);
-        }
-    }
-    cells.bit(false);
-    cells.bit(false);
-    cells.end_cell(0);
+fn write_cells<const WINDOWS: usize>(p: &Profile, items: &[u16], checks: u16, out: &mut [u16]) -> usize {
+    let tables: Tables<WINDOWS> = Tables::new(p);
+    let (mut at, mut last) = (0, LEAD);
+    each_stretch(items, checks, |bytes| (at, last) = tables.put_bytes(out, at, last, bytes));
+    tables.close(out, at, last)
 }
 
-fn count_cells(p: &Profile, items: &[u16]) -> usize {
-    let mut count = 0;
-    write_items(p, items, |_| count += 1);
-    count
+/// The written bytes of a list, given in stretches: those up to the next check order, then its two bytes.
+pub fn each_stretch(items: &[u16], mut checks: u16, mut take: impl FnMut(&[u16])) {
+    let (mut rest, mut crc) = (items, ALL_ONES);
+    while checks > 0 {
+        let place = rest.iter().position(|item| *item == CHECK).unwrap_or(rest.len());
+        crc = register_after(crc, &rest[..place]);
+        take(&rest[..place]);
+        take(&crc.to_be_bytes().map(u16::from));
+        // the register's own two bytes leave it at 0
+        crc = 0;
+        checks -= 1;
+        rest = &rest[place + 1..];
+    }
+    take(rest);
+}
+
+/// Bits of a byte in which no cell ends: a 0 behind a 1, and the left out clock of a mark.
+#[inline]
+fn bits_without_cell(before: u16, byte: u16) -> u16 {
+    let falls = (before << 7 | (byte & 0xFF) >> 1) & !byte & 0xFF;
+    let falls = (falls & 0x55) + (falls >> 1 & 0x55);
+    let falls = (falls & 0x33) + (falls >> 2 & 0x33);
+    (falls & 15) + (falls >> 4) + (byte >> 8)
+}
+
+fn count_cells(items: &[u16], checks: u16, written: usize) -> usize {
+    let (mut without, mut last) = (0, 0);
+    each_stretch(items, checks, |bytes| {
+        if let [first, .., end] | [first @ end] = bytes {
+            without += bits_without_cell(last, *first);
+            without +=
+                bytes.iter().zip(&bytes[1..]).map(|(before, byte)| bits_without_cell(*before, *byte)).sum::<u16>();
+            last = *end;
+        }
+    });
+    8 * written + 2 - usize::from(without + (last & 1))
 }
 
 #[inline(never)]
@@ -108,21 +217,26 @@ fn write(p: &Profile, items: &[u16], out: &mut [u16]) -> Result<Answer, Answer> 
     if items.len() > MAX_BYTES {
         return Err(refused(4, 0));
     }
-    let bytes = items.len() + items.iter().filter(|item| **item == CHECK).count();
-    if bytes > MAX_BYTES {
+    let (mut checks, mut foreign) = (0, false);
+    for item in items {
+        checks += u16::from(*item == CHECK);
+        foreign |= !is_item(*item);
+    }
+    let written = items.len() + usize::from(checks);
+    if written > MAX_BYTES {
         return Err(refused(4, 0));
     }
-    if let Some(place) = items.iter().position(|item| !is_item(*item)) {
-        return Err(refused(3, place));
+    if foreign {
+        return Err(refused(3, items.iter().position(|item| !is_item(*item)).unwrap_or(0)));
     }
-    if out.len() < 8 * bytes + 2 && out.len() < count_cells(p, items) {
+    if out.len() < 8 * written + 2 && out.len() < count_cells(items, checks, written) {
         return Err(refused(9, 0));
     }
-    let mut count = 0;
-    write_items(p, items, |length| {
-        out[count] = length;
-        count += 1;
-    });
+    let count = if written <= FEW {
+        write_cells::<0>(p, items, checks, out)
+    } else {
+        write_cells::<256>(p, items, checks, out)
+    };
     Ok(counted(count as u64))
 }
 

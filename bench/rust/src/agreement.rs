@@ -1,0 +1,289 @@
+//! Random calls, on which every implementation must give the library's answer and leave the library's output: lists
+//! and streams that are accepted, damaged ones, profiles out of range, outputs that are short, exact and roomy.
+
+use ism::sys::{Answer, Fifo, FifoAnswer, Profile};
+use ism::{CHECK, MARK_A1, MARK_C2, MAX_BYTES, MAX_INTERVALS};
+
+use crate::implementations::{Implementation, FIFO_OPERATIONS};
+use crate::tasks::PROFILE;
+
+/// Numbers without a pattern, the same in every run (splitmix).
+pub struct Random(u64);
+
+impl Random {
+    pub fn new(seed: u64) -> Self {
+        Random(seed)
+    }
+
+    fn next(&mut self) -> u64 {
+        self.0 = self.0.wrapping_add(0x9E37_79B9_7F4A_7C15);
+        let mixed = (self.0 ^ self.0 >> 30).wrapping_mul(0xBF58_476D_1CE4_E5B9);
+        let mixed = (mixed ^ mixed >> 27).wrapping_mul(0x94D0_49BB_1331_11EB);
+        mixed ^ mixed >> 31
+    }
+
+    /// Below a bound.
+    pub fn below(&mut self, bound: u64) -> u64 {
+        (self.next() >> 11) % bound.max(1)
+    }
+
+    fn one_in(&mut self, n: u64) -> bool {
+        self.below(n) == 0
+    }
+
+    fn within(&mut self, low: i64, high: i64) -> i64 {
+        low + self.below((high - low + 1).max(1) as u64) as i64
+    }
+
+    fn of<T: Copy>(&mut self, list: &[T]) -> T {
+        list[self.below(list.len() as u64) as usize]
+    }
+
+    /// Mostly short, seldom long, and then mostly as long as may be.
+    fn length(&mut self, most: u64) -> usize {
+        let length = if self.one_in(2_000) {
+            self.of(&[most, most, most - 1, most - 2, most / 2])
+        } else {
+            let short = self.of(&[3, 12, 40]);
+            self.below(most.min(short) + 1)
+        };
+        length as usize
+    }
+}
+
+/// A profile that is true, or nearly.
+fn profile(r: &mut Random) -> Profile {
+    if r.one_in(3) {
+        return PROFILE;
+    }
+    let (early, late) = (r.within(0, 7), r.within(7, 15));
+    let d = 2 * (late - early);
+    let most = r.of(&[d + 40, 1_023]);
+    let (t1, t0) = (r.within(d + 2, most), r.within(d + 2, most));
+    let p = [
+        t1,
+        t0,
+        early,
+        r.within(early, late),
+        late,
+        r.within(1, t1 - d),
+        r.within(t1 + 1, t1 + t0),
+        r.within(t1 + t0 + d + 1, t1 + 2 * t0),
+        r.within(t1 + 2 * t0 + d + 1, 4_095),
+    ];
+    let mut p = p.map(|number| number as u16);
+    if r.one_in(30) {
+        let which = r.below(9) as usize;
+        p[which] = r.of(&[0, 1, 15, 16, 1_023, 1_024, 4_095, 4_096, 65_535]);
+    }
+    let [t1, t0, early, normal, late, min, b23, b34, rpt] = p;
+    Profile { t1, t0, early, normal, late, min, b23, b34, rpt }
+}
+
+fn item(r: &mut Random) -> u16 {
+    match r.below(12) {
+        0 => r.of(&[MARK_A1, MARK_C2]),
+        1 => CHECK,
+        2 | 3 => r.of(&[0x00, 0xFF, 0x4E, 0xA1, 0xC2, 0x14, 0x0A]),
+        _ => r.below(256) as u16,
+    }
+}
+
+fn items(r: &mut Random, n: usize) -> Vec<u16> {
+    if r.one_in(4) {
+        let only = item(r);
+        return vec![only; n];
+    }
+    (0..n).map(|_| item(r)).collect()
+}
+
+fn foreign_at_times(r: &mut Random, mut list: Vec<u16>) -> Vec<u16> {
+    while !list.is_empty() && r.one_in(10) {
+        let place = r.below(list.len() as u64) as usize;
+        list[place] = r.of(&[256, 417 + 1, 0x1C3, 511, 513, 0x3FF, 32_768, 65_535, r.0 as u16]);
+    }
+    list
+}
+
+/// The stream of a list, sync field in front at times, each interval moved, and damaged at times.
+fn stream(r: &mut Random, library: &Implementation, p: Profile, longest: u64) -> Vec<u16> {
+    let n = r.length(longest);
+    let mut list = items(r, n);
+    if r.one_in(3) {
+        list.splice(0..0, [vec![0; 7 + r.below(3) as usize], vec![r.of(&[MARK_A1, MARK_C2]); 3]].concat());
+    }
+    let mut out = vec![0; 16 * list.len() + 2];
+    let count = (library.write)(p, &list, &mut out).count as usize;
+    out.truncate(count);
+    let moved = r.of(&[0, 0, 1, 3, 12]);
+    for interval in &mut out {
+        *interval = (i64::from(*interval) + r.within(-moved, moved)).max(0) as u16;
+    }
+    let harm = r.of(&[0, 0, 1, 2, 5]);
+    for _ in 0..harm {
+        damage(r, p, &mut out);
+    }
+    out
+}
+
+fn damage(r: &mut Random, p: Profile, list: &mut Vec<u16>) {
+    let edges = [p.min, p.b23, p.b34, p.rpt];
+    let interval = match r.below(8) {
+        0 => r.below(65_536) as u16,
+        1 => r.of(&edges).wrapping_sub(1),
+        2 => r.of(&edges),
+        3 => p.t1.wrapping_add(p.t0),
+        4 | 5 => p.t1.wrapping_add(p.t0).wrapping_add(p.t0),
+        _ => p.t1,
+    };
+    let place = r.below(list.len() as u64 + 1) as usize;
+    match r.below(6) {
+        0 => list.insert(place, interval),
+        1 => list.truncate(place),
+        2 => list.splice(place..place, vec![interval; r.length(70)]).for_each(drop),
+        3 if place < list.len() => drop(list.remove(place)),
+        _ if place < list.len() => list[place] = interval,
+        _ => list.push(interval),
+    }
+}
+
+/// An output around the length that is needed.
+fn room(r: &mut Random, needed: u64) -> usize {
+    match r.below(6) {
+        0 => r.below(needed + 1) as usize,
+        1 => needed.saturating_sub(1) as usize,
+        2 | 3 => needed as usize,
+        4 => needed as usize + 1,
+        _ => needed as usize + r.below(40) as usize,
+    }
+}
+
+const FILL: u16 = 0xBEEF;
+
+/// One call: every implementation's answer and output, the library's first.
+type Results<A> = Vec<(A, Vec<u16>)>;
+
+fn with_output<A>(all: &[Implementation], room: usize, call: impl Fn(&Implementation, &mut [u16]) -> A) -> Results<A> {
+    let of_one = |who| {
+        let mut out = vec![FILL; room];
+        (call(who, &mut out), out)
+    };
+    all.iter().map(of_one).collect()
+}
+
+fn same<A: PartialEq + std::fmt::Debug>(
+    all: &[Implementation],
+    what: impl Fn() -> String,
+    results: Results<A>,
+) -> Result<(), String> {
+    match results.iter().position(|result| *result != results[0]) {
+        None => Ok(()),
+        Some(who) => Err(format!("{}: {} gives {:?}, library {:?}", what(), all[who].name, results[who], results[0])),
+    }
+}
+
+fn write(r: &mut Random, all: &[Implementation], p: Profile) -> Result<(), String> {
+    let n = r.length(MAX_BYTES as u64 + 2);
+    let list = items(r, n);
+    let list = foreign_at_times(r, list);
+    let mut out = vec![0; 16 * n + 2];
+    let needed = (all[0].write)(p, &list, &mut out).count;
+    let room = room(r, needed);
+    same(all, || format!("write {p:?} {list:?}"), with_output(all, room, |who, out| (who.write)(p, &list, out)))
+}
+
+/// Around the limits of a strip: cells of 4 units for 6,400 or 6,401 bytes, and as many intervals as may be or more.
+fn long_strip(r: &mut Random, p: Profile) -> Vec<u16> {
+    let four = p.t1.wrapping_add(p.t0).wrapping_add(p.t0);
+    vec![four; r.of(&[25_601, 25_605, MAX_INTERVALS, MAX_INTERVALS + 1])]
+}
+
+fn read(r: &mut Random, all: &[Implementation], p: Profile) -> Result<(), String> {
+    let list = if r.one_in(2_000) { long_strip(r, p) } else { stream(r, &all[0], p, MAX_BYTES as u64) };
+    let mut out = vec![0; list.len() / 4 + 1];
+    let needed = (all[0].read)(p, &list, &mut out).count;
+    let room = room(r, needed);
+    same(all, || format!("read {p:?} {list:?}"), with_output(all, room, |who, out| (who.read)(p, &list, out)))
+}
+
+fn read_field(r: &mut Random, all: &[Implementation], p: Profile) -> Result<(), String> {
+    let list = stream(r, &all[0], p, 1_040);
+    let from = if r.one_in(3) { r.below(list.len() as u64 + 1) as usize } else { 0 };
+    let most = list.len() as u64 / 6 + 2;
+    let bytes = if r.one_in(30) { r.of(&[0, 1, 1_030, 1_031, u64::MAX]) } else { 1 + r.below(most) };
+    let room = room(r, bytes.min(2_000));
+    let list = &list[from..];
+    let what = || format!("read_field {p:?} {bytes} {list:?}");
+    same(all, what, with_output(all, room, |who, out| (who.read_field)(p, list, bytes, out)))
+}
+
+fn find(r: &mut Random, all: &[Implementation], p: Profile) -> Result<(), String> {
+    let mut list = stream(r, &all[0], p, 60);
+    while r.one_in(2) {
+        list.extend(stream(r, &all[0], p, 60));
+    }
+    let start = match r.below(4) {
+        0 | 1 => 0,
+        2 => r.below(list.len() as u64 + 3),
+        _ => r.of(&[u64::MAX, 1, 2]),
+    };
+    let what = || format!("find {p:?} {start} {list:?}");
+    same(all, what, with_output(all, 0, |who, _| (who.find)(p, &list, start)))
+}
+
+fn make_sector(r: &mut Random, all: &[Implementation]) -> Result<(), String> {
+    let id = [r.below(256) as u8, r.below(2) as u8, r.below(256) as u8, r.below(5) as u8];
+    let n = (128 << id[3]) + if r.one_in(10) { r.within(-1, 1) } else { 0 };
+    let data: Vec<u8> = (0..n).map(|_| r.below(256) as u8).collect();
+    let room = room(r, n as u64 + 114);
+    same(
+        all,
+        || format!("make_sector {id:?} {n}"),
+        with_output(all, room, |who, out| (who.make_sector)(id, &data, out)),
+    )
+}
+
+fn of_profile(r: &mut Random, all: &[Implementation], p: Profile) -> Result<(), String> {
+    let interval = r.of(&[p.min, p.b23, p.b34, p.rpt, 0]).wrapping_sub(r.below(2) as u16);
+    let both = |who: &Implementation, _: &mut [u16]| -> [Answer; 2] { [(who.margin)(p), (who.class)(p, interval)] };
+    same(all, || format!("margin and class {p:?} {interval}"), with_output(all, 0, both))
+}
+
+/// Places that `held` does not count mean nothing.
+fn counted_places(mut answer: FifoAnswer) -> FifoAnswer {
+    if answer.next.held == 0 {
+        answer.next.first = 0;
+    }
+    if answer.next.held < 2 {
+        answer.next.second = 0;
+    }
+    answer
+}
+
+fn fifo(r: &mut Random, all: &[Implementation]) -> Result<(), String> {
+    let [mode, held] = [0; 2].map(|_: u16| r.of(&[0, 1, 2, 3, 65_535]));
+    let [first, second, put] = [0; 3].map(|_: u16| if r.one_in(5) { r.of(&[256, 513]) } else { item(r) });
+    let state = Fifo { mode, held, first, second, error: r.of(&[0, 0, 1, 2, 4, 7]) };
+    let operation = r.below(FIFO_OPERATIONS.into()) as u8;
+    let call =
+        |who: &Implementation, _: &mut [u16]| -> FifoAnswer { counted_places((who.fifo)(operation, state, put)) };
+    same(all, || format!("fifo {operation} {state:?} {put}"), with_output(all, 0, call))
+}
+
+/// So many calls; how the implementations differ, if they do.
+pub fn run(all: &[Implementation], calls: u64) -> Result<(), String> {
+    let r = &mut Random::new(1987);
+    for _ in 0..calls {
+        let p = profile(r);
+        match r.below(16) {
+            0..=3 => write(r, all, p)?,
+            4..=7 => read(r, all, p)?,
+            8..=10 => read_field(r, all, p)?,
+            11..=12 => find(r, all, p)?,
+            13 if r.one_in(4) => make_sector(r, all)?,
+            14 => fifo(r, all)?,
+            _ => of_profile(r, all, p)?,
+        }
+    }
+    Ok(())
+}

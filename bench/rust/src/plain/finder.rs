@@ -1,0 +1,99 @@
+//! Finder.
+
+use ism::sys::{Answer, Profile};
+
+use super::{check_profile, classify, counted, either, refused};
+
+const SYNC: usize = 64;
+const MARK_CELLS: usize = 5;
+/// Looked at one by one before spans are.
+const NEAR: usize = 8;
+const SPAN: usize = 16;
+
+struct Class2 {
+    min: u16,
+    width: u16,
+}
+
+impl Class2 {
+    #[inline(always)]
+    fn is_other(&self, interval: &u16) -> bool {
+        interval.wrapping_sub(self.min) >= self.width
+    }
+
+    #[inline(always)]
+    fn is_all_of(&self, span: &[u16; SPAN]) -> bool {
+        span.iter().fold(0, |others, interval| others | u16::from(self.is_other(interval))) == 0
+    }
+
+    /// How many intervals go up to the last of another class. In data that is near the end, else far.
+    #[inline]
+    fn before_run(&self, intervals: &[u16]) -> usize {
+        let (mut far, near) = intervals.split_at(intervals.len().saturating_sub(NEAR));
+        if let Some(place) = near.iter().rposition(|interval| self.is_other(interval)) {
+            return far.len() + place + 1;
+        }
+        while let Some((rest, span)) = far.split_last_chunk::<SPAN>() {
+            if !self.is_all_of(span) {
+                break;
+            }
+            far = rest;
+        }
+        far.iter().rposition(|interval| self.is_other(interval)).map_or(0, |place| place + 1)
+    }
+
+    /// How many intervals come before the first of another class.
+    #[inline]
+    fn run(&self, intervals: &[u16]) -> usize {
+        let mut rest = intervals;
+        while let Some((span, others)) = rest.split_first_chunk::<SPAN>() {
+            if !self.is_all_of(span) {
+                break;
+            }
+            rest = others;
+        }
+        let seen = intervals.len() - rest.len();
+        seen + rest.iter().position(|interval| self.is_other(interval)).unwrap_or(rest.len())
+    }
+}
+
+#[inline(never)]
+pub fn plain_rust_find(profile: Profile, intervals: &[u16], start: u64) -> Answer {
+    either(find(&profile, intervals, start))
+}
+
+/// The 64 intervals of a run that begins at `first` are looked at from the last one back. One of another class rules
+/// out every run over it, and what was seen behind it is not looked at again, so no interval is seen twice.
+fn find(p: &Profile, intervals: &[u16], start: u64) -> Result<Answer, Answer> {
+    check_profile(p)?;
+    let class_2 = Class2 { min: p.min, width: p.b23 - p.min };
+    let mut first = usize::try_from(start).unwrap_or(usize::MAX).min(intervals.len());
+    let mut seen = first;
+    while first + SYNC + MARK_CELLS <= intervals.len() {
+        if class_2.is_other(&intervals[first + SYNC - 1]) {
+            first += SYNC;
+            seen = first;
+            continue;
+        }
+        let at = seen + class_2.before_run(&intervals[seen..first + SYNC - 1]);
+        if at > seen {
+            seen = first + SYNC;
+            first = at;
+            continue;
+        }
+        let end = first + SYNC + class_2.run(&intervals[first + SYNC..]);
+        if is_mark(p, &intervals[end..]) {
+            return Ok(counted(end as u64));
+        }
+        first = end + 1;
+        seen = first;
+    }
+    Err(refused(10, 0))
+}
+
+/// Whether the intervals begin with those of a mark.
+fn is_mark(p: &Profile, intervals: &[u16]) -> bool {
+    let Some(five) = intervals.first_chunk::<MARK_CELLS>() else { return false };
+    let classes = five.map(|interval| classify(p, interval));
+    classes == [3, 4, 3, 4, 3] || classes == [3, 2, 3, 4, 3]
+}
