@@ -48,8 +48,8 @@ extern "C" {
 #define ISM_UNSET 1u     /* profile number out of range; place: which of the nine, 1 to 9, the lowest */
 #define ISM_CROSSED 2u   /* profile not true: its windows miss its own cell lengths */
 #define ISM_FOREIGN 3u   /* not an item; place: the lowest such item */
-#define ISM_OVERLONG 4u  /* over 6,400 items, written bytes, bytes read or words, over 51,202 intervals in a
-                            strip or in the list of a report, or a count or sum of added reports that does not fit in 64 bits */
+#define ISM_OVERLONG 4u  /* over 6,400 items, written bytes, bytes read or words; over 51,202 intervals in a strip or in
+                            the list of a report; a count or sum of added reports that does not fit in 64 bits */
 #define ISM_NARROW 5u    /* interval below Min; place: the interval */
 #define ISM_WIDE 6u      /* interval of Rpt or more; place: the interval */
 #define ISM_RAGGED 7u    /* the bits are not 8n + 2, or the last of them is 1 */

@@ -29,7 +29,7 @@ use Rattle.lengths.proofs.NearLaws.{near-of-each, near-at, near-itself, near-st
 use Rattle.lengths.proofs.StreamLaws.{length-fits}
 use Rattle.lengths.proofs.PapersMargin.{margin-is-the-papers, one-byte-is-written}
 use Rattle.codec.specs.Reader.{itemsOfStream, readRule}
-use Rattle.demands.specs.Streams.{AcceptedProfile, AcceptedList, Moved, ReadsAs, Misread, refused}
+use Rattle.demands.specs.Streams.{AcceptedProfile, AcceptedList, Moved, ReadsAs, Misread, turned-away}
 use Rattle.demands.specs.Streams.{another}
 use Rattle.demands.specs.Demand2.{CellsAreClasses}
 use Rattle.demands.specs.Demand3.{stated, Counterexample, Demand3}
@@ -115,7 +115,7 @@ module _ (p : Profile) (accepts : AcceptedProfile p) where
       → (accepted-here : Bool)
       → eqb (readRule p ds (length output) .number) 0 ≡ accepted-here
       → Misread p ds output (b ∷ [])
-  misread b ds output other false e = refused (eqb-false _ 0 e)
+  misread b ds output other false e = turned-away (eqb-false _ 0 e)
   misread b ds output other true e =
       let (ws, a, cells, reads) = read-only-lists p ds output (eqb-true _ 0 e) in
       another ws reads

@@ -14,7 +14,7 @@ use Rattle.items.specs.Item.{isForeign, writtenBytes}
 use Rattle.items.specs.Written.{written}
 use Rattle.items.specs.Rule.{listRule}
 use Rattle.images.specs.Image.{imageOf, unrulyIn, bytesIn}
-use Rattle.images.specs.Rules.{roomRule, makeRule, makeOutput, wordsRule, readRule, readOutput}
+use Rattle.images.specs.Rules.{roomRule, makeRule, makeOutput, wordsRule, readImageRule, readImageOutput}
 use Rattle.images.proofs.ImageLaws.{length-of-image, length-of-bytes}
 use Rattle.demands.specs.Order.{accept, turn, at0, InTurn, orderNumbers, Answers, Lent}
 use Rattle.demands.specs.ImageCauses.{imageMakerOrder, imageReaderOrder}
@@ -48,8 +48,8 @@ image-maker items room =
     (turn-before 2 _ _ _ (means-at (anywhere isForeign items) (lowest isForeign items))
     (room-in-turn (imageOf (written items)) (length (written items)) room (image-count items))))
 
-pub image-reader : (words : List ℕ) (room : ℕ) → Answers (imageReaderOrder words room) (readRule words room)
-unfolding readRule wordsRule orderNumbers everywhere
+pub image-reader : (words : List ℕ) (room : ℕ) → Answers (imageReaderOrder words room) (readImageRule words room)
+unfolding readImageRule wordsRule orderNumbers everywhere
 image-reader words room =
     let flags = unrulyIn words in
     answers refl
@@ -82,8 +82,8 @@ image-output items old =
     (room-enough (listRule items) image (length (written items)) (length old) (image-count items))
 
 pub image-items
-    : (words old : List ℕ) → Lent (readRule words (length old)) (bytesIn words) old (readOutput words old)
-unfolding readOutput readRule
+    : (words old : List ℕ) → Lent (readImageRule words (length old)) (bytesIn words) old (readImageOutput words old)
+unfolding readImageOutput readImageRule
 image-items words old =
-    settled-is-lent (readRule words (length old)) (bytesIn words) old
+    settled-is-lent (readImageRule words (length old)) (bytesIn words) old
     (room-enough (wordsRule words) (bytesIn words) (length words) (length old) (item-count words))

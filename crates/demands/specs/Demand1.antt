@@ -17,7 +17,7 @@ use Rattle.fields.specs.FieldRule.{fieldRule, fieldOutput}
 use Rattle.sectors.specs.Sector.{sectorItems, sectorRule, sectorOutput}
 use Rattle.report.specs.Report.{Report, reportRule, addRule}
 use Rattle.images.specs.Image.{imageOf, bytesIn}
-use Rattle.images.specs.Rules.{makeRule, makeOutput, readRule as readImageRule, readOutput as readImageOutput}
+use Rattle.images.specs.Rules.{makeRule, makeOutput, readImageRule, readImageOutput}
 use Rattle.merge.specs.Set.{setBytes, sectorsIn}
 use Rattle.merge.specs.Merge.{merged}
 use Rattle.merge.specs.Rule.{mergeRule, mergeAnswer, mergeOutput}

@@ -41,5 +41,5 @@ OutputEnough p changed output = readRule p changed (length output) .number ≡ 9
 
 -- refused, or read as another list
 pub data Misread (p : Profile) (changed output ws : List ℕ) : Type 0 where
-  refused : (readRule p changed (length output) .number ≡ 0 → ⊥) → Misread p changed output ws
+  turned-away : (readRule p changed (length output) .number ≡ 0 → ⊥) → Misread p changed output ws
   another : (us : List ℕ) → ReadsAs p changed output us → (us ≡ ws → ⊥) → Misread p changed output ws

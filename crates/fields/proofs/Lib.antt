@@ -10,5 +10,5 @@ pub mod FrontLaws
 pub mod RuleLaws
 pub mod ReaderLaws
 pub mod FirstLockLaws
-pub mod GapLaws
+pub mod FillerLaws
 pub mod WrittenFieldLaws

@@ -15,7 +15,7 @@ use Rattle.items.proofs.RuleLaws.{listed, bytes-are-listed}
 use Rattle.items.proofs.WrittenLaws.{written-are-bytes, written-of-no-check, length-of-written}
 use Rattle.symbols.specs.Bits.{O}
 use Rattle.images.specs.Image.{imageOf, unrulyIn, bytesIn}
-use Rattle.images.specs.Rules.{makeRule, makeOutput, readRule}
+use Rattle.images.specs.Rules.{makeRule, makeOutput, readImageRule}
 use Rattle.images.specs.Claims.{ReadsAs, Images}
 use Rattle.images.proofs.CountLaws.{ones-are-transitions}
 use Rattle.images.proofs.DistanceLaws.{distances-are-cells}
@@ -49,7 +49,7 @@ made-reads-back items made output h room =
 
 read-is-made
     : (words output : List ℕ)
-    → readRule words (length output) .number ≡ 0
+    → readImageRule words (length output) .number ≡ 0
     → (ws : List ℕ)
     × (everywhere isByte ws ≡ true)
     × (listRule ws .number ≡ 0)

@@ -19,7 +19,7 @@ use Rattle.items.specs.Rule.{listRule}
 use Rattle.items.specs.Written.{written}
 use Rattle.symbols.specs.Bits.{O}
 use Rattle.images.specs.Image.{imageOf, unrulyIn, bytesIn}
-use Rattle.images.specs.Rules.{roomRule, makeRule, makeOutput, wordsRule, readRule, readOutput}
+use Rattle.images.specs.Rules.{roomRule, makeRule, makeOutput, wordsRule, readImageRule, readImageOutput}
 use Rattle.images.specs.Claims.{ReadsAs}
 use Rattle.images.proofs.ImageLaws.{length-of-image, length-of-flags}
 
@@ -129,30 +129,30 @@ module _ (words : List ℕ) where
 
 -- ---- reading
 
-pub read-of-accepted : (words : List ℕ) (room : ℕ) → readRule words room .number ≡ 0
+pub read-of-accepted : (words : List ℕ) (room : ℕ) → readImageRule words room .number ≡ 0
     → (wordsRule words .number ≡ 0) × (length words ≤ room)
-unfolding readRule
+unfolding readImageRule
 read-of-accepted words room h =
     let tests = first-refusal-accepts (wordsRule words) _ h in
     (tests .0, room-of-accepted (length words) room (tests .1))
 
 pub rule-of-read : (words : List ℕ) (room : ℕ) → wordsRule words .number ≡ 0
-    → roomRule (length words) room ≡ readRule words room
-unfolding readRule
+    → roomRule (length words) room ≡ readImageRule words room
+unfolding readImageRule
 rule-of-read words room h = sym (first-refusal-passes (wordsRule words) _ h)
 
 -- words that pass read as their bytes
 pub reads-as-its-bytes : (words output ws : List ℕ) → wordsRule words .number ≡ 0 → length words ≤ length output
     → length ws ≡ length words → bytesIn words ≡ ws → ReadsAs words output ws
-unfolding readOutput filled
+unfolding readImageOutput filled
 reads-as-its-bytes words output ws ruly room count e =
-    let answer : readRule words (length output) ≡ accepted (length words) =
+    let answer : readImageRule words (length output) ≡ accepted (length words) =
     sym (rule-of-read words (length output) ruly) ∙ accepted-with-room (length words) (length output) room in
     record {
       answer = answer ∙ ap accepted (sym count);
       front =
           ap (take (length ws))
-          (acceptance-fills-the-buffer (readRule words (length output)) (bytesIn words) output
+          (acceptance-fills-the-buffer (readImageRule words (length output)) (bytesIn words) output
           (ap (λ (a : Answer). a .number) answer)
           ∙ ap (λ (us : List ℕ). filled us output) e)
           ∙ take-append-seam ws _;

@@ -14,14 +14,14 @@ use Rattle.symbols.specs.Bits.{writtenBits}
 use Rattle.symbols.specs.Cells.{symbolsFrom, cellsOf, writtenCells}
 use Rattle.images.specs.Words.{wordOf, lastBit}
 use Rattle.images.specs.Image.{imageOf}
-use Rattle.images.specs.Rules.{makeRule, makeOutput, readRule, readOutput}
+use Rattle.images.specs.Rules.{makeRule, makeOutput, readImageRule, readImageOutput}
 use Rattle.images.specs.Distances.{framed, distances}
 
 -- an image reads as a list of data and mark bytes if it is accepted, the count given is the list's length, and the
 -- front of the output holds its bytes in order, each mark as a mark
 pub record ReadsAs (words output ws : List ℕ) : Type 0 where
-  pub answer : readRule words (length output) ≡ accepted (length ws)
-  pub front : take (length ws) (readOutput words output) ≡ ws
+  pub answer : readImageRule words (length output) ≡ accepted (length ws)
+  pub front : take (length ws) (readImageOutput words output) ≡ ws
 
 pub record Images : Type 0 where
   -- the number of ones in a word is the number of transitions it carries: the cells that end in its eight pairs of bits
@@ -42,7 +42,7 @@ pub record Images : Type 0 where
   -- and what reading accepts is the image of exactly the list that it gives
   pub read-is-made
       : (words output : List ℕ)
-      → readRule words (length output) .number ≡ 0
+      → readImageRule words (length output) .number ≡ 0
       → (ws : List ℕ)
       × (everywhere isByte ws ≡ true)
       × (listRule ws .number ≡ 0)

@@ -29,8 +29,8 @@ wordsRule words =
     (accepted 0))
 
 -- what reading an image answers; the count is the number of items
-unfoldable pub readRule : List ℕ → ℕ → Answer
-readRule words room = firstRefusal (wordsRule words) (roomRule (length words) room)
+unfoldable pub readImageRule : List ℕ → ℕ → Answer
+readImageRule words room = firstRefusal (wordsRule words) (roomRule (length words) room)
 
-unfoldable pub readOutput : List ℕ → List ℕ → List ℕ
-readOutput words old = settled (readRule words (length old)) (bytesIn words) old
+unfoldable pub readImageOutput : List ℕ → List ℕ → List ℕ
+readImageOutput words old = settled (readImageRule words (length old)) (bytesIn words) old

@@ -7,7 +7,7 @@ ghost use Rattle.lists.specs.Place.{lowest, passed};
 ghost use Rattle.lists.specs.Filled.{filled};
 ghost use Rattle.refusal.specs.Answer.{verdictAnswer, countedAnswer};
 ghost use Rattle.images.specs.Image.{unrulyIn};
-ghost use Rattle.images.specs.Rules.{wordsRule, readRule, readOutput};
+ghost use Rattle.images.specs.Rules.{wordsRule, readImageRule, readImageOutput};
 ghost use Rattle.images.specs.Candidate.{candidate};
 use crate::table::code_words;
 use crate::words::byte_of;
@@ -68,8 +68,8 @@ fn store_bytes(words: &[u16], out: &mut [u16])
 // An image: 9, or its items.
 fn read_words(words: &[u16], out: &mut [u16]) -> Counted
     requires { ⌜ wordsRule (now words) .number ≡ 0 ⌝ }
-    ensures answer { λ r. ⌜ countedAnswer r ≡ readRule (now (words .entry)) (length (now (out .entry))) ⌝ }
-    ensures output { λ _. ⌜ now (out .exit) ≡ readOutput (now (words .entry)) (now (out .entry)) ⌝ }
+    ensures answer { λ r. ⌜ countedAnswer r ≡ readImageRule (now (words .entry)) (length (now (out .entry))) ⌝ }
+    ensures output { λ _. ⌜ now (out .exit) ≡ readImageOutput (now (words .entry)) (now (out .entry)) ⌝ }
 {
     if out.len() < words.len() {
         return Counted::Refused(Refusal::OutputTooShort);
@@ -80,8 +80,8 @@ fn read_words(words: &[u16], out: &mut [u16]) -> Counted
 
 // An image as items: 4, 16, 9, or the number of items stored.
 pub fn read_image(words: &[u16], out: &mut [u16]) -> Counted
-    ensures answer { λ r. ⌜ countedAnswer r ≡ readRule (now (words .entry)) (length (now (out .entry))) ⌝ }
-    ensures output { λ _. ⌜ now (out .exit) ≡ readOutput (now (words .entry)) (now (out .entry)) ⌝ }
+    ensures answer { λ r. ⌜ countedAnswer r ≡ readImageRule (now (words .entry)) (length (now (out .entry))) ⌝ }
+    ensures output { λ _. ⌜ now (out .exit) ≡ readImageOutput (now (words .entry)) (now (out .entry)) ⌝ }
 {
     match check_words(words) {
         Verdict::Refused(refusal) => Counted::Refused(refusal),

@@ -1,7 +1,7 @@
 // Bit images.
 ghost use mathlib.Core.Path.{_≡_};
 ghost use lib.ListN.{length};
-ghost use Rattle.images.specs.Rules.{makeRule, makeOutput, readRule, readOutput};
+ghost use Rattle.images.specs.Rules.{makeRule, makeOutput, readImageRule, readImageOutput};
 ghost use Rattle.ism.specs.Answers.{answerOf};
 use crate::IsmAnswer;
 use crate::answer;
@@ -17,8 +17,8 @@ pub extern "C" fn ism_make_image(items: &[u16], out: &mut [u16]) -> IsmAnswer
 
 #[no_mangle]
 pub extern "C" fn ism_read_image(words: &[u16], out: &mut [u16]) -> IsmAnswer
-    ensures answer { λ r. ⌜ r ≡ answerOf (readRule (now (words .entry)) (length (now (out .entry)))) ⌝ }
-    ensures output { λ _. ⌜ now (out .exit) ≡ readOutput (now (words .entry)) (now (out .entry)) ⌝ }
+    ensures answer { λ r. ⌜ r ≡ answerOf (readImageRule (now (words .entry)) (length (now (out .entry)))) ⌝ }
+    ensures output { λ _. ⌜ now (out .exit) ≡ readImageOutput (now (words .entry)) (now (out .entry)) ⌝ }
 {
     let counted = images::read_image(words, out);
     answer(counted)

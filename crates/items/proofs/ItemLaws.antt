@@ -21,10 +21,6 @@ either false b e = inr e
 
 -- ---- one number
 
-pub check-is-512 : (n : ℕ) → isCheck n ≡ true → n ≡ 512
-unfolding isCheck
-check-is-512 n e = eqb-true n 512 e
-
 pub check-or-not : (n : ℕ) → (isCheck n ≡ true) ⊎ (isCheck n ≡ false)
 check-or-not n = elim (isCheck n) as (λ t. (t ≡ true) ⊎ (t ≡ false)) [ true ↦ inl refl | false ↦ inr refl ]
 

@@ -104,9 +104,3 @@ module _ {A : Type 0} where
       ap (λ (k : ℕ). take k (storedAt l 0 vs)) (sym e)
       ∙ ap (take (length vs)) (stored-at-front-fills vs l (rw e h))
       ∙ front-of-filled vs l
-
-  -- what was cut off at the end stays cut off, whatever comes after
-  pub cut-of-cut : (k : ℕ) (a b : List A) → take k (take k a ++ b) ≡ take k (a ++ b)
-  cut-of-cut zero a b = refl
-  cut-of-cut (suc k) [] b = refl
-  cut-of-cut (suc k) (x ∷ a) b = ap (λ (l : List A). x ∷ l) (cut-of-cut k a b)

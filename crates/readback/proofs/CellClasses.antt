@@ -20,13 +20,13 @@ use Rattle.symbols.specs.Bytes.{isGap}
 use Rattle.symbols.specs.declared.Cell.{Cell}
 use Rattle.symbols.proofs.RoundTripLaws.{cells-are-read, read-of-write}
 use Rattle.symbols.proofs.MiddleLaws.{cellsBefore, cells-after-byte}
-use Rattle.symbols.proofs.FormatLaws.{cells-of-zero-bytes, cells-of-mark-A1, gapCells, gapAfter, gap-is-read}
+use Rattle.symbols.proofs.FormatLaws.{cells-of-zero-bytes, cells-of-mark-A1, fillerCells, fillerAfter, filler-is-read}
 use Rattle.intervals.proofs.CellLaws.{classOfCell}
 use Rattle.lengths.specs.Units.{classOfUnits}
-use Rattle.fields.proofs.GapLaws.{markA1, passes}
+use Rattle.fields.proofs.FillerLaws.{markA1, passes}
 use Rattle.demands.proofs.ClassCells.{classes-of-cells}
 use Rattle.readback.specs.SectorReads.{placeAfter}
-use Rattle.readback.proofs.WrittenSector.{A1, middleGap}
+use Rattle.readback.proofs.WrittenSector.{A1, middleFiller}
 
 -- ---- the cells of written bytes, as they are read
 
@@ -63,28 +63,28 @@ mark-classes ws =
     (map classOfUnits us, ap (map classOfUnits) mark)
 
 -- the gap between the fields, up to the first minimum interval of the sync
-abbrev pub gapClasses : Bit → List Class
-gapClasses b = map classOfUnits (gapAfter b 21)
+abbrev pub fillerClasses : Bit → List Class
+fillerClasses b = map classOfUnits (fillerAfter b 21)
 
-pub no-run-in-gap : (b : Bit) → passes 0 (gapClasses b) ≡ true
-unfolding passes classOfUnits gapAfter gapCells
-no-run-in-gap O = refl
-no-run-in-gap I = refl
-no-run-in-gap G = refl
+pub no-run-in-filler : (b : Bit) → passes 0 (fillerClasses b) ≡ true
+unfolding passes classOfUnits fillerAfter fillerCells
+no-run-in-filler O = refl
+no-run-in-filler I = refl
+no-run-in-filler G = refl
 
-pub gap-classes
+pub filler-classes
     : (b : Bit) (ws : List ℕ) (xs : List Cell)
     → isGap b ≡ false
-    → readFrom b xs ≡ allBits (middleGap ++ ws) ++ (O ∷ [])
-    → map classOfCell xs ≡ gapClasses b ++ (replicate 95 Two ++ classesFor ws)
+    → readFrom b xs ≡ allBits (middleFiller ++ ws) ++ (O ∷ [])
+    → map classOfCell xs ≡ fillerClasses b ++ (replicate 95 Two ++ classesFor ws)
 unfolding classOfUnits
-gap-classes b ws xs no-gap h =
+filler-classes b ws xs no-gap h =
     sym (classes-of-cells xs)
     ∙ ap (map classOfUnits)
-    (gap-is-read b 21 (replicate 11 0x00 ++ ws) xs no-gap h
-    ∙ ap (λ (us : List ℕ). gapAfter b 21 ++ (replicate 7 2 ++ us)) (cells-of-zero-bytes 11 ws))
-    ∙ map-append classOfUnits (gapAfter b 21) (replicate 95 2 ++ writtenCells ws)
-    ∙ ap (λ (cs : List Class). gapClasses b ++ cs) (classes-after (replicate 95 2) ws)
+    (filler-is-read b 21 (replicate 11 0x00 ++ ws) xs no-gap h
+    ∙ ap (λ (us : List ℕ). fillerAfter b 21 ++ (replicate 7 2 ++ us)) (cells-of-zero-bytes 11 ws))
+    ∙ map-append classOfUnits (fillerAfter b 21) (replicate 95 2 ++ writtenCells ws)
+    ∙ ap (λ (cs : List Class). fillerClasses b ++ cs) (classes-after (replicate 95 2) ws)
 
 -- ---- parts
 

@@ -22,7 +22,7 @@ use Rattle.intervals.proofs.CellLaws.{classOfCell}
 use Rattle.lengths.specs.Stream.{streamOf}
 use Rattle.fields.specs.Lock.{lockFrom}
 use Rattle.fields.specs.Field.{fieldCells, fieldUsed}
-use Rattle.fields.proofs.GapLaws.{lock-after-sync, lock-after-gap}
+use Rattle.fields.proofs.FillerLaws.{lock-after-sync, lock-after-filler}
 use Rattle.fields.proofs.FirstLockLaws.{first-lock-is-found}
 use Rattle.fields.proofs.WrittenFieldLaws.{restOfCells, used-and-rest, rest-of-field-is-read}
 use Rattle.sectors.specs.Sector.{sectorSize, sectorItems}
@@ -32,10 +32,10 @@ use Rattle.demands.specs.Demand3.{stated}
 use Rattle.demands.proofs.Demand3.{moved-has-classes}
 use Rattle.readback.specs.SectorReads.{withCheck, ReadsField, Made, idField, dataField, idPlace, dataPlace}
 use Rattle.readback.specs.SectorReads.{SectorReads, MadeSectorsReadBack}
-use Rattle.readback.proofs.WrittenSector.{A1, middleGap, idBytes, dataBytes, id-bytes, data-bytes}
+use Rattle.readback.proofs.WrittenSector.{A1, middleFiller, idBytes, dataBytes, id-bytes, data-bytes}
 use Rattle.readback.proofs.WrittenSector.{sector-written, sector-is-listed}
 use Rattle.readback.proofs.CellClasses.{cells, cells-bits, classesFor, cells-classes, sync-classes, mark-classes}
-use Rattle.readback.proofs.CellClasses.{gapClasses, no-run-in-gap, gap-classes, classes-from, classes-after-run}
+use Rattle.readback.proofs.CellClasses.{fillerClasses, no-run-in-filler, filler-classes, classes-from, classes-after-run}
 use Rattle.readback.proofs.CellClasses.{place-after-zero, length-of-front, parts, last-apart, length-of-three}
 use Rattle.readback.proofs.CheckedField.{checked-field-is-read}
 
@@ -59,7 +59,7 @@ module _
     fromData = datas ++ replicate 54 0x4e
 
     abbrev fromId : List ℕ
-    fromId = ids ++ (middleGap ++ fromData)
+    fromId = ids ++ (middleFiller ++ fromData)
 
     abbrev items : List ℕ
     items = sectorItems track side sector code bytes
@@ -92,7 +92,7 @@ module _
 
     id-is-read : ReadsField p (drop 96 changed) 10 ids
     id-is-read =
-        checked-field-is-read (A1 ∷ idBytes track side sector code bytes) (middleGap ++ fromData) (cells fromId) 10 p
+        checked-field-is-read (A1 ∷ idBytes track side sector code bytes) (middleFiller ++ fromData) (cells fromId) 10 p
         (drop 96 changed)
         (id-bytes track side sector code bytes made)
         refl
@@ -118,13 +118,13 @@ module _
     last = lastOf O (readBits usedCells)
 
     abbrev afterId : List Cell
-    afterId = restOfCells ids (middleGap ++ fromData) (cells fromId) (cells-bits fromId)
+    afterId = restOfCells ids (middleFiller ++ fromData) (cells fromId) (cells-bits fromId)
 
-    gap : map classOfCell afterId ≡ gapClasses last ++ (replicate 95 Two ++ classesFor fromData)
+    gap : map classOfCell afterId ≡ fillerClasses last ++ (replicate 95 Two ++ classesFor fromData)
     unfolding allBits writtenBits byteBits isMark
     gap =
-        gap-classes last fromData afterId (last-is-no-gap usedCells)
-        (rest-of-field-is-read ids (middleGap ++ fromData) (cells fromId) (cells-bits fromId) _ refl)
+        filler-classes last fromData afterId (last-is-no-gap usedCells)
+        (rest-of-field-is-read ids (middleFiller ++ fromData) (cells fromId) (cells-bits fromId) _ refl)
 
     -- the classes up to the end of the ID
     abbrev front : List Class
@@ -133,7 +133,7 @@ module _
     front-length : length front ≡ 96 + used
     front-length = length-of-front 96 usedCells ∙ ap (λ (k : ℕ). 96 + k) (sym used-is)
 
-    parted : classesOf p changed ≡ front ++ (gapClasses last ++ (replicate 95 Two ++ classesFor fromData))
+    parted : classesOf p changed ≡ front ++ (fillerClasses last ++ (replicate 95 Two ++ classesFor fromData))
     parted =
         after-sync
         ∙ ap (λ (cs : List Class). replicate 96 Two ++ cs) (cells-classes fromId)
@@ -142,33 +142,33 @@ module _
 
     -- the place of the data's marks
     place : ℕ
-    place = 96 + used + length (gapClasses last) + 95
+    place = 96 + used + length (fillerClasses last) + 95
 
     -- what the search from there on has
     after-id
-        : classesOf p (drop (96 + used) changed) ≡ gapClasses last ++ (replicate 95 Two ++ classesFor fromData)
+        : classesOf p (drop (96 + used) changed) ≡ fillerClasses last ++ (replicate 95 Two ++ classesFor fromData)
     after-id = classes-from p changed front _ (96 + used) parted front-length
 
-    second-lock : lockFrom (classesOf p (drop (96 + used) changed)) 0 ≡ accepted (length (gapClasses last) + 95)
+    second-lock : lockFrom (classesOf p (drop (96 + used) changed)) 0 ≡ accepted (length (fillerClasses last) + 95)
     second-lock =
         let (rest, mark) = mark-classes _ in
         ap (λ (cs : List Class). lockFrom cs 0)
-        (after-id ∙ ap (λ (cs : List Class). gapClasses last ++ (replicate 95 Two ++ cs)) mark)
-        ∙ lock-after-gap (gapClasses last) 31 rest (no-run-in-gap last)
+        (after-id ∙ ap (λ (cs : List Class). fillerClasses last ++ (replicate 95 Two ++ cs)) mark)
+        ∙ lock-after-filler (fillerClasses last) 31 rest (no-run-in-filler last)
 
     -- ---- the data
 
     -- the classes before the data's marks
     abbrev before : List Class
-    before = (front ++ gapClasses last) ++ replicate 95 Two
+    before = (front ++ fillerClasses last) ++ replicate 95 Two
 
     data-parted : classesOf p changed ≡ before ++ classesFor fromData
-    data-parted = parted ∙ last-apart front (gapClasses last) (replicate 95 Two) (classesFor fromData)
+    data-parted = parted ∙ last-apart front (fillerClasses last) (replicate 95 Two) (classesFor fromData)
 
     before-length : length before ≡ place
     unfolding place
     before-length =
-        length-of-three front (gapClasses last) 95 ∙ ap (λ (k : ℕ). k + length (gapClasses last) + 95) front-length
+        length-of-three front (fillerClasses last) 95 ∙ ap (λ (k : ℕ). k + length (fillerClasses last) + 95) front-length
 
     data-place : dataPlace track side sector code bytes ≡ place
     unfolding dataPlace idField
@@ -179,7 +179,7 @@ module _
 
     data-classes : classesOf p (drop place changed) ≡ map classOfCell (cells fromData)
     data-classes =
-        classes-after-run p changed (front ++ gapClasses last) (classesFor fromData) 94 data-parted place before-length
+        classes-after-run p changed (front ++ fillerClasses last) (classesFor fromData) 94 data-parted place before-length
         ∙ cells-classes fromData
 
     data-is-read : ReadsField p (drop place changed) (sectorSize code + 6) datas

@@ -74,8 +74,8 @@ gap-and-field c gap ws rest gap-bytes bytes =
 -- ---- the sector
 
 -- the gap between the fields: 22 of 4E, 12 of 00
-abbrev pub middleGap : List ℕ
-middleGap = replicate 22 0x4e ++ replicate 12 0x00
+abbrev pub middleFiller : List ℕ
+middleFiller = replicate 22 0x4e ++ replicate 12 0x00
 
 data-repeated : (n w : ℕ) → isByte w ≡ true → everywhere isByte (replicate n w) ≡ true
 data-repeated = everywhere-of-replicate isByte
@@ -86,8 +86,8 @@ data-repeated = everywhere-of-replicate isByte
 4E-is-byte : isByte 0x4e ≡ true
 4E-is-byte = data-is-byte 0x4e (omega arith)
 
-middle-gap-bytes : everywhere isByte middleGap ≡ true
-middle-gap-bytes =
+middle-filler-bytes : everywhere isByte middleFiller ≡ true
+middle-filler-bytes =
     everywhere-of-append isByte (replicate 22 0x4e) (replicate 12 0x00)
     ∙ rw (data-repeated 22 0x4e 4E-is-byte, data-repeated 12 0x00 00-is-byte)
 
@@ -103,7 +103,7 @@ module _ (track side sector code : ℕ) (bytes : List ℕ) where
       : sectorItems track side sector code bytes
       ≡ replicate 12 0x00
       ++ (((A1 ∷ idBytes) ++ (512 ∷ []))
-      ++ (middleGap ++ (((A1 ∷ dataBytes) ++ (512 ∷ [])) ++ replicate 54 0x4e)))
+      ++ (middleFiller ++ (((A1 ∷ dataBytes) ++ (512 ∷ [])) ++ replicate 54 0x4e)))
   unfolding sectorItems opening identity
   sector-grouped = refl
 
@@ -127,20 +127,20 @@ module _ (track side sector code : ℕ) (bytes : List ℕ) where
         : written (sectorItems track side sector code bytes)
         ≡ replicate 12 0x00
         ++ (idField track side sector code bytes
-        ++ (middleGap ++ (dataField track side sector code bytes ++ replicate 54 0x4e)))
+        ++ (middleFiller ++ (dataField track side sector code bytes ++ replicate 54 0x4e)))
     unfolding written idField dataField
     sector-written =
         let last : List ℕ = replicate 54 0x4e in
         let (after-id, first) =
-        gap-and-field freshCheck (replicate 11 0x00) idBytes (middleGap ++ (((A1 ∷ dataBytes) ++ (512 ∷ [])) ++ last))
+        gap-and-field freshCheck (replicate 11 0x00) idBytes (middleFiller ++ (((A1 ∷ dataBytes) ++ (512 ∷ [])) ++ last))
         (data-repeated 12 0x00 00-is-byte) id-bytes in
         let (after-data, second) =
-        gap-and-field after-id (replicate 22 0x4e ++ replicate 11 0x00) dataBytes last middle-gap-bytes data-bytes in
+        gap-and-field after-id (replicate 22 0x4e ++ replicate 11 0x00) dataBytes last middle-filler-bytes data-bytes in
         ap written sector-grouped
         ∙ first
         ∙ ap (λ (us : List ℕ). replicate 12 0x00 ++ (withCheck (A1 ∷ idBytes) ++ us))
         (second
-        ∙ ap (λ (us : List ℕ). middleGap ++ (withCheck (A1 ∷ dataBytes) ++ us))
+        ∙ ap (λ (us : List ℕ). middleFiller ++ (withCheck (A1 ∷ dataBytes) ++ us))
         (written-from-of-no-check after-data last (bytes-have-no-check last (data-repeated 54 0x4e 4E-is-byte))))
 
     -- ---- the writer takes it
@@ -159,13 +159,13 @@ module _ (track side sector code : ℕ) (bytes : List ℕ) where
         let id : List ℕ = (A1 ∷ idBytes) ++ (512 ∷ []) in
         let data-field : List ℕ = (A1 ∷ dataBytes) ++ (512 ∷ []) in
         ap (anywhere isForeign) sector-grouped
-        ∙ anywhere-of-append isForeign (replicate 12 0x00) (id ++ (middleGap ++ (data-field ++ last)))
+        ∙ anywhere-of-append isForeign (replicate 12 0x00) (id ++ (middleFiller ++ (data-field ++ last)))
         ∙ rw (
           bytes-are-items (replicate 12 0x00) (data-repeated 12 0x00 00-is-byte),
-          anywhere-of-append isForeign id (middleGap ++ (data-field ++ last)),
+          anywhere-of-append isForeign id (middleFiller ++ (data-field ++ last)),
           field-has-no-foreign (A1 ∷ idBytes) id-bytes,
-          anywhere-of-append isForeign middleGap (data-field ++ last),
-          bytes-are-items middleGap middle-gap-bytes,
+          anywhere-of-append isForeign middleFiller (data-field ++ last),
+          bytes-are-items middleFiller middle-filler-bytes,
           anywhere-of-append isForeign data-field last,
           field-has-no-foreign (A1 ∷ dataBytes) data-bytes,
           bytes-are-items last (data-repeated 54 0x4e 4E-is-byte),

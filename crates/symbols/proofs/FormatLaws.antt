@@ -43,16 +43,16 @@ afterGap : List ℕ → List ℕ
 afterGap ws = cellsFrom 3 (symbolsFrom O (closed ws))
 
 -- the cells of so many bytes 4E that follow a 4E, up to the one that ends in a byte 00 after them
-unfoldable pub gapCells : ℕ → List ℕ
-gapCells zero = 3 ∷ []
-gapCells (suc n) = 3 ∷ 3 ∷ 3 ∷ 3 ∷ 2 ∷ 2 ∷ gapCells n
+unfoldable pub fillerCells : ℕ → List ℕ
+fillerCells zero = 3 ∷ []
+fillerCells (suc n) = 3 ∷ 3 ∷ 3 ∷ 3 ∷ 2 ∷ 2 ∷ fillerCells n
 
-cells-of-gap : (n : ℕ) (ws : List ℕ)
-    → afterGap (replicate n 0x4e ++ (0x00 ∷ ws)) ≡ gapCells n ++ (replicate 7 2 ++ writtenCells ws)
-unfolding afterGap gapCells allBits writtenBits byteBits isMark symbolsFrom pairSymbols cellsFrom writtenCells
+cells-of-filler : (n : ℕ) (ws : List ℕ)
+    → afterGap (replicate n 0x4e ++ (0x00 ∷ ws)) ≡ fillerCells n ++ (replicate 7 2 ++ writtenCells ws)
+unfolding afterGap fillerCells allBits writtenBits byteBits isMark symbolsFrom pairSymbols cellsFrom writtenCells
     writtenSymbols cellsOf symbolsOf bitsOf
-cells-of-gap zero ws = refl
-cells-of-gap (suc n) ws = ap (λ (us : List ℕ). 3 ∷ 3 ∷ 3 ∷ 3 ∷ 2 ∷ 2 ∷ us) (cells-of-gap n ws)
+cells-of-filler zero ws = refl
+cells-of-filler (suc n) ws = ap (λ (us : List ℕ). 3 ∷ 3 ∷ 3 ∷ 3 ∷ 2 ∷ 2 ∷ us) (cells-of-filler n ws)
 
 -- the first 4E after a bit that is 0 or 1
 gap-after-zero : (ws : List ℕ) → cellsFrom 2 (symbolsOf (closed (0x4e ∷ ws))) ≡ 3 ∷ 3 ∷ 3 ∷ 2 ∷ 2 ∷ afterGap ws
@@ -64,32 +64,32 @@ unfolding afterGap allBits writtenBits byteBits isMark symbolsFrom pairSymbols c
 gap-after-one ws = refl
 
 -- the first cell of a gap, by the bit before it
-abbrev pub firstOfGap : Bit → ℕ
-firstOfGap O = 3
-firstOfGap I = 4
-firstOfGap G = 3
+abbrev pub firstOfFiller : Bit → ℕ
+firstOfFiller O = 3
+firstOfFiller I = 4
+firstOfFiller G = 3
 
 -- the cells of a 4E and so many more after a bit, up to the one that ends in a byte 00 after them
-unfoldable pub gapAfter : Bit → ℕ → List ℕ
-gapAfter b n = firstOfGap b ∷ 3 ∷ 3 ∷ 2 ∷ 2 ∷ gapCells n
+unfoldable pub fillerAfter : Bit → ℕ → List ℕ
+fillerAfter b n = firstOfFiller b ∷ 3 ∷ 3 ∷ 2 ∷ 2 ∷ fillerCells n
 
 -- they are what is read, with the last bit before the gap known
-pub gap-is-read : (b : Bit) (n : ℕ) (ws : List ℕ) (cs : List Cell) → isGap b ≡ false
+pub filler-is-read : (b : Bit) (n : ℕ) (ws : List ℕ) (cs : List Cell) → isGap b ≡ false
     → readFrom b cs ≡ allBits (replicate (suc n) 0x4e ++ (0x00 ∷ ws)) ++ (O ∷ [])
-    → map units cs ≡ gapAfter b n ++ (replicate 7 2 ++ writtenCells ws)
-unfolding gapAfter
-gap-is-read O n ws cs e read =
+    → map units cs ≡ fillerAfter b n ++ (replicate 7 2 ++ writtenCells ws)
+unfolding fillerAfter
+filler-is-read O n ws cs e read =
     let us : List ℕ = replicate (suc n) 0x4e ++ (0x00 ∷ ws) in
     sym (cells-read-after-zero cs)
     ∙ ap (λ (bs : List Bit). cellsFrom 2 (symbolsOf (bs ++ (O ∷ [])))) read
     ∙ ap (λ (bs : List Bit). cellsFrom 2 (symbolsOf bs)) (append-assoc (allBits us) (O ∷ []) (O ∷ []))
     ∙ gap-after-zero (replicate n 0x4e ++ (0x00 ∷ ws))
-    ∙ ap (λ (vs : List ℕ). 3 ∷ 3 ∷ 3 ∷ 2 ∷ 2 ∷ vs) (cells-of-gap n ws)
-gap-is-read I n ws cs e read =
+    ∙ ap (λ (vs : List ℕ). 3 ∷ 3 ∷ 3 ∷ 2 ∷ 2 ∷ vs) (cells-of-filler n ws)
+filler-is-read I n ws cs e read =
     let us : List ℕ = replicate (suc n) 0x4e ++ (0x00 ∷ ws) in
     sym (cells-read-after-one cs)
     ∙ ap (λ (bs : List Bit). cellsFrom 2 (symbolsFrom I (bs ++ (O ∷ [])))) read
     ∙ ap (λ (bs : List Bit). cellsFrom 2 (symbolsFrom I bs)) (append-assoc (allBits us) (O ∷ []) (O ∷ []))
     ∙ gap-after-one (replicate n 0x4e ++ (0x00 ∷ ws))
-    ∙ ap (λ (vs : List ℕ). 4 ∷ 3 ∷ 3 ∷ 2 ∷ 2 ∷ vs) (cells-of-gap n ws)
-gap-is-read G n ws cs e read = absurd (true≢false e)
+    ∙ ap (λ (vs : List ℕ). 4 ∷ 3 ∷ 3 ∷ 2 ∷ 2 ∷ vs) (cells-of-filler n ws)
+filler-is-read G n ws cs e read = absurd (true≢false e)

@@ -24,9 +24,6 @@ use Rattle.timing.specs.declared.Range.{Range}
 pub from-numbers-of-numbers : (p : Profile) → fromNumbers (numbersOf p) ≡ p
 from-numbers-of-numbers p = refl
 
-pub numbers-have-ranges : (p : Profile) → length (numbersOf p) ≡ profileNumbers
-numbers-have-ranges p = refl
-
 -- ---- no test passed
 
 pub none-outside-all-inside : (rs : List Range) (ns : List ℕ) → anywhere passed (outsideOf rs ns) ≡ false → Inside rs ns

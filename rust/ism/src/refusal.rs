@@ -92,7 +92,7 @@ impl Refusal {
         }
     }
 
-    /// The place: which profile number (from 1), which item, interval or word (from 0), which sector number, otherwise 0.
+    /// The place: which profile number (from 1), which item, interval or word (from 0), which sector number; else 0.
     pub fn place(&self) -> u32 {
         match self {
             Refusal::ProfileOutOfRange { field } => *field,
@@ -117,7 +117,7 @@ impl fmt::Display for Refusal {
                 write!(f, "number {place} of the list is no data byte, mark A1 or C2, or check order")
             }
             Refusal::TooLong => {
-                write!(f, "more than 6,400 bytes or words, or 51,202 intervals, or a report that does not fit in 64 bits")
+                write!(f, "more than 6,400 bytes or words or 51,202 intervals, or a report over 64 bits")
             }
             Refusal::IntervalTooShort { place } => write!(f, "interval {place} is below Min"),
             Refusal::IntervalTooLong { place } => write!(f, "interval {place} is Rpt or more"),

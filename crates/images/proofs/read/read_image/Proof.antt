@@ -1,6 +1,6 @@
--- `read::read_image` answers `readRule`: the words' refusal decides, then what `read_words` answers. Rests on no axiom.
+-- `read::read_image` answers `readImageRule`: the words' refusal decides, then what `read_words` answers. Rests on no axiom.
 use Rattle.refusal.proofs.AnswerLaws.{verdict-refuses, verdict-accepts, refusal-keeps-the-buffer}
-use Rattle.images.specs.Rules.{readRule, readOutput}
+use Rattle.images.specs.Rules.{readImageRule, readImageOutput}
 use borrow.Author.Needs.{needs}
 use Rattle.images.proofs.read.read_image.Statement.{statement}
 use Rattle.images.proofs.read.read_image.Tie as tie
@@ -20,7 +20,7 @@ read-words-requires c κs =
     verdict-accepts _ _ (checked .check-words .ensures) (c .before .enum-told .given .1)
 
 returns : tie.Need-returns
-unfolding readRule readOutput
+unfolding readImageRule readImageOutput
 returns c =
     let tested = c .before .before .before in
     let rule = verdict-refuses _ _ _ _ (tested .check-words .ensures) (c .before .refusal .given .1) in

@@ -1,4 +1,4 @@
--- `read::read_words` answers `readRule`: the words are accepted, so each one's byte is its candidate, and the room
+-- `read::read_words` answers `readImageRule`: the words are accepted, so each one's byte is its candidate, and the room
 -- decides. Rests on no axiom.
 use Prim.Native.Nat.{ℕ, _≤_, _<_}
 use mathlib.Core.Path.{_≡_, refl, sym, ap, _∙_}
@@ -9,7 +9,7 @@ use Rattle.refusal.specs.Answer.{Answer, accepted, refused, settled}
 use Rattle.refusal.proofs.AnswerLaws.{acceptance-fills-the-buffer}
 use Rattle.symbols.specs.Bits.{O}
 use Rattle.images.specs.Image.{unrulyIn, bytesIn}
-use Rattle.images.specs.Rules.{wordsRule, readRule, readOutput}
+use Rattle.images.specs.Rules.{wordsRule, readImageRule, readImageOutput}
 use Rattle.images.specs.Candidate.{candidate}
 use Rattle.images.proofs.ImageLaws.{bytes-are-candidates}
 use Rattle.images.proofs.RuleLaws.{accepted-with-room, refused-without-room, rule-of-read, words-of-accepted}
@@ -20,10 +20,10 @@ use Rattle.images.proofs.read.read_words.Tie as tie
 module _ (words old : List ℕ) (ruly : wordsRule words .number ≡ 0) where
   read-refuses
       : length old < length words
-      → (refused 9 0 ≡ readRule words (length old)) × (old ≡ readOutput words old)
-  unfolding readOutput
+      → (refused 9 0 ≡ readImageRule words (length old)) × (old ≡ readImageOutput words old)
+  unfolding readImageOutput
   read-refuses h =
-      let rule : refused 9 0 ≡ readRule words (length old) =
+      let rule : refused 9 0 ≡ readImageRule words (length old) =
       sym (refused-without-room (length words) (length old) h) ∙ rule-of-read words (length old) ruly in
       (rule, ap (λ (a : Answer). settled a (bytesIn words) old) rule)
 
@@ -31,17 +31,17 @@ module _ (words old : List ℕ) (ruly : wordsRule words .number ≡ 0) where
       : (stored : List ℕ)
       → length words ≤ length old
       → stored ≡ filled (map candidate words) old
-      → (accepted (length words) ≡ readRule words (length old)) × (stored ≡ readOutput words old)
-  unfolding readOutput unrulyIn bytesIn
+      → (accepted (length words) ≡ readImageRule words (length old)) × (stored ≡ readImageOutput words old)
+  unfolding readImageOutput unrulyIn bytesIn
   read-accepts stored room stores =
-      let rule : accepted (length words) ≡ readRule words (length old) =
+      let rule : accepted (length words) ≡ readImageRule words (length old) =
       sym (accepted-with-room (length words) (length old) room) ∙ rule-of-read words (length old) ruly in (
         rule,
         stores
             ∙ ap (λ (ws : List ℕ). filled ws old)
             (sym (bytes-are-candidates O words refl (words-of-accepted words ruly .1)))
             ∙ sym
-            (acceptance-fills-the-buffer (readRule words (length old)) (bytesIn words) old
+            (acceptance-fills-the-buffer (readImageRule words (length old)) (bytesIn words) old
             (sym (ap (λ (a : Answer). a .number) rule))),
       )
 

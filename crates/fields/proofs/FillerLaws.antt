@@ -1,6 +1,6 @@
--- The first lock after a gap: a gap without a run of 64 minimum intervals is passed over, and a run that is long
--- enough, with a mark A1 after it, has its first lock at the mark, since within the run no mark begins. Rests on no
--- axiom.
+-- The first lock after filler, the bytes 4E between fields: filler without a run of 64 minimum intervals is passed over,
+-- and a run that is long enough, with a mark A1 after it, has its first lock at the mark, since within the run no mark
+-- begins. Rests on no axiom.
 use Prim.Native.Nat.{ℕ, suc, _+_, _-_, _<_, _≤_}
 use mathlib.Core.Path.{_≡_, refl, sym, ap, _∙_}
 use mathlib.Core.Bool.{Bool, true, false, cond, _&&_, true≢false}
@@ -76,9 +76,9 @@ module _ (front : List Class) (m : ℕ) (rest : List Class) where
       (lock-stands all mark (omega arith) (λ j low high. two-at j (omega arith) high)
       (ap markAhead from-mark ∙ mark-is-ahead rest)))
 
--- ---- a gap
+-- ---- filler
 
--- whether no run of 64 minimum intervals stands in a gap, nor any at its end, where so many stand before it
+-- whether no run of 64 minimum intervals stands in filler, nor any at its end, where so many stand before it
 unfoldable pub passes : ℕ → List Class → Bool
 passes run [] = eqb run 0
 passes run (c ∷ cs) = cond (eqb (classNumber c) 2) (ltb run 63 && passes (suc run) cs) (passes 0 cs)
@@ -89,69 +89,69 @@ both false b h = absurd (true≢false (sym h))
 
 module _ (tail : List Class) where
   abbrev Passed : List Class → List Class → ℕ → Type 0
-  Passed gap front run =
-      lockAfter (front ++ (gap ++ tail)) (length front - run)
-      ≡ lockAfter (front ++ (gap ++ tail)) (length front + length gap)
+  Passed filler front run =
+      lockAfter (front ++ (filler ++ tail)) (length front - run)
+      ≡ lockAfter (front ++ (filler ++ tail)) (length front + length filler)
 
   one-class-more
-      : (two : Bool) (c : Class) (gap front : List Class) (run : ℕ)
+      : (two : Bool) (c : Class) (filler front : List Class) (run : ℕ)
       → eqb (classNumber c) 2 ≡ two
       → run ≤ length front
       → run < 64
-      → cond two (ltb run 63 && passes (suc run) gap) (passes 0 gap) ≡ true
-      → ((r : ℕ) → r ≤ length (front ++ (c ∷ [])) → r < 64 → passes r gap ≡ true → Passed gap (front ++ (c ∷ [])) r)
-      → Passed (c ∷ gap) front run
-  one-class-more true c gap front run is-two h few e on =
-      let (short, more) = both (ltb run 63) (passes (suc run) gap) e in
+      → cond two (ltb run 63 && passes (suc run) filler) (passes 0 filler) ≡ true
+      → ((r : ℕ) → r ≤ length (front ++ (c ∷ [])) → r < 64 → passes r filler ≡ true → Passed filler (front ++ (c ∷ [])) r)
+      → Passed (c ∷ filler) front run
+  one-class-more true c filler front run is-two h few e on =
+      let (short, more) = both (ltb run 63) (passes (suc run) filler) e in
       let below = ltb-true run 63 short in
       let longer : length (front ++ (c ∷ [])) ≡ length front + 1 = length-append front (c ∷ []) in
-      let next = rw (append-snoc front c (gap ++ tail)) at (on (suc run) (omega arith) (omega arith) more) in
-      ap (lockAfter (front ++ (c ∷ gap ++ tail))) (omega arith)
+      let next = rw (append-snoc front c (filler ++ tail)) at (on (suc run) (omega arith) (omega arith) more) in
+      ap (lockAfter (front ++ (c ∷ filler ++ tail))) (omega arith)
       ∙ next
-      ∙ ap (lockAfter (front ++ (c ∷ gap ++ tail))) (omega arith)
-  one-class-more false c gap front run not-two h few e on =
-      let cs = front ++ (c ∷ gap ++ tail) in
+      ∙ ap (lockAfter (front ++ (c ∷ filler ++ tail))) (omega arith)
+  one-class-more false c filler front run not-two h few e on =
+      let cs = front ++ (c ∷ filler ++ tail) in
       let longer : length (front ++ (c ∷ [])) ≡ length front + 1 = length-append front (c ∷ []) in
-      let next = rw (append-snoc front c (gap ++ tail)) at (on 0 (omega arith) (omega arith) e) in
+      let next = rw (append-snoc front c (filler ++ tail)) at (on 0 (omega arith) (omega arith) e) in
       broken-run-is-passed cs (length front - run + 64) (length front) (omega arith) (omega arith) (omega arith)
       (λ two.
       eqb-false (classNumber c) 2 not-two
-      (ap classNumber (sym (getD-append-seam front c (gap ++ tail) Narrow) ∙ two)))
+      (ap classNumber (sym (getD-append-seam front c (filler ++ tail) Narrow) ∙ two)))
       ∙ ap (lockFrom cs) (omega arith)
       ∙ next
       ∙ ap (lockAfter cs) (omega arith)
 
   gap-passes
-      : (gap front : List Class) (run : ℕ)
+      : (filler front : List Class) (run : ℕ)
       → run ≤ length front
       → run < 64
-      → passes run gap ≡ true
-      → Passed gap front run
+      → passes run filler ≡ true
+      → Passed filler front run
   unfolding passes
   gap-passes [] front run h few e =
       let none = eqb-true run 0 e in
       ap (lockAfter (front ++ tail)) (omega arith)
-  gap-passes (c ∷ gap) front run h few e =
-      one-class-more (eqb (classNumber c) 2) c gap front run refl h few e (λ r. gap-passes gap (front ++ (c ∷ [])) r)
+  gap-passes (c ∷ filler) front run h few e =
+      one-class-more (eqb (classNumber c) 2) c filler front run refl h few e (λ r. gap-passes filler (front ++ (c ∷ [])) r)
 
--- ---- a gap, a run and a mark
+-- ---- filler, a run and a mark
 
--- no lock stands before the end of a gap without such a run
-pub lock-after-gap
-    : (gap : List Class) (m : ℕ) (rest : List Class)
-    → passes 0 gap ≡ true
-    → lockFrom (gap ++ (replicate (m + 64) Two ++ markA1 rest)) 0 ≡ accepted (length gap + (m + 64))
-lock-after-gap gap m rest e =
-    let all = gap ++ (replicate (m + 64) Two ++ markA1 rest) in
+-- no lock stands before the end of a filler without such a run
+pub lock-after-filler
+    : (filler : List Class) (m : ℕ) (rest : List Class)
+    → passes 0 filler ≡ true
+    → lockFrom (filler ++ (replicate (m + 64) Two ++ markA1 rest)) 0 ≡ accepted (length filler + (m + 64))
+lock-after-filler filler m rest e =
+    let all = filler ++ (replicate (m + 64) Two ++ markA1 rest) in
     first-64-are-passed all
     ∙ ap (lockFrom all) (omega arith)
-    ∙ gap-passes (replicate (m + 64) Two ++ markA1 rest) gap [] 0 (omega arith) (omega arith) e
+    ∙ gap-passes (replicate (m + 64) Two ++ markA1 rest) filler [] 0 (omega arith) (omega arith) e
     ∙ ap (lockAfter all) (omega arith)
-    ∙ lock-after-run gap m rest
+    ∙ lock-after-run filler m rest
     ∙ ap accepted (omega arith)
 
 -- a run and a mark with nothing before them
 pub lock-after-sync
     : (m : ℕ) (rest : List Class) → lockFrom (replicate (m + 64) Two ++ markA1 rest) 0 ≡ accepted (m + 64)
 unfolding passes
-lock-after-sync m rest = lock-after-gap [] m rest refl ∙ ap accepted (omega arith)
+lock-after-sync m rest = lock-after-filler [] m rest refl ∙ ap accepted (omega arith)
