@@ -20,14 +20,14 @@ pub struct Compare {
 }
 
 /// The wrapper's result in the form of a C answer.
-fn from_wrapper<T>(result: Result<T, Refusal>, answer: impl Fn(T) -> Answer) -> Answer {
+pub fn from_wrapper<T>(result: Result<T, Refusal>, answer: impl Fn(T) -> Answer) -> Answer {
     match result {
         Ok(given) => answer(given),
         Err(refusal) => Answer { number: refusal.number(), place: refusal.place(), ..ACCEPTED },
     }
 }
 
-fn count_answer(count: usize) -> Answer {
+pub fn count_answer(count: usize) -> Answer {
     Answer { count: count as u64, ..ACCEPTED }
 }
 

@@ -3,7 +3,7 @@
 use ism::sys::Answer;
 
 use crate::call::{Call, Expected};
-use crate::compare::Compare;
+use crate::compare::{count_answer, from_wrapper, Compare};
 use crate::paper::image;
 
 extern "C" {
@@ -22,7 +22,7 @@ impl Compare {
             interface: &|items: &[u16], out| unsafe {
                 ism_make_image(items.as_ptr(), items.len(), out.as_mut_ptr(), out.len())
             },
-            wrapper: None,
+            wrapper: Some(&|items, out| from_wrapper(ism::make_image(items, out), count_answer)),
         };
         self.run(items, call);
     }
@@ -37,7 +37,7 @@ impl Compare {
             interface: &|words: &[u16], out| unsafe {
                 ism_read_image(words.as_ptr(), words.len(), out.as_mut_ptr(), out.len())
             },
-            wrapper: None,
+            wrapper: Some(&|words, out| from_wrapper(ism::read_image(words, out), count_answer)),
         };
         self.run(words, call);
     }

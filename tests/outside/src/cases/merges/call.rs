@@ -2,8 +2,8 @@
 
 use ism::sys::Answer;
 
-use crate::call::{Call, Cell, Expected};
-use crate::compare::Compare;
+use crate::call::{Call, Cell, Expected, ACCEPTED};
+use crate::compare::{from_wrapper, Compare};
 use crate::paper::merge::{self, Sector};
 
 extern "C" {
@@ -35,6 +35,12 @@ fn stored((sectors, bytes): (Vec<Sector>, Vec<u8>)) -> Expected<u8> {
     expected
 }
 
+/// What the wrapper hands out as sectors, as the interface counts them.
+fn merged(sectors: ism::Sectors<'_>) -> Answer {
+    let bytes = sectors.clone().map(|sector| 3 + sector.data.len() as u64).sum();
+    Answer { count: sectors.count() as u64, used: bytes, ..ACCEPTED }
+}
+
 /// The library's answer; stops if an input is not as it was.
 pub fn library_merge(first: &[u8], second: &[u8], out: &mut [u8]) -> Answer {
     let [a, b] = [first, second].map(<[u8]>::to_vec);
@@ -59,7 +65,10 @@ impl Compare {
                 let [first, second] = sets(list);
                 library_merge(&first, &second, out)
             },
-            wrapper: None,
+            wrapper: Some(&|list: &[Tagged], out| {
+                let [first, second] = sets(list);
+                from_wrapper(ism::merge(&first, &second, out), merged)
+            }),
         };
         self.run(&list, call);
     }

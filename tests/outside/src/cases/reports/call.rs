@@ -1,6 +1,6 @@
 //! The calls of the drive report, as the header declares them.
 
-use ism::Profile;
+use ism::{Profile, Refusal};
 
 use crate::call::{Call, Expected, Reply};
 use crate::compare::{profile, Compare};
@@ -38,6 +38,17 @@ impl Report {
         Report { number, place, rows: rows.map(row) }
     }
 
+    /// The rows as the wrapper takes them.
+    fn wrapped(&self) -> ism::Report {
+        let row = |row: ReportRow| ism::sys::ReportRow {
+            count: row.count,
+            least: row.least,
+            greatest: row.greatest,
+            sum: row.sum,
+        };
+        ism::Report { rows: self.rows.map(row) }
+    }
+
     fn rows(&self) -> Rows {
         self.rows.map(|row| [row.count, row.least, row.greatest, row.sum])
     }
@@ -51,6 +62,15 @@ impl Reply for Report {
     fn number(&self) -> u32 {
         self.number
     }
+}
+
+/// The wrapper's answer as the interface gives it.
+fn from_wrapper(result: Result<ism::Report, Refusal>) -> Report {
+    let row = |row: ism::sys::ReportRow| [row.count, row.least, row.greatest, row.sum];
+    result.map_or_else(
+        |refusal| Report::refusal(Refused { number: refusal.number(), place: refusal.place() }),
+        |report| Report::under(0, 0, &report.rows.map(row)),
+    )
 }
 
 fn expected(rows: Result<Rows, Refused>) -> Expected<u16, Report> {
@@ -77,7 +97,7 @@ impl Compare {
             room: 0,
             paper: &|intervals| expected(report::drive_report(nine, intervals)),
             interface: &|intervals: &[u16], _| library_report(nine, intervals),
-            wrapper: None,
+            wrapper: Some(&|intervals, _| from_wrapper(ism::drive_report(profile(nine), intervals))),
         };
         self.run(intervals, call);
     }
@@ -89,7 +109,7 @@ impl Compare {
             room: 0,
             paper: &|_| expected(report::add_reports(&a.rows(), &b.rows())),
             interface: &|_, _| library_sum(a, b),
-            wrapper: None,
+            wrapper: Some(&|_, _| from_wrapper(a.wrapped().add(b.wrapped()))),
         };
         self.run(&[], call);
     }
