@@ -1,7 +1,7 @@
 //! Random calls, on which every implementation must give the library's answer and leave the library's output: lists
 //! and streams that are accepted, damaged ones, profiles out of range, outputs that are short, exact and roomy.
 
-use ism::sys::{Answer, Fifo, FifoAnswer, Profile};
+use ism::sys::{Answer, Fifo, FifoAnswer, Profile, Report, ReportRow};
 use ism::{CHECK, MARK_A1, MARK_C2, MAX_BYTES, MAX_INTERVALS};
 
 use crate::implementations::{Implementation, FIFO_OPERATIONS};
@@ -110,7 +110,8 @@ fn stream(r: &mut Random, library: &Implementation, p: Profile, longest: u64) ->
     let n = r.length(longest);
     let mut list = items(r, n);
     if r.one_in(3) {
-        list.splice(0..0, [vec![0; 7 + r.below(3) as usize], vec![r.of(&[MARK_A1, MARK_C2]); 3]].concat());
+        let marks = 1 + r.below(3) as usize;
+        list.splice(0..0, [vec![0; 7 + r.below(3) as usize], vec![r.of(&[MARK_A1, MARK_C2]); marks]].concat());
     }
     let mut out = vec![0; 16 * list.len() + 2];
     let count = (library.write)(p, &list, &mut out).count as usize;
@@ -243,6 +244,113 @@ fn make_sector(r: &mut Random, all: &[Implementation]) -> Result<(), String> {
     )
 }
 
+fn make_image(r: &mut Random, all: &[Implementation]) -> Result<(), String> {
+    let n = r.length(MAX_BYTES as u64 + 2);
+    let list = items(r, n);
+    let list = foreign_at_times(r, list);
+    let needed = (all[0].make_image)(&list, &mut vec![0; 2 * n]).count;
+    let room = room(r, needed);
+    same(all, || format!("make_image {list:?}"), with_output(all, room, |who, out| (who.make_image)(&list, out)))
+}
+
+/// The image of a list, damaged at times.
+fn image(r: &mut Random, library: &Implementation) -> Vec<u16> {
+    let n = r.length(MAX_BYTES as u64);
+    let list = items(r, n);
+    let mut words = vec![0; 2 * n];
+    let count = (library.make_image)(&list, &mut words).count as usize;
+    words.truncate(count);
+    let harm = r.of(&[0, 0, 1, 2]);
+    for _ in 0..harm {
+        let place = r.below(words.len() as u64 + 1) as usize;
+        match r.below(5) {
+            0 => words.insert(place, r.of(&[0x4489, 0x5224, 0xAAAA, 0x5554, 0, 0xFFFF])),
+            1 if place < words.len() => drop(words.remove(place)),
+            2 if place < words.len() => words[place] = r.next() as u16,
+            3 if r.one_in(500) => words.resize(MAX_BYTES + r.below(3) as usize, 0x5555),
+            _ if place < words.len() => words[place] ^= 1 << r.below(16),
+            _ => {}
+        }
+    }
+    words
+}
+
+fn read_image(r: &mut Random, all: &[Implementation]) -> Result<(), String> {
+    let words = image(r, &all[0]);
+    let room = room(r, words.len() as u64);
+    same(all, || format!("read_image {words:?}"), with_output(all, room, |who, out| (who.read_image)(&words, out)))
+}
+
+fn drive_report(r: &mut Random, all: &[Implementation], p: Profile) -> Result<(), String> {
+    let list = match r.below(2_000) {
+        0 => long_strip(r, p),
+        1 => vec![u16::MAX; MAX_INTERVALS],
+        n if n % 4 == 0 => (0..r.length(100)).map(|_| r.next() as u16).collect(),
+        _ => stream(r, &all[0], p, 200),
+    };
+    let what = || format!("drive_report {p:?} {list:?}");
+    same(all, what, with_output(all, 0, |who, _| (who.drive_report)(p, &list)))
+}
+
+/// Any numbers at all: rows of count 0 that hold something, sums around the limit.
+fn report(r: &mut Random) -> Report {
+    let number = |r: &mut Random| match r.below(4) {
+        0 => 0,
+        1 => r.next() >> 1,
+        2 => r.next() >> r.below(64),
+        _ => r.of(&[1, u64::MAX, u64::MAX - 1, 1 << 63]) * u64::from(r.one_in(8)),
+    };
+    let rows = [0; 5].map(|_| {
+        let [count, least, greatest, sum] = [0; 4].map(|_| number(r));
+        ReportRow { count, least, greatest, sum }
+    });
+    Report { number: r.below(2) as u32, place: r.below(2) as u32, rows }
+}
+
+fn add_reports(r: &mut Random, all: &[Implementation]) -> Result<(), String> {
+    let (a, b) = (report(r), report(r));
+    let what = || format!("add_reports {a:?} {b:?}");
+    same(all, what, with_output(all, 0, |who, _| (who.add_reports)(a, b)))
+}
+
+/// The sectors of a pass, most of the same data for the same number, damaged at times.
+fn set(r: &mut Random, numbers: u64, code: u8) -> Vec<u8> {
+    let mut sectors: Vec<u8> = (0..numbers).map(|number| (number * 7) as u8).filter(|_| !r.one_in(5)).collect();
+    if r.one_in(2) {
+        sectors.reverse();
+    }
+    if r.one_in(20) {
+        sectors.push(r.below(256) as u8);
+    }
+    let mut all = Vec::new();
+    for number in sectors {
+        let code = if r.one_in(200) { r.below(5) as u8 } else { code };
+        let at = all.len();
+        all.extend([number, code, r.of(&[0, 0, 1, 1, 2, 255])]);
+        all.resize(all.len() + (128 << code), number);
+        if all[at + 2] == 0 || r.one_in(200) {
+            let place = r.below(128) as usize;
+            all[at + 3 + place] ^= 1;
+        }
+    }
+    if r.one_in(20) {
+        all.truncate(r.below(all.len() as u64 + 1) as usize);
+    }
+    all
+}
+
+fn merge(r: &mut Random, all: &[Implementation]) -> Result<(), String> {
+    let (numbers, code) = (r.of(&[0, 1, 3, 9, 32, 36, 40]), r.of(&[0, 0, 0, 1, 2, 3]));
+    let (first, second) = (set(r, numbers, code), set(r, numbers, code));
+    let needed = (all[0].merge)(&first, &second, &mut vec![0; first.len() + second.len()]).used;
+    let room = room(r, needed);
+    let call = |who: &Implementation, _: &mut [u16]| {
+        let mut out = vec![0xBE; room];
+        ((who.merge)(&first, &second, &mut out), out)
+    };
+    same(all, || format!("merge {first:?} {second:?}"), with_output(all, 0, call))
+}
+
 fn of_profile(r: &mut Random, all: &[Implementation], p: Profile) -> Result<(), String> {
     let interval = r.of(&[p.min, p.b23, p.b34, p.rpt, 0]).wrapping_sub(r.below(2) as u16);
     let both = |who: &Implementation, _: &mut [u16]| -> [Answer; 2] { [(who.margin)(p), (who.class)(p, interval)] };
@@ -275,13 +383,18 @@ pub fn run(all: &[Implementation], calls: u64) -> Result<(), String> {
     let r = &mut Random::new(1987);
     for _ in 0..calls {
         let p = profile(r);
-        match r.below(16) {
+        match r.below(20) {
             0..=3 => write(r, all, p)?,
             4..=7 => read(r, all, p)?,
             8..=10 => read_field(r, all, p)?,
             11..=12 => find(r, all, p)?,
             13 if r.one_in(4) => make_sector(r, all)?,
             14 => fifo(r, all)?,
+            15 => make_image(r, all)?,
+            16 => read_image(r, all)?,
+            17 => drive_report(r, all, p)?,
+            18 if r.one_in(4) => merge(r, all)?,
+            18 => add_reports(r, all)?,
             _ => of_profile(r, all, p)?,
         }
     }

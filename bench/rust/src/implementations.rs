@@ -1,7 +1,7 @@
 //! The implementations behind one set of function pointers: the library, the plain C of each compiler, the plain Rust.
 
 use bench::plain::*;
-use ism::sys::{Answer, Fifo, FifoAnswer, Profile};
+use ism::sys::{Answer, Fifo, FifoAnswer, Profile, Report};
 
 /// Track, side, sector, length code.
 pub type Id = [u8; 4];
@@ -15,6 +15,11 @@ pub struct Implementation {
     pub find: fn(Profile, &[u16], u64) -> Answer,
     pub read_field: fn(Profile, &[u16], u64, &mut [u16]) -> Answer,
     pub make_sector: fn(Id, &[u8], &mut [u16]) -> Answer,
+    pub make_image: fn(&[u16], &mut [u16]) -> Answer,
+    pub read_image: fn(&[u16], &mut [u16]) -> Answer,
+    pub merge: fn(&[u8], &[u8], &mut [u8]) -> Answer,
+    pub drive_report: fn(Profile, &[u16]) -> Report,
+    pub add_reports: fn(Report, Report) -> Report,
     /// A FIFO operation by its number, in the order of `ism.h`.
     pub fifo: fn(u8, Fifo, u16) -> FifoAnswer,
     /// The field reader's last step: the register over the items, and the items to the output. The library has no entry
@@ -46,7 +51,7 @@ fn made(next: Fifo) -> FifoAnswer {
 macro_rules! c_interface {
     ($module:ident, $prefix:literal) => {
         mod $module {
-            use super::{made, Answer, Field, Fifo, FifoAnswer, Implementation, Profile};
+            use super::{made, Answer, Field, Fifo, FifoAnswer, Implementation, Profile, Report};
 
             extern "C" {
                 #[link_name = concat!($prefix, "margin")]
@@ -73,6 +78,16 @@ macro_rules! c_interface {
                     out: *mut u16,
                     room: usize,
                 ) -> Answer;
+                #[link_name = concat!($prefix, "make_image")]
+                fn make_image(items: *const u16, n: usize, words: *mut u16, room: usize) -> Answer;
+                #[link_name = concat!($prefix, "read_image")]
+                fn read_image(words: *const u16, n: usize, items: *mut u16, room: usize) -> Answer;
+                #[link_name = concat!($prefix, "merge")]
+                fn merge(first: *const u8, n: usize, second: *const u8, m: usize, out: *mut u8, room: usize) -> Answer;
+                #[link_name = concat!($prefix, "drive_report")]
+                fn drive_report(p: Profile, list: *const u16, n: usize) -> Report;
+                #[link_name = concat!($prefix, "add_reports")]
+                fn add_reports(a: Report, b: Report) -> Report;
                 #[link_name = concat!($prefix, "fifo_new")]
                 fn fifo_new(mode: u16) -> Fifo;
                 #[link_name = concat!($prefix, "fifo_put")]
@@ -107,6 +122,17 @@ macro_rules! c_interface {
                     make_sector: |[track, side, sector, code], data, out| unsafe {
                         make_sector(track, side, sector, code, data.as_ptr(), data.len(), out.as_mut_ptr(), out.len())
                     },
+                    make_image: |list, out| unsafe {
+                        make_image(list.as_ptr(), list.len(), out.as_mut_ptr(), out.len())
+                    },
+                    read_image: |list, out| unsafe {
+                        read_image(list.as_ptr(), list.len(), out.as_mut_ptr(), out.len())
+                    },
+                    merge: |a, b, out| unsafe {
+                        merge(a.as_ptr(), a.len(), b.as_ptr(), b.len(), out.as_mut_ptr(), out.len())
+                    },
+                    drive_report: |p, list| unsafe { drive_report(p, list.as_ptr(), list.len()) },
+                    add_reports: |a, b| unsafe { add_reports(a, b) },
                     fifo: |operation, fifo, item| unsafe {
                         match operation {
                             0 => made(fifo_new(fifo.mode)),
@@ -191,6 +217,11 @@ pub fn all() -> [Implementation; 6] {
             find: plain_rust_find,
             read_field: plain_rust_read_field,
             make_sector: plain_rust_make_sector,
+            make_image: plain_rust_make_image,
+            read_image: plain_rust_read_image,
+            merge: plain_rust_merge,
+            drive_report: plain_rust_drive_report,
+            add_reports: |a, b| plain_rust_add_reports(&a, &b),
             fifo: rust_fifo,
             register: |field, out| plain_rust_register(&field.items, field.used, out),
             before_register: nothing,

@@ -3,8 +3,11 @@
 
 mod fifo;
 mod finder;
+mod images;
+mod passes;
 mod reader;
 mod register;
+mod reports;
 #[cfg(feature = "requests")]
 pub mod requests;
 mod words;
@@ -12,7 +15,10 @@ mod writer;
 
 pub use fifo::*;
 pub use finder::plain_rust_find;
+pub use images::{plain_rust_make_image, plain_rust_read_image};
+pub use passes::plain_rust_merge;
 pub use reader::{plain_rust_read, plain_rust_read_field, plain_rust_register};
+pub use reports::{plain_rust_add_reports, plain_rust_drive_report};
 pub use writer::{plain_rust_make_sector, plain_rust_write};
 
 use ism::sys::{Answer, Profile};

@@ -2,8 +2,8 @@
 
 use std::rc::Rc;
 
-use bench::plain::{plain_rust_read_field, plain_rust_write};
-use ism::sys::{Answer, Profile};
+use bench::plain::{plain_rust_make_image, plain_rust_read_field, plain_rust_write};
+use ism::sys::{Answer, Profile, Report};
 use ism::{CHECK, MARK_A1, MARK_C2, MAX_BYTES, MAX_INTERVALS, SECTOR_OVERHEAD};
 
 use crate::implementations::{Field, Implementation};
@@ -102,6 +102,13 @@ pub fn all() -> Vec<Plan> {
         "make_sector-1024", "1024 data bytes", make_sector(1_024);
         "sector-512", "512 data bytes, made and written", sector(512);
         "sector-1024", "1024 data bytes, made and written", sector(1_024);
+        "make_image-512", "512 bytes", make_image(items(512));
+        "make_image-6400", "6400 bytes", make_image(items(6_400));
+        "read_image-512", "512 bytes", read_image(items(512));
+        "read_image-6400", "6400 bytes", read_image(items(6_400));
+        "drive_report-51202", "51202 intervals of data", drive_report(MAX_INTERVALS);
+        "merge-9", "two sets of 9 sectors of 512 bytes", merge(9, 512);
+        "merge-32", "two sets of 32 sectors of 1024 bytes", merge(32, 1_024);
     })
 }
 
@@ -236,4 +243,63 @@ fn sector(size: usize) -> Task {
         (who.write)(PROFILE, &sector, out)
     });
     Task::new(written, "written byte", 8 * written + 2, run)
+}
+
+fn make_image(list: Vec<u16>) -> Task {
+    let words = list.len();
+    let run: Run = Box::new(move |who, out| (who.make_image)(&list, out));
+    Task::new(words, "byte", words, run)
+}
+
+fn read_image(list: Vec<u16>) -> Task {
+    let mut words = vec![0; list.len()];
+    assert_eq!(plain_rust_make_image(&list, &mut words).number, 0, "the inputs of the benchmark are accepted");
+    let run: Run = Box::new(move |who, out| (who.read_image)(&words, out));
+    Task::new(list.len(), "byte", list.len(), run)
+}
+
+/// Sixteen bits each of a report's numbers.
+const REPORT_PARTS: usize = 5 * 4 * 4;
+
+fn put_report(report: &Report, out: &mut [u16]) -> Answer {
+    let numbers = report.rows.iter().flat_map(|row| [row.count, row.least, row.greatest, row.sum]);
+    for (parts, number) in out.chunks_exact_mut(4).zip(numbers) {
+        parts.copy_from_slice(&[number as u16, (number >> 16) as u16, (number >> 32) as u16, (number >> 48) as u16]);
+    }
+    Answer { number: report.number, place: report.place, count: 0, used: 0, holds: 0 }
+}
+
+fn drive_report(intervals: usize) -> Task {
+    let track: Vec<u16> = stream(&items(MAX_BYTES)).into_iter().cycle().take(intervals).collect();
+    let run: Run = Box::new(move |who, out| put_report(&(who.drive_report)(PROFILE, &track), out));
+    Task::new(intervals, "interval", REPORT_PARTS, run)
+}
+
+/// The sectors that a pass reads from one of them on; the sum of some fails.
+fn pass(sectors: usize, size: usize, from: usize, fails: fn(usize) -> bool) -> Vec<u8> {
+    let data = bytes(sectors * size);
+    let sector = |number: usize| {
+        let good = !fails(number);
+        let mut all = vec![number as u8, length_code(size), u8::from(good)];
+        all.extend(&data[number * size..(number + 1) * size]);
+        if !good {
+            all[3 + size / 2] ^= 1;
+        }
+        all
+    };
+    (0..sectors).flat_map(|i| sector((from + i) % sectors)).collect()
+}
+
+/// Two passes over a track that begin at different sectors. A third of the sums fail in the first, a quarter in the
+/// second.
+fn merge(sectors: usize, size: usize) -> Task {
+    let first = pass(sectors, size, 0, |number| number % 3 == 0);
+    let second = pass(sectors, size, sectors / 2, |number| number % 4 == 1);
+    let merged = first.len();
+    let run: Run = Box::new(move |who, out| {
+        // SAFETY: any bytes are numbers of sixteen bits
+        let (_, out, _) = unsafe { out.align_to_mut::<u8>() };
+        (who.merge)(&first, &second, out)
+    });
+    Task::new(merged, "merged byte", merged.div_ceil(2), run)
 }

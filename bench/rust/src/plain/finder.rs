@@ -5,7 +5,10 @@ use ism::sys::{Answer, Profile};
 use super::{check_profile, classify, counted, either, refused};
 
 const SYNC: usize = 64;
+/// Of an A1 mark.
 const MARK_CELLS: usize = 5;
+/// Of two C2 marks behind the first five, whose classes differ from an A1 mark's only in the second.
+const C2_BEHIND: [u8; 5] = [4, 2, 3, 4, 3];
 /// Looked at one by one before spans are.
 const NEAR: usize = 8;
 const SPAN: usize = 16;
@@ -91,9 +94,13 @@ fn find(p: &Profile, intervals: &[u16], start: u64) -> Result<Answer, Answer> {
     Err(refused(10, 0))
 }
 
-/// Whether the intervals begin with those of a mark.
+/// Whether the intervals begin with an A1 mark or two C2 marks.
 fn is_mark(p: &Profile, intervals: &[u16]) -> bool {
-    let Some(five) = intervals.first_chunk::<MARK_CELLS>() else { return false };
-    let classes = five.map(|interval| classify(p, interval));
-    classes == [3, 4, 3, 4, 3] || classes == [3, 2, 3, 4, 3]
+    let Some((five, behind)) = intervals.split_first_chunk::<MARK_CELLS>() else { return false };
+    let classes = |five: &[u16; MARK_CELLS]| five.map(|interval| classify(p, interval));
+    match classes(five) {
+        [3, 4, 3, 4, 3] => true,
+        [3, 2, 3, 4, 3] => behind.first_chunk().is_some_and(|five| classes(five) == C2_BEHIND),
+        _ => false,
+    }
 }
