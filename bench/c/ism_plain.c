@@ -630,9 +630,9 @@ static bool is_mark_at(const ism_profile *p, const uint16_t *intervals, size_t n
     if (classify(p, intervals[0]) != 3 || (second != 4 && second != 2) || classify(p, intervals[2]) != 3 ||
         classify(p, intervals[3]) != 4 || classify(p, intervals[4]) != 3)
         return false;
-    return second == 4 || (n >= TWO_C2_CELLS && classify(p, intervals[5]) == 4 && classify(p, intervals[6]) == 2 &&
-                           classify(p, intervals[7]) == 3 && classify(p, intervals[8]) == 4 &&
-                           classify(p, intervals[9]) == 3);
+    return second == 4 ||
+           (n >= TWO_C2_CELLS && classify(p, intervals[5]) == 4 && classify(p, intervals[6]) == 2 &&
+            classify(p, intervals[7]) == 3 && classify(p, intervals[8]) == 4 && classify(p, intervals[9]) == 3);
 }
 
 #define NEAR 8u
@@ -727,16 +727,24 @@ struct above {
     uint32_t count, sum, least, greatest_below;
 };
 
-static struct above above(uint32_t edge, const uint16_t *intervals, size_t n) {
-    struct above a = {0, 0, UINT16_MAX, 0};
+/*
+ * Numbers of sixteen bits with a sign. An interval less the edge is taken around the circle, so that those which reach
+ * the edge come first, the least of them the lowest, and those below it last. No count or sum is too great for its
+ * type.
+ */
+static struct above above(uint16_t edge, const uint16_t *intervals, size_t n) {
+    int16_t top = (int16_t)(INT16_MAX - edge), least = INT16_MAX, greatest = INT16_MIN;
+    uint16_t start = (uint16_t)(edge - INT16_MIN), count = 0;
+    int32_t sum = 0;
     for (size_t i = 0; i < n; i++) {
-        uint32_t interval = intervals[i], reaches = interval >= edge ? UINT32_MAX : 0;
-        uint32_t least = interval | ~reaches, greatest = interval & ~reaches;
-        a.count -= reaches;
-        a.sum += interval & reaches;
-        a.least = least < a.least ? least : a.least;
-        a.greatest_below = greatest > a.greatest_below ? greatest : a.greatest_below;
+        int16_t distance = (int16_t)(intervals[i] - start), reaches = distance <= top ? -1 : 0;
+        count = (uint16_t)(count - reaches);
+        sum -= distance * reaches;
+        least = distance < least ? distance : least;
+        greatest = distance > greatest ? distance : greatest;
     }
+    struct above a = {count, (uint32_t)sum + (uint32_t)count * (edge - INT16_MIN), (uint16_t)(least + start),
+                      (uint16_t)(greatest + start)};
     return a;
 }
 
@@ -751,10 +759,10 @@ ism_report NAME(drive_report)(ism_profile profile, const uint16_t *intervals, si
     report.number = verdict.number;
     report.place = verdict.place;
     if (verdict.number != ISM_ACCEPTED) return report;
-    const uint32_t edges[6] = {0, profile.min, profile.b23, profile.b34, profile.rpt, UINT16_MAX + 1};
-    struct above lower = above(edges[0], intervals, n);
+    const uint16_t edges[4] = {profile.min, profile.b23, profile.b34, profile.rpt};
+    struct above all = above(0, intervals, n), none = {0, 0, 0, all.greatest_below}, lower = all;
     for (int i = 0; i < 5; i++) {
-        struct above upper = above(edges[i + 1], intervals, n);
+        struct above upper = i < 4 ? above(edges[i], intervals, n) : none;
         ism_report_row row = {lower.count - upper.count, lower.least, upper.greatest_below, lower.sum - upper.sum};
         if (row.count > 0) report.rows[i] = row;
         lower = upper;
@@ -909,12 +917,14 @@ static const uint8_t *better_copy(const struct sector_set *a, const struct secto
 /* The copies taken, by number; the answer counts them and their bytes, or refuses. */
 static ism_answer choose_copies(const struct sector_set *a, const struct sector_set *b, const uint8_t **taken) {
     size_t count = 0, bytes = 0;
-    for (unsigned number = 0; number < 256; number++) {
-        if (!has_bit(a->has, number) && !has_bit(b->has, number)) continue;
-        const uint8_t *copy = better_copy(a, b, number);
-        if (!copy || has_bit(a->twice, number) || has_bit(b->twice, number)) return refused(ISM_AT_ODDS, number);
-        taken[count++] = copy;
-        bytes += sector_bytes(copy);
+    for (unsigned i = 0; i < 4; i++) {
+        for (uint64_t rest = a->has[i] | b->has[i]; rest != 0; rest &= rest - 1) {
+            unsigned number = 64 * i + (unsigned)__builtin_ctzll(rest);
+            const uint8_t *copy = better_copy(a, b, number);
+            if (!copy || has_bit(a->twice, number) || has_bit(b->twice, number)) return refused(ISM_AT_ODDS, number);
+            taken[count++] = copy;
+            bytes += sector_bytes(copy);
+        }
     }
     ism_answer answer = {ISM_ACCEPTED, 0, count, bytes, 0};
     return answer;
@@ -922,7 +932,8 @@ static ism_answer choose_copies(const struct sector_set *a, const struct sector_
 
 static unsigned different_numbers(const struct sector_set *a, const struct sector_set *b) {
     unsigned count = 0;
-    for (unsigned number = 0; number < 256; number++) count += has_bit(a->has, number) || has_bit(b->has, number);
+    for (unsigned i = 0; i < 4; i++)
+        for (uint64_t rest = a->has[i] | b->has[i]; rest != 0; rest &= rest - 1) count++;
     return count;
 }
 

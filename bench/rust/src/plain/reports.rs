@@ -15,17 +15,24 @@ struct Above {
     greatest_below: u32,
 }
 
-fn above(edge: u32, intervals: &[u16]) -> Above {
-    let mut a = Above { count: 0, sum: 0, least: u32::from(u16::MAX), greatest_below: 0 };
+/// Numbers of sixteen bits with a sign. An interval less the edge is taken around the circle, so that those which reach
+/// the edge come first, the least of them the lowest, and those below it last. No count or sum is too great for its
+/// type.
+#[inline(never)]
+fn above(edge: u16, intervals: &[u16]) -> Above {
+    let (start, top) = (edge ^ 0x8000, (0x7FFF - edge) as i16);
+    let (mut count, mut sum, mut least, mut greatest) = (0_u16, 0_i32, i16::MAX, i16::MIN);
     for interval in intervals {
-        let interval = u32::from(*interval);
-        let reaches = if interval >= edge { u32::MAX } else { 0 };
-        a.count = a.count.wrapping_sub(reaches);
-        a.sum = a.sum.wrapping_add(interval & reaches);
-        a.least = a.least.min(interval | !reaches);
-        a.greatest_below = a.greatest_below.max(interval & !reaches);
+        let distance = interval.wrapping_sub(start) as i16;
+        let reaches = -i16::from(distance <= top);
+        count = count.wrapping_sub(reaches as u16);
+        sum = sum.wrapping_sub(i32::from(distance) * i32::from(reaches));
+        least = least.min(distance);
+        greatest = greatest.max(distance);
     }
-    a
+    let sum = (sum as u32).wrapping_add(u32::from(count) * (u32::from(edge) + 0x8000));
+    let [least, greatest_below] = [least, greatest].map(|distance| u32::from((distance as u16).wrapping_add(start)));
+    Above { count: u32::from(count), sum, least, greatest_below }
 }
 
 /// Classes ascend, so a row is the difference of what reaches its two edges; its least is the least that reaches the
@@ -38,9 +45,9 @@ pub fn plain_rust_drive_report(p: Profile, intervals: &[u16]) -> Report {
         return Report { number: refusal.number, place: refusal.place, ..NO_REPORT };
     }
     let mut lower = above(0, intervals);
-    let edges = [p.min, p.b23, p.b34, p.rpt].map(u32::from).into_iter().chain([u32::MAX]);
-    for (row, edge) in report.rows.iter_mut().zip(edges) {
-        let upper = above(edge, intervals);
+    let none = Above { count: 0, sum: 0, least: 0, greatest_below: lower.greatest_below };
+    let uppers = [p.min, p.b23, p.b34, p.rpt].map(|edge| above(edge, intervals)).into_iter().chain([none]);
+    for (row, upper) in report.rows.iter_mut().zip(uppers) {
         let [count, least, greatest, sum] =
             [lower.count - upper.count, lower.least, upper.greatest_below, lower.sum - upper.sum].map(u64::from);
         if count > 0 {
