@@ -3,8 +3,9 @@
  *
  * The library turns data bytes, mark bytes and check orders into the intervals between flux transitions, with write
  * precompensation, and turns measured intervals back into bytes. It also finds the address mark behind a sync field,
- * reads one field, makes the items of one sector, reports how worn a drive is, merges the sectors of two passes over a
- * track, exchanges bit images with drive emulators and models the chip's two-item FIFO with its error register.
+ * reads one field, makes the items of one sector, lists the sectors of a track, reports how worn a drive is, merges the
+ * sectors of two passes over a track, exchanges bit images with drive emulators and models the chip's two-item FIFO
+ * with its error register.
  *
  * Common to all functions
  *
@@ -13,11 +14,12 @@
  *   No state, no heap, no input or output. Every function is a plain function of its arguments, so calls on buffers of
  *   their own may run at the same time. From an interrupt handler too, if the handler keeps what the code uses as any
  *   compiled code does: the SSE registers, and the 128 bytes below the stack pointer that the convention gives to the
- *   code that was interrupted (the red zone). docs/BENCHMARKS.md gives the stack of each function, 3 KB at most.
+ *   code that was interrupted (the red zone). docs/BENCHMARKS.md gives the stack of each function: 10 KB at most for
+ *   ism_index_track, 3 KB at most for every other.
  *
  *   Every argument value is answered. A refusal comes back in `number` and `place`, changes no buffer, and leaves
- *   `count`, `used`, `holds` and the rows of a report 0. When several causes hold at once, the first in the order
- *   listed at the function is answered.
+ *   `count`, `used`, `holds`, the rows of a report and the entries of an index 0. When several causes hold at once, the
+ *   first in the order listed at the function is answered.
  *
  *   On acceptance `number` and `place` are 0, the result fills the front of the output, and the rest of the output
  *   keeps its contents. Fields of an answer that a function does not give are 0.
@@ -60,7 +62,7 @@ extern "C" {
 #define ISM_MISCOUNT 12u /* n outside 1 to 1,030 */
 #define ISM_MISFIT 13u   /* length code above 3, or data not that long */
 #define ISM_GARBLED 14u  /* only from the strip program: garbled input; place: lowest faulty line, 0 if too long */
-#define ISM_CROWDED 15u  /* more than 32 sectors */
+#define ISM_CROWDED 15u  /* more than 32 sectors in a set or entries on a track */
 #define ISM_UNRULY 16u   /* a word that no item has after its previous bit; place: the lowest such word */
 #define ISM_AT_ODDS 17u  /* a sector number twice in a set, or two good copies unlike; place: the lowest such number */
 
@@ -206,6 +208,42 @@ ism_answer ism_read_field(ism_profile profile, const uint16_t *intervals, size_t
  */
 ism_answer ism_make_sector(uint8_t track, uint8_t side, uint8_t sector, uint8_t code, const uint8_t *data, size_t n,
                            uint16_t *out, size_t room);
+
+/*
+ * Index: what is on a track. An entry begins at a lock whose field of ten bytes reads, with three A1 marks, FE, four
+ * data bytes, the last of them a length code of 0 to 3, and a sum that holds. Its data is the next lock, all 64 of its
+ * intervals after those that the ID used, if its field reads at the code's size + 6 bytes with three A1 marks and FB.
+ * The search goes on after the data field, after the ID where no data was found, and where no entry begins at a lock,
+ * at the place after it.
+ *
+ *   id_place                   the place of the ID's lock
+ *   data_place                 the place of the data's lock; 0 where no data was found
+ *   track, side, sector, code  the four bytes after FE
+ *   found                      1 if the data was found, else 0
+ *   holds                      1 if the data was found and its sum holds, else 0
+ */
+typedef struct {
+    uint64_t id_place, data_place;
+    uint8_t track, side, sector, code, found, holds;
+} ism_index_entry;
+
+typedef struct {
+    uint32_t number, place;
+    uint64_t count;
+    ism_index_entry entries[ISM_MAX_SECTORS];
+} ism_index;
+
+/*
+ * The entries of a track, today in the order found; the order is left open and may change.
+ *
+ *   intervals, n  any number of intervals, narrow and wide ones too
+ *   count         entries; those beyond the count are all 0
+ *   refusals      ISM_UNSET, ISM_CROSSED, ISM_CROWDED (a 33rd entry would be needed, whatever follows)
+ *
+ * To read a field, give ism_read_field the list from its place. An ID whose own data lock is lost takes the data behind
+ * the next lock, if that reads as the data of its code.
+ */
+ism_index ism_index_track(ism_profile profile, const uint16_t *intervals, size_t n);
 
 /*
  * Bit images, as drive emulators exchange them: a 16-bit code word for each written byte, a clock bit before each data

@@ -37,6 +37,7 @@ use Rattle.demands.proofs.OrderLaws.{not-answered}
 use Rattle.demands.proofs.ProfileOrder.{profile-in-turn, accepted-in-turn}
 use Rattle.demands.proofs.ReportOrder.{drive-report, report-sum}
 use Rattle.demands.proofs.ImageOrder.{image-maker, image-reader, image-output, image-items}
+use Rattle.demands.proofs.IndexOrder.{track-index}
 use Rattle.demands.proofs.MergeOrder.{merge, merge-output}
 use Rattle.demands.proofs.StopLaws.{edges-in-turn, stop-in-turn}
 use Rattle.demands.proofs.LentLaws.{writer-output, strip-output, field-output, maker-output}
@@ -173,6 +174,7 @@ demand-1 =
       report-sum = report-sum;
       image-maker = image-maker;
       image-reader = image-reader;
+      track-index = track-index;
       merge = merge;
       writer-output = writer-output;
       strip-output = strip-output;

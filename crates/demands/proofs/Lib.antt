@@ -2,6 +2,7 @@ pub mod OrderLaws
 pub mod ProfileOrder
 pub mod ReportOrder
 pub mod ImageOrder
+pub mod IndexOrder
 pub mod MergeOrder
 pub mod UnreadLaws
 pub mod StopLaws

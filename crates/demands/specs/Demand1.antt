@@ -21,10 +21,12 @@ use Rattle.images.specs.Rules.{makeRule, makeOutput, readImageRule, readImageOu
 use Rattle.merge.specs.Set.{setBytes, sectorsIn}
 use Rattle.merge.specs.Merge.{merged}
 use Rattle.merge.specs.Rule.{mergeRule, mergeAnswer, mergeOutput}
+use Rattle.track.specs.Index.{indexRule}
 use Rattle.demands.specs.Order.{accept, Answers, Lent}
 use Rattle.demands.specs.Causes.{profileOrder, writerOrder, stripOrder, finderOrder, fieldOrder, makerOrder}
 use Rattle.demands.specs.ReportCauses.{reportOrder, addOrder}
 use Rattle.demands.specs.ImageCauses.{imageMakerOrder, imageReaderOrder}
+use Rattle.demands.specs.IndexCauses.{indexOrder}
 use Rattle.demands.specs.MergeCauses.{mergeOrder, countedInBytes}
 
 pub record Demand1 : Type 0 where
@@ -43,6 +45,7 @@ pub record Demand1 : Type 0 where
   pub report-sum : (a b : Report) → Answers (addOrder a b) (addRule a b)
   pub image-maker : (items : List ℕ) (room : ℕ) → Answers (imageMakerOrder items room) (makeRule items room)
   pub image-reader : (words : List ℕ) (room : ℕ) → Answers (imageReaderOrder words room) (readImageRule words room)
+  pub track-index : (p : Profile) (ds : List ℕ) → Answers (indexOrder p ds) (indexRule p ds)
   pub merge : (first second : List ℕ) (room : ℕ) → Answers (mergeOrder first second room) (mergeRule first second room)
   -- a refusal alters nothing the caller lent: every operation that lends a buffer
   pub writer-output

@@ -2,6 +2,7 @@ pub mod Order
 pub mod Causes
 pub mod ReportCauses
 pub mod ImageCauses
+pub mod IndexCauses
 pub mod MergeCauses
 pub mod Demand1
 pub mod Streams

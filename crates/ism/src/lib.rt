@@ -14,6 +14,7 @@ use timing::Profile;
 pub mod disk;
 pub mod drive;
 pub mod image;
+pub mod index;
 pub mod passes;
 pub mod queue;
 

@@ -1,9 +1,9 @@
 -- The classes of cells: of a sync, of a mark A1, and of the gap between the fields, in which no run of 64 stands. They
 -- are the cells of those bytes, one class for each. Rests on no axiom.
-use Prim.Native.Nat.{ℕ, suc, _+_, _<_}
-use mathlib.Core.Path.{_≡_, refl, sym, ap, ap₂, _∙_}
+use Prim.Native.Nat.{ℕ, zero, suc, _+_, _<_}
+use mathlib.Core.Path.{_≡_, refl, sym, ap, _∙_}
 use mathlib.Core.Bool.{true, false}
-use mathlib.Core.List.{List, [], _∷_, _++_, map, map-append, append-assoc}
+use mathlib.Core.List.{List, [], _∷_, _++_, map, map-append}
 use native.Mathlib.Omega.{arith}
 use lib.ListN.{length, getD, drop, replicate, length-append, length-map, length-replicate, getD-replicate}
 use lib.ListN.{List·getD-append}
@@ -26,7 +26,7 @@ use Rattle.lengths.specs.Units.{classOfUnits}
 use Rattle.fields.proofs.FillerLaws.{markA1, passes}
 use Rattle.demands.proofs.ClassCells.{classes-of-cells}
 use Rattle.readback.specs.SectorReads.{placeAfter}
-use Rattle.readback.proofs.WrittenSector.{A1, middleFiller}
+use Rattle.readback.proofs.WrittenSector.{A1}
 
 -- ---- the cells of written bytes, as they are read
 
@@ -62,51 +62,38 @@ mark-classes ws =
     let (us, mark) = cells-of-mark-A1 ws in
     (map classOfUnits us, ap (map classOfUnits) mark)
 
--- the gap between the fields, up to the first minimum interval of the sync
-abbrev pub fillerClasses : Bit → List Class
-fillerClasses b = map classOfUnits (fillerAfter b 21)
+-- a gap of n + 1 bytes 4E after a bit, up to the first minimum interval of the sync
+abbrev pub fillerClasses : Bit → ℕ → List Class
+fillerClasses b n = map classOfUnits (fillerAfter b n)
 
-pub no-run-in-filler : (b : Bit) → passes 0 (fillerClasses b) ≡ true
-unfolding passes classOfUnits fillerAfter fillerCells
-no-run-in-filler O = refl
-no-run-in-filler I = refl
-no-run-in-filler G = refl
+no-run-between : (n : ℕ) → passes 2 (map classOfUnits (fillerCells n)) ≡ true
+unfolding passes classOfUnits fillerCells
+no-run-between zero = refl
+no-run-between (suc n) = no-run-between n
+
+pub no-run-of-none : passes 0 [] ≡ true
+unfolding passes
+no-run-of-none = refl
+
+pub no-run-in-filler : (b : Bit) (n : ℕ) → passes 0 (fillerClasses b n) ≡ true
+unfolding passes classOfUnits fillerAfter
+no-run-in-filler O n = no-run-between n
+no-run-in-filler I n = no-run-between n
+no-run-in-filler G n = no-run-between n
 
 pub filler-classes
-    : (b : Bit) (ws : List ℕ) (xs : List Cell)
+    : (b : Bit) (n : ℕ) (ws : List ℕ) (xs : List Cell)
     → isGap b ≡ false
-    → readFrom b xs ≡ allBits (middleFiller ++ ws) ++ (O ∷ [])
-    → map classOfCell xs ≡ fillerClasses b ++ (replicate 95 Two ++ classesFor ws)
+    → readFrom b xs ≡ allBits (replicate (suc n) 0x4e ++ (replicate 12 0x00 ++ ws)) ++ (O ∷ [])
+    → map classOfCell xs ≡ fillerClasses b n ++ (replicate 95 Two ++ classesFor ws)
 unfolding classOfUnits
-filler-classes b ws xs no-gap h =
+filler-classes b n ws xs no-gap h =
     sym (classes-of-cells xs)
     ∙ ap (map classOfUnits)
-    (filler-is-read b 21 (replicate 11 0x00 ++ ws) xs no-gap h
-    ∙ ap (λ (us : List ℕ). fillerAfter b 21 ++ (replicate 7 2 ++ us)) (cells-of-zero-bytes 11 ws))
-    ∙ map-append classOfUnits (fillerAfter b 21) (replicate 95 2 ++ writtenCells ws)
-    ∙ ap (λ (cs : List Class). fillerClasses b ++ cs) (classes-after (replicate 95 2) ws)
-
--- ---- parts
-
-pub length-of-front : (n : ℕ) (xs : List Cell) → length (replicate n Two ++ map classOfCell xs) ≡ n + length xs
-length-of-front n xs =
-    length-append (replicate n Two) (map classOfCell xs)
-    ∙ ap₂ _+_ (length-replicate n Two) (length-map xs classOfCell)
-
-pub parts
-    : (before : List Class) (xs ys : List Cell) {all : List Cell}
-    → xs ++ ys ≡ all
-    → before ++ map classOfCell all ≡ (before ++ map classOfCell xs) ++ map classOfCell ys
-parts before xs ys e =
-    ap (λ (zs : List Cell). before ++ map classOfCell zs) (sym e)
-    ∙ ap (λ (cs : List Class). before ++ cs) (map-append classOfCell xs ys)
-    ∙ sym (append-assoc before (map classOfCell xs) (map classOfCell ys))
-
-pub last-apart : (xs ys zs rest : List Class) → xs ++ (ys ++ (zs ++ rest)) ≡ ((xs ++ ys) ++ zs) ++ rest
-last-apart xs ys zs rest = sym (append-assoc xs ys (zs ++ rest)) ∙ sym (append-assoc (xs ++ ys) zs rest)
-
-pub length-of-three : (xs ys : List Class) (n : ℕ) → length ((xs ++ ys) ++ replicate n Two) ≡ length xs + length ys + n
-length-of-three xs ys n = simp (length-append, length-replicate)
+    (filler-is-read b n (replicate 11 0x00 ++ ws) xs no-gap h
+    ∙ ap (λ (us : List ℕ). fillerAfter b n ++ (replicate 7 2 ++ us)) (cells-of-zero-bytes 11 ws))
+    ∙ map-append classOfUnits (fillerAfter b n) (replicate 95 2 ++ writtenCells ws)
+    ∙ ap (λ (cs : List Class). fillerClasses b n ++ cs) (classes-after (replicate 95 2) ws)
 
 -- ---- places
 

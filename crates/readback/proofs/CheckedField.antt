@@ -28,7 +28,7 @@ use Rattle.demands.specs.Streams.{AcceptedProfile}
 use Rattle.readback.specs.SectorReads.{withCheck, ReadsField}
 
 module _ (ws : List ℕ) where
-  checked-length : length (withCheck ws) ≡ length ws + 2
+  pub checked-length : length (withCheck ws) ≡ length ws + 2
   checked-length = length-append ws (checkBytes (afterBytes freshCheck ws))
 
   zero-after : afterBytes freshCheck (withCheck ws) .register ≡ 0

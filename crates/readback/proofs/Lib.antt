@@ -1,10 +1,16 @@
 -- The sector's written bytes, and the classes of their cells
 pub mod WrittenSector
 pub mod CellClasses
--- A field with its check bytes
+-- A field with its check bytes, a field and a sector ahead of a search
 pub mod CheckedField
--- The law
+pub mod FieldAhead
+pub mod SectorAhead
+pub mod FieldIndexed
+-- The law of one sector
 pub mod SectorReads
 -- No lock in data, and the page with every dot raised
 pub mod NoLockInData
 pub mod EveryDotRaised
+-- The law of a track of sectors
+pub mod SectorIndexed
+pub mod TrackIndexed

@@ -1,9 +1,9 @@
 -- The written bytes of a sector are its gaps as they stand and its two fields with their check bytes: a mark after a
 -- data byte starts the register again, so a field is written as if it stood alone. Rests on no axiom.
 use Prim.Native.Nat.{ℕ, _+_}
-use mathlib.Core.Path.{_≡_, refl, ap, _∙_}
+use mathlib.Core.Path.{_≡_, refl, sym, ap, _∙_}
 use mathlib.Core.Bool.{true, false}
-use mathlib.Core.List.{List, [], _∷_, _++_}
+use mathlib.Core.List.{List, [], _∷_, _++_, append-nil, append-assoc}
 use native.Mathlib.Omega.{arith}
 use borrow.Author.Tests.{le-ltb}
 use lib.ListN.{length, replicate}
@@ -17,7 +17,7 @@ use Rattle.items.specs.declared.Check.{Check}
 use Rattle.items.proofs.ItemLaws.{data-is-byte, bytes-are-items, bytes-have-no-check, item-is-not-foreign}
 use Rattle.items.proofs.CheckLaws.{unmarked-after-data, mark-starts-again}
 use Rattle.items.proofs.CheckFacts.{written-from-of-check-at-end}
-use Rattle.items.proofs.WrittenLaws.{written-from-of-append, written-from-of-no-check}
+use Rattle.items.proofs.WrittenLaws.{written-from-of-append, written-from-of-no-check, written-from-none}
 use Rattle.sectors.specs.Sector.{opening, identity, sectorItems}
 use Rattle.sectors.proofs.SectorCounts.{size-at-most-1024, sector-counts}
 use Rattle.readback.specs.SectorReads.{withCheck, Made, idField, dataField}
@@ -107,6 +107,14 @@ module _ (track side sector code : ℕ) (bytes : List ℕ) where
   unfolding sectorItems opening identity
   sector-grouped = refl
 
+  grouped-before
+      : (items : List ℕ)
+      → sectorItems track side sector code bytes ++ items
+      ≡ replicate 12 0x00
+      ++ (((A1 ∷ idBytes) ++ (512 ∷ []))
+      ++ (middleFiller ++ (((A1 ∷ dataBytes) ++ (512 ∷ [])) ++ (replicate 54 0x4e ++ items))))
+  grouped-before items = ap (λ (us : List ℕ). us ++ items) sector-grouped ∙ simp append-assoc
+
   module _ (made : Made track side sector code bytes) where
     after-marks : (kind : ℕ) (ws : List ℕ) → isByte kind ≡ true → everywhere isByte ws ≡ true
         → everywhere isByte (A1 ∷ A1 ∷ A1 ∷ kind ∷ ws) ≡ true
@@ -123,25 +131,53 @@ module _ (track side sector code : ℕ) (bytes : List ℕ) where
     pub data-bytes : everywhere isByte (A1 ∷ dataBytes) ≡ true
     data-bytes = after-marks 0xfb bytes (data-is-byte 0xfb (omega arith)) (made .data-bytes)
 
+    -- the sector's bytes, behind any check register and before other items
+    pub sector-written-before
+        : (c : Check) (items : List ℕ)
+        → (after : Check)
+        × (writtenFrom c (sectorItems track side sector code bytes ++ items)
+        ≡ replicate 12 0x00
+        ++ (idField track side sector code bytes
+        ++ (middleFiller
+        ++ (dataField track side sector code bytes ++ (replicate 54 0x4e ++ writtenFrom after items)))))
+    unfolding idField dataField
+    sector-written-before c items =
+        let last : List ℕ = replicate 54 0x4e in
+        let (after-id, first) =
+        gap-and-field c (replicate 11 0x00) idBytes
+        (middleFiller ++ (((A1 ∷ dataBytes) ++ (512 ∷ [])) ++ (last ++ items)))
+        (data-repeated 12 0x00 00-is-byte) id-bytes in
+        let (after-data, second) =
+        gap-and-field after-id (replicate 22 0x4e ++ replicate 11 0x00) dataBytes (last ++ items) middle-filler-bytes
+        data-bytes in (
+          afterBytes after-data last,
+          ap (writtenFrom c) (grouped-before items)
+              ∙ first
+              ∙ ap (λ (us : List ℕ). replicate 12 0x00 ++ (withCheck (A1 ∷ idBytes) ++ us))
+              (second
+              ∙ ap (λ (us : List ℕ). middleFiller ++ (withCheck (A1 ∷ dataBytes) ++ us))
+              (written-from-of-append after-data last items
+              ∙ ap (λ (us : List ℕ). us ++ writtenFrom (afterBytes after-data us) items)
+              (written-from-of-no-check after-data last
+              (bytes-have-no-check last (data-repeated 54 0x4e 4E-is-byte))))),
+        )
+
     pub sector-written
         : written (sectorItems track side sector code bytes)
         ≡ replicate 12 0x00
         ++ (idField track side sector code bytes
         ++ (middleFiller ++ (dataField track side sector code bytes ++ replicate 54 0x4e)))
-    unfolding written idField dataField
+    unfolding written
     sector-written =
-        let last : List ℕ = replicate 54 0x4e in
-        let (after-id, first) =
-        gap-and-field freshCheck (replicate 11 0x00) idBytes (middleFiller ++ (((A1 ∷ dataBytes) ++ (512 ∷ [])) ++ last))
-        (data-repeated 12 0x00 00-is-byte) id-bytes in
-        let (after-data, second) =
-        gap-and-field after-id (replicate 22 0x4e ++ replicate 11 0x00) dataBytes last middle-filler-bytes data-bytes in
-        ap written sector-grouped
-        ∙ first
-        ∙ ap (λ (us : List ℕ). replicate 12 0x00 ++ (withCheck (A1 ∷ idBytes) ++ us))
-        (second
-        ∙ ap (λ (us : List ℕ). middleFiller ++ (withCheck (A1 ∷ dataBytes) ++ us))
-        (written-from-of-no-check after-data last (bytes-have-no-check last (data-repeated 54 0x4e 4E-is-byte))))
+        let (after, all) = sector-written-before freshCheck [] in
+        ap written (sym (append-nil (sectorItems track side sector code bytes)))
+        ∙ all
+        ∙ ap
+        (λ (us : List ℕ).
+        replicate 12 0x00
+        ++ (idField track side sector code bytes
+        ++ (middleFiller ++ (dataField track side sector code bytes ++ (replicate 54 0x4e ++ us)))))
+        (written-from-none after)
 
     -- ---- the writer takes it
 

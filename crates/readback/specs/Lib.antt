@@ -1,2 +1,3 @@
 pub mod SectorReads
 pub mod NoLockInData
+pub mod TrackIndexed

@@ -16,12 +16,14 @@
 //! ```
 
 mod fifo;
+mod index;
 mod passes;
 mod refusal;
 mod report;
 pub mod sys;
 
 pub use fifo::{Fifo, FifoMode};
+pub use index::{index_track, DataField, Index, IndexEntry};
 pub use passes::{merge, sectors, Sector, SectorSet, Sectors, MAX_SECTORS, MAX_SET_BYTES};
 pub use refusal::Refusal;
 pub use report::{drive_report, Report};

@@ -34,7 +34,7 @@ pub enum Refusal {
     CountOutOfRange,
     /// 13, misfit: length code above 3, or data not that long
     SectorSizeMismatch,
-    /// 15, crowded: more than 32 sectors
+    /// 15, crowded: more than 32 sectors in a set or entries on a track
     TooManySectors,
     /// 16, unruly: the lowest word of an image that no item has after its previous bit
     UnrulyWord { place: u32 },

@@ -46,6 +46,30 @@ pub struct Report {
     pub rows: [ReportRow; 5],
 }
 
+/// `ism_index_entry`
+#[repr(C)]
+#[derive(Clone, Copy, Debug, Default, PartialEq, Eq)]
+pub struct IndexEntry {
+    pub id_place: u64,
+    pub data_place: u64,
+    pub track: u8,
+    pub side: u8,
+    pub sector: u8,
+    pub code: u8,
+    pub found: u8,
+    pub holds: u8,
+}
+
+/// `ism_index`
+#[repr(C)]
+#[derive(Clone, Copy, Debug, PartialEq, Eq)]
+pub struct Index {
+    pub number: u32,
+    pub place: u32,
+    pub count: u64,
+    pub entries: [IndexEntry; 32],
+}
+
 /// `ism_fifo`
 #[repr(C)]
 #[derive(Clone, Copy, Debug, PartialEq, Eq)]
@@ -93,6 +117,7 @@ extern "C" {
         out: *mut u16,
         room: usize,
     ) -> Answer;
+    pub fn ism_index_track(profile: Profile, intervals: *const u16, n: usize) -> Index;
     pub fn ism_merge(first: *const u8, n: usize, second: *const u8, m: usize, out: *mut u8, room: usize) -> Answer;
     pub fn ism_drive_report(profile: Profile, intervals: *const u16, n: usize) -> Report;
     pub fn ism_add_reports(a: Report, b: Report) -> Report;

@@ -1,0 +1,5 @@
+pub mod FieldLaws
+pub mod IdLaws
+pub mod DataLaws
+pub mod SearchLaws
+pub mod StepLaws

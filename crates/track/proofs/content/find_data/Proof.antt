@@ -1,0 +1,116 @@
+-- Why `content::find_data` answers `sought`: by what the finder answers, and by what the lock that it found reads as.
+-- Rests on no axiom.
+use Prim.Native.Nat.{ℕ, _<_}
+use mathlib.Core.Path.{_≡_, sym, ap, _∙_}
+use mathlib.Core.List.{List}
+use native.Mathlib.Omega.{arith}
+use lib.ListN.{length, drop}
+use Rattle.refusal.specs.Answer.{accepted, countedAnswer}
+use Rattle.fields.specs.Lock.{findRule}
+use Rattle.fields.proofs.LockLaws.{part-to-end}
+use Rattle.track.specs.machine.Steps.{dataRead}
+use Rattle.track.proofs.SearchLaws.{refused-is-no-lock}
+use Rattle.track.proofs.StepLaws.{no-lock-no-data, found-is-within, other-lock-no-data, data-ends-within}
+use Rattle.track.proofs.StepLaws.{data-is-sought}
+use borrow.Author.Needs.{needs}
+use Rattle.track.proofs.content.find_data.Statement.{statement}
+use Rattle.track.proofs.content.find_data.Tie as tie
+
+-- the lock that was found
+found
+    : (c : tie.After-known-told)
+    → let args = c .before .before .before .before .before .args in
+    accepted (c .before .k .given .0 .0) ≡ findRule (args .p) (args .intervals .now) (args .start)
+found c = sym (ap countedAnswer (c .before .k .given .1)) ∙ c .before .before .before .find-lock .ensures
+
+within
+    : (c : tie.After-known-told)
+    → c .before .k .given .0 .0 < length (c .before .before .before .before .before .args .intervals .now)
+within c = found-is-within _ _ _ (c .before .before .before .before .before .args .code) _ (found c)
+
+-- what it reads as
+read
+    : (c : tie.After-read-data)
+    → let at-k = c .before .before .before in
+    let args = at-k .before .before .before .before .args in
+    c .read-data .result ≡ dataRead (args .p) (drop (at-k .k .given .0 .0) (args .intervals .now)) (args .code)
+read c =
+    let at-k = c .before .before .before in
+    let args = at-k .before .before .before .before .args in
+    c .read-data .ensures
+    ∙ ap (λ (ds : List ℕ). dataRead (args .p) ds (args .code))
+    (part-to-end (args .intervals .now) (at-k .k .given .0 .0))
+
+find-lock-requires : tie.Need-find-lock-requires
+find-lock-requires c κs = search needs
+
+enum-told : tie.Need-enum-told
+enum-told c = search needs
+
+enum-known-k : tie.Need-enum-known-k
+enum-known-k c = search needs
+
+mul-read-data : tie.Need-mul-read-data
+mul-read-data c = omega (arith, within c, c .before .before .before .before .before .good)
+
+sub-read-data : tie.Need-sub-read-data
+sub-read-data c = omega (arith, within c)
+
+part-read-data-start : tie.Need-part-read-data-start
+part-read-data-start c = omega (arith, within c)
+
+part-read-data-end : tie.Need-part-read-data-end
+part-read-data-end c = search needs
+
+read-data-requires : tie.Need-read-data-requires
+read-data-requires c κs = search needs
+
+enum-told-2 : tie.Need-enum-told-2
+enum-told-2 c = search needs
+
+enum-known-used : tie.Need-enum-known-used
+enum-known-used c = search needs
+
+add-t20 : tie.Need-add-t20
+add-t20 c =
+    let at-read = c .before .before .before in
+    let begin = at-read .before .before .before .before .before .before .before in
+    let ends =
+    data-ends-within _ _ _ (begin .args .code) _ (found (at-read .before .before)) _ _
+    (sym (c .before .used .given .1) ∙ read at-read) in
+    omega (arith, begin .good)
+
+returns : tie.Need-returns
+returns c =
+    no-lock-no-data _ _ _ _
+    (refused-is-no-lock _ _ _ (c .enum-told .given .0 .0)
+    (sym (ap countedAnswer (c .enum-told .given .1)) ∙ c .before .before .find-lock .ensures))
+
+returns-2 : tie.Need-returns-2
+returns-2 c =
+    let at-read = c .before .before in
+    other-lock-no-data _ _ _ _ _ (found (at-read .before .before)) (sym (c .enum-told2 .given .1) ∙ read at-read)
+
+returns-3 : tie.Need-returns-3
+returns-3 c =
+    let at-read = c .before .before .before in
+    data-is-sought _ _ _ _ _ (found (at-read .before .before)) _ _ (sym (c .before .used .given .1) ∙ read at-read)
+
+pub find-data-spec : {M : Type 1} → statement M
+find-data-spec =
+    tie.close
+    (tie.spec
+    find-lock-requires
+    enum-told
+    enum-known-k
+    mul-read-data
+    sub-read-data
+    part-read-data-start
+    part-read-data-end
+    read-data-requires
+    enum-told-2
+    enum-known-used
+    add-t20
+    returns
+    returns-2
+    returns-3)

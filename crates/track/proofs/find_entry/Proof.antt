@@ -1,0 +1,42 @@
+-- Why `find_entry` answers `stepFrom`: by what the finder answers. Rests on no axiom.
+use mathlib.Core.Path.{_≡_, sym, ap, _∙_}
+use Rattle.refusal.specs.Answer.{accepted, countedAnswer}
+use Rattle.fields.specs.Lock.{findRule}
+use Rattle.track.proofs.SearchLaws.{refused-is-no-lock}
+use Rattle.track.proofs.StepLaws.{found-is-within, no-lock-is-end, found-is-looked-at}
+use borrow.Author.Needs.{needs}
+use Rattle.track.proofs.find_entry.Statement.{statement}
+use Rattle.track.proofs.find_entry.Tie as tie
+
+-- the lock that was found
+found
+    : (c : tie.After-known-told)
+    → let args = c .before .before .before .before .before .args in
+    accepted (c .before .k .given .0 .0) ≡ findRule (args .p) (args .intervals .now) (args .start)
+found c = sym (ap countedAnswer (c .before .k .given .1)) ∙ c .before .before .before .find-lock .ensures
+
+find-lock-requires : tie.Need-find-lock-requires
+find-lock-requires c κs = search needs
+
+enum-told : tie.Need-enum-told
+enum-told c = search needs
+
+enum-known-k : tie.Need-enum-known-k
+enum-known-k c = search needs
+
+look-at-requires : tie.Need-look-at-requires
+look-at-requires c κs = found-is-within _ _ _ 0 _ (found c)
+
+returns : tie.Need-returns
+returns c =
+    no-lock-is-end _ _ _
+    (refused-is-no-lock _ _ _ (c .enum-told .given .0 .0)
+    (sym (ap countedAnswer (c .enum-told .given .1)) ∙ c .before .before .find-lock .ensures))
+
+returns-2 : tie.Need-returns-2
+returns-2 c = c .look-at .ensures ∙ found-is-looked-at _ _ _ _ (found (c .before))
+
+pub find-entry-spec : {M : Type 1} → statement M
+find-entry-spec =
+    tie.close
+    (tie.spec find-lock-requires enum-told enum-known-k look-at-requires returns returns-2)

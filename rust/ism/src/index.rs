@@ -1,0 +1,78 @@
+//! What is on a track.
+
+use crate::sys;
+use crate::{Profile, Refusal, SectorId, MAX_SECTORS};
+
+/// One ID of a track, with its data if that was found.
+#[derive(Clone, Copy, Debug, PartialEq, Eq)]
+pub struct IndexEntry {
+    /// the four bytes after FE
+    pub id: SectorId,
+    /// the place of the ID's lock
+    pub place: usize,
+    /// the data, or none where none was found
+    pub data: Option<DataField>,
+}
+
+/// The data field of an entry.
+#[derive(Clone, Copy, Debug, PartialEq, Eq)]
+pub struct DataField {
+    /// the place of the data's lock
+    pub place: usize,
+    /// whether its sum holds
+    pub holds: bool,
+}
+
+/// The entries of a track, at most [`MAX_SECTORS`], in the order that the C header says.
+#[derive(Clone, Copy, Debug, PartialEq, Eq)]
+pub struct Index {
+    entries: [sys::IndexEntry; MAX_SECTORS],
+    count: usize,
+}
+
+impl Index {
+    /// How many entries there are.
+    pub fn len(&self) -> usize {
+        self.count
+    }
+
+    /// Whether there is none.
+    pub fn is_empty(&self) -> bool {
+        self.count == 0
+    }
+
+    /// The entries in order.
+    pub fn entries(&self) -> impl ExactSizeIterator<Item = IndexEntry> + '_ {
+        self.entries[..self.count].iter().map(entry)
+    }
+}
+
+fn entry(e: &sys::IndexEntry) -> IndexEntry {
+    IndexEntry {
+        id: SectorId { track: e.track, side: e.side, sector: e.sector, code: e.code },
+        place: e.id_place as usize,
+        data: (e.found != 0).then(|| DataField { place: e.data_place as usize, holds: e.holds != 0 }),
+    }
+}
+
+/// The sectors of a track: each ID whose sum holds, with the data behind it.
+///
+/// ```no_run
+/// # let profile = ism::Profile { t1: 58, t0: 29, early: 8, normal: 10, late: 12, min: 36, b23: 73, b34: 106, rpt: 139 };
+/// # let intervals = [0; 64];
+/// for entry in ism::index_track(profile, &intervals)?.entries() {
+///     let good = entry.data.is_some_and(|data| data.holds);
+///     println!("sector {} at {}: {}", entry.id.sector, entry.place, if good { "good" } else { "bad" });
+/// }
+/// # Ok::<(), ism::Refusal>(())
+/// ```
+///
+/// Refusals in order: profile, too many sectors.
+pub fn index_track(profile: Profile, intervals: &[u16]) -> Result<Index, Refusal> {
+    // SAFETY: the pointer comes with the length of its slice
+    let index = unsafe { sys::ism_index_track(profile, intervals.as_ptr(), intervals.len()) };
+    match Refusal::from_numbers(index.number, index.place) {
+        Some(refusal) => Err(refusal),
+        None => Ok(Index { entries: index.entries, count: index.count as usize }),
+    }
+}
