@@ -4,6 +4,7 @@ pub mod bit_images;
 pub mod faults;
 pub mod fields;
 pub mod fifo;
+pub mod indexes;
 pub mod limits;
 pub mod locks;
 pub mod margins;

@@ -103,6 +103,21 @@ fn library() {
     compare.group("merge: misfit sectors", 0xB4, cases::merges::misfits);
     compare.group("merge: faults together", 0xB5, cases::merges::faults);
     compare.group("merge: random sets", 0xB6, cases::merges::random_sets);
+    compare.group("index: sectors told", 0xC0, cases::indexes::told::sectors);
+    compare.group("index: data that does not read", 0xCD, cases::indexes::told::unreadable);
+    compare.group("index: fields that are no ID", 0xC1, cases::indexes::told::no_ids);
+    compare.group("index: sizes told", 0xC2, cases::indexes::told::sizes);
+    compare.group("index: search after the ID", 0xC3, cases::indexes::told::search_after_id);
+    compare.group("index: search after a lock", 0xCE, cases::indexes::told::search_after_lock);
+    compare.group("index: every interval", 0xC4, cases::indexes::every_interval);
+    compare.group("index: counts", 0xC5, cases::indexes::counts);
+    compare.group("index: the 33rd entry", 0xC6, cases::indexes::thirty_third);
+    compare.group("index: faults together", 0xC7, cases::indexes::faults);
+    compare.group("index: random fields", 0xC8, cases::indexes::random_fields);
+    compare.group("index: random classes", 0xC9, cases::indexes::random_classes);
+    compare.group("index: damaged sectors", 0xCA, cases::indexes::damaged_sectors);
+    compare.group("index: made tracks", 0xCB, cases::indexes::made_tracks);
+    compare.group("index: long tracks", 0xCC, cases::indexes::long_tracks);
     check_coverage(&compare);
     println!("outside: {} cases agree", compare.total());
 }
@@ -122,6 +137,7 @@ fn check_coverage(compare: &Compare) {
         ("ism_read_field", &[0, 1, 2, 12, 5, 6, 11, 8, 9]),
         ("ism_make_sector", &[0, 13, 9]),
         ("ism_merge", &[0, 13, 15, 17, 9]),
+        ("ism_index_track", &[0, 1, 2, 15]),
         ("ism_fifo", &[0, 3]),
     ];
     println!("answers seen, refusal number and times (0 is acceptance):");

@@ -6,6 +6,7 @@
 mod cells;
 pub mod fifo;
 pub mod image;
+pub mod index;
 mod items;
 pub mod merge;
 mod profile;

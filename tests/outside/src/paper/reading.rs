@@ -89,17 +89,21 @@ pub fn read(nine: &Nine, intervals: &[u16], room: usize) -> Result<Vec<u16>, Ref
 /// The classes behind the 64 of a lock: those of a mark A1, or those of two marks C2 (request (ii)).
 pub const LOCK_ENDS: [&str; 2] = ["34343", "3234342343"];
 
-/// The finder, by looking at every place.
-pub fn find(nine: &Nine, intervals: &[u16], start: u64) -> Result<u64, Refused> {
-    check_profile(nine)?;
+/// Every place at which a lock stands.
+pub fn lock_places(nine: &Nine, intervals: &[u16]) -> Vec<usize> {
     let letters = classes(nine, intervals);
     let sync = "2".repeat(64);
-    let lock_at = |k: usize| {
-        let behind = &letters[k..];
-        letters[..k].ends_with(&sync) && LOCK_ENDS.iter().any(|end| behind.starts_with(end))
+    let lock_at = |k: &usize| {
+        let behind = &letters[*k..];
+        letters[..*k].ends_with(&sync) && LOCK_ENDS.iter().any(|end| behind.starts_with(end))
     };
-    let places = (64..letters.len()).filter(|k| *k as u64 - 64 >= start);
-    match places.into_iter().find(|k| lock_at(*k)) {
+    (64..letters.len()).filter(lock_at).collect()
+}
+
+/// The finder.
+pub fn find(nine: &Nine, intervals: &[u16], start: u64) -> Result<u64, Refused> {
+    check_profile(nine)?;
+    match lock_places(nine, intervals).into_iter().find(|place| *place as u64 - 64 >= start) {
         Some(place) => Ok(place as u64),
         None => refuse(10, 0),
     }
