@@ -1,76 +1,17 @@
 /*
  * The contract of ism.h in plain C, as a baseline for the benchmark: no proof, no heap, no table that a call builds
- * beyond what depends on its profile. Functions are named plain_c_..; PLAIN_PREFIX gives them another prefix.
+ * beyond what depends on its profile.
  *
  * A stream is seen as half cells, a clock and a data half cell for each bit, sixteen to a byte. A transition is a one.
  * Half cell 0 is the first transition, the clock of the lead 0; half cell 1 is its data; byte k has the half cells from
  * 16 k + 2. A cell of class c is c half cells, the last of them a one.
  */
 #include <limits.h>
-#include <stdbool.h>
 #include <string.h>
 
-#include "ism.h"
-
-#ifndef PLAIN_PREFIX
-#define PLAIN_PREFIX plain_c_
-#endif
-#define PASTE(a, b) a##b
-#define PREFIXED(a, b) PASTE(a, b)
-#define NAME(function) PREFIXED(PLAIN_PREFIX, function)
-
-/* ------------------------------------------------------------------------------------------------------- answers */
-
-static ism_answer refused(uint32_t number, size_t place) {
-    ism_answer answer = {number, (uint32_t)place, 0, 0, 0};
-    return answer;
-}
-
-static ism_answer counted(uint64_t count) {
-    ism_answer answer = {ISM_ACCEPTED, 0, count, 0, 0};
-    return answer;
-}
+#include "common.h"
 
 /* ------------------------------------------------------------------------------------------------------- profile */
-
-/* The first number out of range, 1 to 9, or 0. */
-static uint32_t out_of_range(const ism_profile *p) {
-    if (p->t1 < 1 || p->t1 > 1023) return 1;
-    if (p->t0 < 1 || p->t0 > 1023) return 2;
-    if (p->early > 15) return 3;
-    if (p->normal > 15) return 4;
-    if (p->late > 15) return 5;
-    if (p->min < 1 || p->min > 4095) return 6;
-    if (p->b23 < 1 || p->b23 > 4095) return 7;
-    if (p->b34 < 1 || p->b34 > 4095) return 8;
-    if (p->rpt < 1 || p->rpt > 4095) return 9;
-    return 0;
-}
-
-static inline int32_t lesser(int32_t a, int32_t b) { return a < b ? a : b; }
-
-/* The margin, below 0 if the windows miss the cell lengths. */
-static int32_t least_distance(const ism_profile *p) {
-    int32_t d = 2 * (p->late - p->early);
-    int32_t two = p->t1, three = two + p->t0, four = three + p->t0;
-    int32_t class_2 = lesser(two - d - p->min, p->b23 - 1 - two);
-    int32_t class_3 = lesser(three - p->b23, p->b34 - 1 - three - d);
-    int32_t class_4 = lesser(four - p->b34, p->rpt - 1 - four - d);
-    return lesser(class_2, lesser(class_3, class_4));
-}
-
-/* The refusal of a profile; number 0 if it is accepted. */
-static ism_answer check_profile(const ism_profile *p) {
-    uint32_t which = out_of_range(p);
-    if (which != 0) return refused(ISM_UNSET, which);
-    if (p->early > p->normal || p->normal > p->late || least_distance(p) < 0) return refused(ISM_CROSSED, 0);
-    return counted(0);
-}
-
-/* The edges of a true profile ascend, so the class is one more than the number of edges that the interval reaches. */
-static inline unsigned classify(const ism_profile *p, uint16_t interval) {
-    return ISM_CLASS_NARROW + (interval >= p->min) + (interval >= p->b23) + (interval >= p->b34) + (interval >= p->rpt);
-}
 
 ism_answer NAME(margin)(ism_profile profile) {
     ism_answer verdict = check_profile(&profile);
@@ -84,13 +25,7 @@ ism_answer NAME(class)(ism_profile profile, uint16_t interval) {
     return counted(classify(&profile, interval));
 }
 
-/* ---------------------------------------------------------------------------------------------- items and register */
-
-#define ALL_ONES 0xFFFFu
-
-static inline bool is_mark(uint16_t item) { return item == ISM_MARK_A1 || item == ISM_MARK_C2; }
-
-static inline bool is_item(uint16_t item) { return (item < 256) | is_mark(item) | (item == ISM_CHECK); }
+/* -------------------------------------------------------------------------------------------------------- register */
 
 /*
  * The CRC register after 64 bits, which begin with the register itself: the remainder of t x^16 by
@@ -351,12 +286,6 @@ static size_t write_cells(const ism_profile *p, struct stretches s, size_t writt
     return (size_t)(w.out - out);
 }
 
-static size_t lowest_foreign(const uint16_t *items) {
-    size_t place = 0;
-    while (is_item(items[place])) place++;
-    return place;
-}
-
 ism_answer NAME(write)(ism_profile profile, const uint16_t *items, size_t n, uint16_t *out, size_t room) {
     ism_answer verdict = check_profile(&profile);
     if (verdict.number != ISM_ACCEPTED) return verdict;
@@ -465,11 +394,6 @@ static inline void add_block(struct word_reader *r, const uint16_t *zeros, size_
     for (; n - i >= 8; i += 8) add_eight(r, zeros + i);
     for (; i < n; i++) add_one(r, zeros[i]);
 }
-
-#define WORD_A1 0x4489u
-#define WORD_C2 0x5224u
-#define DATA 0x5555u
-#define CLOCKS 0xAAAAu
 
 /*
  * The clocks that a word lacks: those beside which both bits are 0, the one before and its own. Where cells have two
@@ -616,7 +540,6 @@ ism_answer NAME(register)(const uint16_t *items, size_t n, uint64_t used, uint16
 
 /* --------------------------------------------------------------------------------------------------------- finder */
 
-#define SYNC 64u
 #define MARK_CELLS 5u    /* of an A1 mark */
 #define TWO_C2_CELLS 10u /* of two C2 marks */
 
@@ -665,27 +588,25 @@ static inline size_t run_behind(const ism_profile *p, const uint16_t *intervals,
  * The 64 intervals of a run that begins at `first` are looked at from the last one back. One of another class rules
  * out every run over it, and what was seen behind it is not looked at again, so no interval is seen twice.
  */
-ism_answer NAME(find)(ism_profile profile, const uint16_t *intervals, size_t n, uint64_t start) {
-    ism_answer verdict = check_profile(&profile);
-    if (verdict.number != ISM_ACCEPTED) return verdict;
-    if (n < SYNC + MARK_CELLS || start > n - SYNC - MARK_CELLS) return refused(ISM_ADRIFT, 0);
+size_t NAME(find_lock)(const ism_profile *p, const uint16_t *intervals, size_t n, uint64_t start) {
+    if (n < SYNC + MARK_CELLS || start > n - SYNC - MARK_CELLS) return NOWHERE;
     size_t first = (size_t)start, seen = first, last = n - MARK_CELLS;
     while (first + SYNC <= last) {
-        if (!is_class_2(&profile, intervals[first + SYNC - 1])) {
+        if (!is_class_2(p, intervals[first + SYNC - 1])) {
             first = seen = first + SYNC;
             continue;
         }
-        size_t at = run_before(&profile, intervals, seen, first + SYNC - 1);
+        size_t at = run_before(p, intervals, seen, first + SYNC - 1);
         if (at > seen) {
             seen = first + SYNC;
             first = at;
             continue;
         }
-        size_t end = run_behind(&profile, intervals, first + SYNC, last + 1);
-        if (end <= last && is_mark_at(&profile, intervals + end, n - end)) return counted(end);
+        size_t end = run_behind(p, intervals, first + SYNC, last + 1);
+        if (end <= last && is_mark_at(p, intervals + end, n - end)) return end;
         first = seen = end + 1;
     }
-    return refused(ISM_ADRIFT, 0);
+    return NOWHERE;
 }
 
 /* --------------------------------------------------------------------------------------------------- sector maker */

@@ -313,6 +313,40 @@ fn add_reports(r: &mut Random, all: &[Implementation]) -> Result<(), String> {
     same(all, what, with_output(all, 0, |who, _| (who.add_reports)(a, b)))
 }
 
+/// The items of a track: sectors, fields alone and what is nearly one, in any order.
+fn fields(r: &mut Random, library: &Implementation) -> Vec<u16> {
+    let mut list = Vec::new();
+    for _ in 0..r.of(&[0, 1, 2, 3, 3, 34]) {
+        let code = if r.one_in(20) { 1 + r.below(3) as u8 } else { 0 };
+        let data: Vec<u8> = (0..128 << code).map(|_| r.below(256) as u8).collect();
+        let mut sector = vec![0; data.len() + 114];
+        (library.make_sector)([r.below(256) as u8, 0, r.below(256) as u8, code], &data, &mut sector);
+        let (id, field) = sector.split_at(43);
+        list.extend(r.of(&[&sector[..], &sector, &sector, id, field]));
+        while !list.is_empty() && r.one_in(2) {
+            let place = r.below(list.len() as u64) as usize;
+            list[place] = item(r);
+        }
+    }
+    list
+}
+
+/// A list may be longer than the writer takes: it is written in parts, and their streams follow each other.
+fn index_track(r: &mut Random, all: &[Implementation], p: Profile) -> Result<(), String> {
+    let mut track = Vec::new();
+    for part in fields(r, &all[0]).chunks(1_000) {
+        let mut out = vec![0; 16 * part.len() + 2];
+        let count = (all[0].write)(p, part, &mut out).count as usize;
+        track.extend_from_slice(&out[..count]);
+    }
+    let harm = r.of(&[0, 0, 1, 2, 5]);
+    for _ in 0..harm {
+        damage(r, p, &mut track);
+    }
+    let what = || format!("index_track {p:?} {track:?}");
+    same(all, what, with_output(all, 0, |who, _| (who.index_track)(p, &track)))
+}
+
 /// The sectors of a pass, most of the same data for the same number, damaged at times.
 fn set(r: &mut Random, numbers: u64, code: u8) -> Vec<u8> {
     let mut sectors: Vec<u8> = (0..numbers).map(|number| (number * 7) as u8).filter(|_| !r.one_in(5)).collect();
@@ -389,6 +423,7 @@ pub fn run(all: &[Implementation], calls: u64) -> Result<(), String> {
             8..=10 => read_field(r, all, p)?,
             11..=12 => find(r, all, p)?,
             13 if r.one_in(4) => make_sector(r, all)?,
+            13 if r.one_in(4) => index_track(r, all, p)?,
             14 => fifo(r, all)?,
             15 => make_image(r, all)?,
             16 => read_image(r, all)?,

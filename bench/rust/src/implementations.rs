@@ -1,12 +1,45 @@
-//! The implementations behind one set of function pointers: the library, the plain C of each compiler, the plain Rust.
+//! The implementations behind one set of function pointers: the library, and C of each compiler and Rust, careful and
+//! at their limit.
 
+use bench::careful::*;
 use bench::plain::*;
-use ism::sys::{Answer, Fifo, FifoAnswer, Profile, Report};
+use ism::sys::{Answer, Fifo, FifoAnswer, Index, Profile, Report};
 
 /// Track, side, sector, length code.
 pub type Id = [u8; 4];
 
+/// What kind of version one is; the best of a kind counts.
+#[derive(Clone, Copy, PartialEq, Eq)]
+pub enum Kind {
+    Library,
+    /// C at its limit
+    PlainC,
+    /// C without vector tricks and tables: writer, readers, finder and index alone
+    CarefulC,
+    /// the same in Rust
+    CarefulRust,
+    /// Rust at its limit
+    PlainRust,
+}
+
+impl Kind {
+    pub fn word(self) -> &'static str {
+        match self {
+            Kind::Library => "library",
+            Kind::PlainC => "plain-c",
+            Kind::CarefulC => "careful-c",
+            Kind::CarefulRust => "careful-rust",
+            Kind::PlainRust => "plain-rust",
+        }
+    }
+
+    pub fn is_careful(self) -> bool {
+        matches!(self, Kind::CarefulC | Kind::CarefulRust)
+    }
+}
+
 pub struct Implementation {
+    pub kind: Kind,
     pub name: &'static str,
     pub margin: fn(Profile) -> Answer,
     pub class: fn(Profile, u16) -> Answer,
@@ -18,6 +51,7 @@ pub struct Implementation {
     pub make_image: fn(&[u16], &mut [u16]) -> Answer,
     pub read_image: fn(&[u16], &mut [u16]) -> Answer,
     pub merge: fn(&[u8], &[u8], &mut [u8]) -> Answer,
+    pub index_track: fn(Profile, &[u16]) -> Index,
     pub drive_report: fn(Profile, &[u16]) -> Report,
     pub add_reports: fn(Report, Report) -> Report,
     /// A FIFO operation by its number, in the order of `ism.h`.
@@ -51,7 +85,7 @@ fn made(next: Fifo) -> FifoAnswer {
 macro_rules! c_interface {
     ($module:ident, $prefix:literal) => {
         mod $module {
-            use super::{made, Answer, Field, Fifo, FifoAnswer, Implementation, Profile, Report};
+            use super::{made, Answer, Field, Fifo, FifoAnswer, Implementation, Index, Kind, Profile, Report};
 
             extern "C" {
                 #[link_name = concat!($prefix, "margin")]
@@ -84,6 +118,8 @@ macro_rules! c_interface {
                 fn read_image(words: *const u16, n: usize, items: *mut u16, room: usize) -> Answer;
                 #[link_name = concat!($prefix, "merge")]
                 fn merge(first: *const u8, n: usize, second: *const u8, m: usize, out: *mut u8, room: usize) -> Answer;
+                #[link_name = concat!($prefix, "index_track")]
+                fn index_track(p: Profile, list: *const u16, n: usize) -> Index;
                 #[link_name = concat!($prefix, "drive_report")]
                 fn drive_report(p: Profile, list: *const u16, n: usize) -> Report;
                 #[link_name = concat!($prefix, "add_reports")]
@@ -105,11 +141,13 @@ macro_rules! c_interface {
             }
 
             pub fn implementation(
+                kind: Kind,
                 name: &'static str,
                 register: fn(&Field, &mut [u16]) -> Answer,
                 before_register: fn(&Field, &mut [u16]) -> Answer,
             ) -> Implementation {
                 Implementation {
+                    kind,
                     name,
                     margin: |p| unsafe { margin(p) },
                     class: |p, interval| unsafe { class(p, interval) },
@@ -131,6 +169,7 @@ macro_rules! c_interface {
                     merge: |a, b, out| unsafe {
                         merge(a.as_ptr(), a.len(), b.as_ptr(), b.len(), out.as_mut_ptr(), out.len())
                     },
+                    index_track: |p, list| unsafe { index_track(p, list.as_ptr(), list.len()) },
                     drive_report: |p, list| unsafe { drive_report(p, list.as_ptr(), list.len()) },
                     add_reports: |a, b| unsafe { add_reports(a, b) },
                     fifo: |operation, fifo, item| unsafe {
@@ -200,31 +239,95 @@ fn rust_fifo(operation: u8, fifo: Fifo, item: u16) -> FifoAnswer {
     }
 }
 
-/// The library first, plain C by compiler, plain Rust last.
-pub fn all() -> [Implementation; 6] {
+/// The plain Rust.
+const RUST: Implementation = Implementation {
+    kind: Kind::PlainRust,
+    name: "rust",
+    margin: plain_rust_margin,
+    class: plain_rust_class,
+    write: plain_rust_write,
+    read: plain_rust_read,
+    find: plain_rust_find,
+    read_field: plain_rust_read_field,
+    make_sector: plain_rust_make_sector,
+    make_image: plain_rust_make_image,
+    read_image: plain_rust_read_image,
+    merge: plain_rust_merge,
+    index_track: plain_rust_index_track,
+    drive_report: plain_rust_drive_report,
+    add_reports: |a, b| plain_rust_add_reports(&a, &b),
+    fifo: rust_fifo,
+    register: |field, out| plain_rust_register(&field.items, field.used, out),
+    before_register: nothing,
+};
+
+/// A careful C. What it does not have is the plain Rust's, and no task measures that.
+macro_rules! careful {
+    ($module:ident, $prefix:literal, $name:literal) => {
+        mod $module {
+            use super::{Answer, Implementation, Index, Kind, Profile, RUST};
+
+            extern "C" {
+                #[link_name = concat!($prefix, "write")]
+                fn write(p: Profile, items: *const u16, n: usize, out: *mut u16, room: usize) -> Answer;
+                #[link_name = concat!($prefix, "read")]
+                fn read(p: Profile, list: *const u16, n: usize, out: *mut u16, room: usize) -> Answer;
+                #[link_name = concat!($prefix, "find")]
+                fn find(p: Profile, list: *const u16, n: usize, start: u64) -> Answer;
+                #[link_name = concat!($prefix, "read_field")]
+                fn read_field(p: Profile, list: *const u16, n: usize, bytes: u64, out: *mut u16, room: usize)
+                    -> Answer;
+                #[link_name = concat!($prefix, "index_track")]
+                fn index_track(p: Profile, list: *const u16, n: usize) -> Index;
+            }
+
+            /// Each pointer comes with the length of its slice.
+            pub const IMPLEMENTATION: Implementation = Implementation {
+                kind: Kind::CarefulC,
+                name: $name,
+                write: |p, list, out| unsafe { write(p, list.as_ptr(), list.len(), out.as_mut_ptr(), out.len()) },
+                read: |p, list, out| unsafe { read(p, list.as_ptr(), list.len(), out.as_mut_ptr(), out.len()) },
+                find: |p, list, start| unsafe { find(p, list.as_ptr(), list.len(), start) },
+                read_field: |p, list, n, out| unsafe {
+                    read_field(p, list.as_ptr(), list.len(), n, out.as_mut_ptr(), out.len())
+                },
+                index_track: |p, list| unsafe { index_track(p, list.as_ptr(), list.len()) },
+                ..RUST
+            };
+        }
+    };
+}
+
+careful!(careful_gcc_o2, "careful_gcc_o2_", "careful-gcc-O2");
+careful!(careful_gcc_o3, "careful_gcc_o3_", "careful-gcc-O3");
+careful!(careful_clang_o2, "careful_clang_o2_", "careful-clang-O2");
+careful!(careful_clang_o3, "careful_clang_o3_", "careful-clang-O3");
+
+const CAREFUL_RUST: Implementation = Implementation {
+    kind: Kind::CarefulRust,
+    name: "careful-rust",
+    write: careful_rust_write,
+    read: careful_rust_read,
+    find: careful_rust_find,
+    read_field: careful_rust_read_field,
+    index_track: careful_rust_index_track,
+    ..RUST
+};
+
+/// The library first.
+pub fn all() -> [Implementation; 11] {
+    let full = |field: &Field, out: &mut [u16]| read_by_library(field, &mut out[1..]);
     [
-        library::implementation("library", read_by_library, |field, out| read_by_library(field, &mut out[1..])),
-        gcc_o2::implementation("gcc-O2", gcc_o2_register, nothing),
-        gcc_o3::implementation("gcc-O3", gcc_o3_register, nothing),
-        clang_o2::implementation("clang-O2", clang_o2_register, nothing),
-        clang_o3::implementation("clang-O3", clang_o3_register, nothing),
-        Implementation {
-            name: "rust",
-            margin: plain_rust_margin,
-            class: plain_rust_class,
-            write: plain_rust_write,
-            read: plain_rust_read,
-            find: plain_rust_find,
-            read_field: plain_rust_read_field,
-            make_sector: plain_rust_make_sector,
-            make_image: plain_rust_make_image,
-            read_image: plain_rust_read_image,
-            merge: plain_rust_merge,
-            drive_report: plain_rust_drive_report,
-            add_reports: |a, b| plain_rust_add_reports(&a, &b),
-            fifo: rust_fifo,
-            register: |field, out| plain_rust_register(&field.items, field.used, out),
-            before_register: nothing,
-        },
+        library::implementation(Kind::Library, "library", read_by_library, full),
+        gcc_o2::implementation(Kind::PlainC, "gcc-O2", gcc_o2_register, nothing),
+        gcc_o3::implementation(Kind::PlainC, "gcc-O3", gcc_o3_register, nothing),
+        clang_o2::implementation(Kind::PlainC, "clang-O2", clang_o2_register, nothing),
+        clang_o3::implementation(Kind::PlainC, "clang-O3", clang_o3_register, nothing),
+        careful_gcc_o2::IMPLEMENTATION,
+        careful_gcc_o3::IMPLEMENTATION,
+        careful_clang_o2::IMPLEMENTATION,
+        careful_clang_o3::IMPLEMENTATION,
+        CAREFUL_RUST,
+        RUST,
     ]
 }

@@ -1,3 +1,4 @@
-//! The plain Rust baseline; the benchmark's driver is the program beside it.
+//! The Rust baselines, careful and at its limit; the benchmark's driver is the program beside them.
 
+pub mod careful;
 pub mod plain;

@@ -1,8 +1,8 @@
-//! The library beside plain C and plain Rust. `bench/run` builds this, counts instructions and prints the tables.
+//! The library beside C and Rust. `bench/run` builds this, counts instructions and prints the tables.
 //!
 //!     bench agree [CALLS]         check that all give the same answers on every task and on so many random calls
 //!     bench list                  tasks, one a line: name, input, units, unit
-//!     bench names                 implementations, the library first
+//!     bench names TASK            implementations that have it, the library first: kind, name
 //!     bench repeat TASK WHO TIMES run a task so many times and print nothing
 //!     bench before TASK WHO TIMES the same for what of a run does not belong to the task
 //!     bench times                 nanoseconds for each task and implementation
@@ -21,7 +21,7 @@ use implementations::Implementation;
 use tasks::Task;
 
 const USAGE: &str =
-    "usage: bench agree [CALLS] | list | names | repeat TASK WHO TIMES | before TASK WHO TIMES | times | stacks";
+    "usage: bench agree [CALLS] | list | names TASK | repeat TASK WHO TIMES | before TASK WHO TIMES | times | stacks";
 
 /// Random calls where no number is given.
 const CALLS: u64 = 20_000;
@@ -34,7 +34,7 @@ fn main() {
         ["agree"] => agree(&implementations, CALLS),
         ["agree", calls] => agree(&implementations, calls.parse().expect("a number of calls")),
         ["list"] => list(),
-        ["names"] => implementations.iter().for_each(|who| println!("{}", who.name)),
+        ["names", task] => names(task, &implementations),
         [what @ ("repeat" | "before"), task, who, times] => {
             repeat(what, task, who, times.parse().expect("a number of times"), &implementations)
         }
@@ -42,7 +42,7 @@ fn main() {
         ["stacks"] => {
             each("stack", &implementations, |task, who| beyond_calling(|| task.run(who)));
             for (name, call) in stack::other_entries() {
-                println!("stack\t{name}\t{:.2}", beyond_calling(call));
+                println!("stack\t{name}\tlibrary\t{:.2}", beyond_calling(call));
             }
         }
         _ => fail(USAGE, 2),
@@ -61,19 +61,31 @@ fn list() {
     }
 }
 
+fn plan_of(name: &str) -> tasks::Plan {
+    let plan = tasks::all().into_iter().find(|plan| plan.name == name);
+    plan.unwrap_or_else(|| fail(&format!("no task {name}"), 2))
+}
+
+fn names(task: &str, implementations: &[Implementation]) {
+    let plan = plan_of(task);
+    for who in implementations.iter().filter(|who| plan.measures(who)) {
+        println!("{}\t{}", who.kind.word(), who.name);
+    }
+}
+
 /// Bytes of stack that a call takes, its own frame and what it calls.
 fn beyond_calling(call: impl FnMut() -> ism::sys::Answer) -> f64 {
     stack::depth(call).saturating_sub(stack::depth(stack::nothing)) as f64
 }
 
-/// Prints one line for each task: name, then a number for each implementation.
+/// Prints one line for each task: name, then kind and number of each implementation.
 fn each(what: &str, implementations: &[Implementation], measure: impl Fn(&mut Task, &Implementation) -> f64) {
     for plan in tasks::all() {
         let mut task = (plan.make)();
         if task.is_whole() {
-            let numbers: Vec<String> =
-                implementations.iter().map(|who| format!("{:.2}", measure(&mut task, who))).collect();
-            println!("{what}\t{}\t{}", plan.name, numbers.join("\t"));
+            let measured = implementations.iter().filter(|who| plan.measures(who));
+            let numbers = measured.map(|who| format!("{}\t{:.2}", who.kind.word(), measure(&mut task, who)));
+            println!("{what}\t{}\t{}", plan.name, numbers.collect::<Vec<_>>().join("\t"));
         }
     }
 }
@@ -89,10 +101,9 @@ fn time(task: &mut Task, who: &Implementation) -> f64 {
 }
 
 fn repeat(what: &str, name: &str, who: &str, times: usize, implementations: &[Implementation]) {
-    let plan = tasks::all().into_iter().find(|plan| plan.name == name);
     let who = implementations.iter().find(|one| one.name == who);
-    let (Some(plan), Some(who)) = (plan, who) else { fail(&format!("no task {name} or no such implementation"), 2) };
-    let mut task = (plan.make)();
+    let Some(who) = who else { fail("no such implementation", 2) };
+    let mut task = (plan_of(name).make)();
     for _ in 0..times {
         match what {
             "before" => drop(black_box(task.run_before(who))),

@@ -4,18 +4,18 @@
 mod fifo;
 mod finder;
 mod images;
+pub(crate) mod index;
 mod passes;
 mod reader;
-mod register;
+pub(crate) mod register;
 mod reports;
-#[cfg(feature = "requests")]
-pub mod requests;
-mod words;
+pub(crate) mod words;
 mod writer;
 
 pub use fifo::*;
 pub use finder::plain_rust_find;
 pub use images::{plain_rust_make_image, plain_rust_read_image};
+pub use index::plain_rust_index_track;
 pub use passes::plain_rust_merge;
 pub use reader::{plain_rust_read, plain_rust_read_field, plain_rust_register};
 pub use reports::{plain_rust_add_reports, plain_rust_drive_report};
@@ -23,22 +23,22 @@ pub use writer::{plain_rust_make_sector, plain_rust_write};
 
 use ism::sys::{Answer, Profile};
 
-const MAX_BYTES: usize = 6_400;
-const MAX_INTERVALS: usize = 51_202;
-const MAX_FIELD_BYTES: u64 = 1_030;
+pub(crate) const MAX_BYTES: usize = 6_400;
+pub(crate) const MAX_INTERVALS: usize = 51_202;
+pub(crate) const MAX_FIELD_BYTES: u64 = 1_030;
 
-fn refused(number: u32, place: usize) -> Answer {
+pub(crate) fn refused(number: u32, place: usize) -> Answer {
     Answer { number, place: place as u32, count: 0, used: 0, holds: 0 }
 }
 
-fn counted(count: u64) -> Answer {
+pub(crate) fn counted(count: u64) -> Answer {
     Answer { number: 0, place: 0, count, used: 0, holds: 0 }
 }
 
 /// Classes 1 narrow, 2, 3, 4, 5 wide. The edges of a true profile ascend, so the class is one more than the number of
 /// edges that the interval reaches.
 #[inline]
-fn classify(p: &Profile, interval: u16) -> u8 {
+pub(crate) fn classify(p: &Profile, interval: u16) -> u8 {
     [p.min, p.b23, p.b34, p.rpt].iter().fold(1, |class, edge| class + u8::from(interval >= *edge))
 }
 
@@ -55,7 +55,7 @@ fn least_distance(p: &Profile) -> i32 {
     class_2.min(class_3).min(class_4)
 }
 
-fn check_profile(p: &Profile) -> Result<(), Answer> {
+pub(crate) fn check_profile(p: &Profile) -> Result<(), Answer> {
     let in_range = [
         (1..=1023).contains(&p.t1),
         (1..=1023).contains(&p.t0),
@@ -77,7 +77,7 @@ fn check_profile(p: &Profile) -> Result<(), Answer> {
 }
 
 /// One answer from either way out of a function.
-fn either(result: Result<Answer, Answer>) -> Answer {
+pub(crate) fn either(result: Result<Answer, Answer>) -> Answer {
     result.unwrap_or_else(|refusal| refusal)
 }
 

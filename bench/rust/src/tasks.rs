@@ -2,9 +2,9 @@
 
 use std::rc::Rc;
 
-use bench::plain::{plain_rust_make_image, plain_rust_read_field, plain_rust_write};
-use ism::sys::{Answer, Profile, Report};
-use ism::{CHECK, MARK_A1, MARK_C2, MAX_BYTES, MAX_INTERVALS, SECTOR_OVERHEAD};
+use bench::plain::{plain_rust_make_image, plain_rust_make_sector, plain_rust_read_field, plain_rust_write};
+use ism::sys::{Answer, Index, Profile, Report};
+use ism::{CHECK, MARK_A1, MARK_C2, MAX_BYTES, MAX_INTERVALS, MAX_SECTORS, SECTOR_OVERHEAD};
 
 use crate::implementations::{Field, Implementation};
 
@@ -66,14 +66,31 @@ pub struct Plan {
     pub name: &'static str,
     pub input: &'static str,
     pub make: fn() -> Task,
+    /// whether the careful versions have its entry
+    careful: bool,
+}
+
+impl Plan {
+    /// Whether an implementation is measured on the task.
+    pub fn measures(&self, who: &Implementation) -> bool {
+        self.careful || !who.kind.is_careful()
+    }
 }
 
 macro_rules! plans {
-    ($($name:literal, $input:literal, $make:expr;)*) => { [$(Plan { name: $name, input: $input, make: || $make }),*] };
+    ($careful:literal, $($name:literal, $input:literal, $make:expr;)*) => {
+        [$(Plan { name: $name, input: $input, make: || $make, careful: $careful }),*]
+    };
 }
 
 pub fn all() -> Vec<Plan> {
+    with_careful().into_iter().chain(others()).collect()
+}
+
+/// Writer, readers, finder and index.
+fn with_careful() -> Vec<Plan> {
     Vec::from(plans! {
+        true,
         "write-10", "10 bytes", write(items(10));
         "write-512", "512 bytes", write(items(512));
         "write-6400", "6400 bytes", write(items(6_400));
@@ -97,6 +114,15 @@ pub fn all() -> Vec<Plan> {
         "read_field-10", "10 bytes", read_field(10);
         "read_field-512", "512 bytes", read_field(512);
         "read_field-1030", "1030 bytes", read_field(1_030);
+        "index-9", "a track of 9 sectors of 512 bytes", index(track_of(9, 512));
+        "index_in_locks-100000", "100000 intervals of locks that read as nothing", index(repeated(one_mark()));
+        "index_in_ids-100000", "100000 intervals of IDs whose sum fails", index(repeated(failing_id()));
+    })
+}
+
+fn others() -> Vec<Plan> {
+    Vec::from(plans! {
+        false,
         "register-1030", "1030 bytes", register(1_030);
         "make_sector-512", "512 data bytes", make_sector(512);
         "make_sector-1024", "1024 data bytes", make_sector(1_024);
@@ -273,6 +299,50 @@ fn drive_report(intervals: usize) -> Task {
     let track: Vec<u16> = stream(&items(MAX_BYTES)).into_iter().cycle().take(intervals).collect();
     let run: Run = Box::new(move |who, out| put_report(&(who.drive_report)(PROFILE, &track), out));
     Task::new(intervals, "interval", REPORT_PARTS, run)
+}
+
+/// Ten numbers of sixteen bits for each entry of an index; the places are below 2^32.
+const ENTRY_PARTS: usize = 10;
+
+fn put_index(index: &Index, out: &mut [u16]) -> Answer {
+    for (parts, entry) in out.chunks_exact_mut(ENTRY_PARTS).zip(&index.entries) {
+        let places = [entry.id_place, entry.data_place].map(|place| [place as u16, (place >> 16) as u16]);
+        let bytes = [entry.track, entry.side, entry.sector, entry.code, entry.found, entry.holds].map(u16::from);
+        parts[..4].copy_from_slice(places.as_flattened());
+        parts[4..].copy_from_slice(&bytes);
+    }
+    Answer { number: index.number, place: index.place, count: index.count, used: 0, holds: 0 }
+}
+
+fn index(track: Vec<u16>) -> Task {
+    let intervals = track.len();
+    let run: Run = Box::new(move |who, out| put_index(&(who.index_track)(PROFILE, &track), out));
+    Task::new(intervals, "interval", ENTRY_PARTS * MAX_SECTORS, run)
+}
+
+/// Made sectors one after the other.
+fn track_of(sectors: usize, size: usize) -> Vec<u16> {
+    let data = bytes(sectors * size);
+    let mut items = vec![0; sectors * (size + SECTOR_OVERHEAD)];
+    for (number, out) in items.chunks_exact_mut(size + SECTOR_OVERHEAD).enumerate() {
+        let id = [39, 1, number as u8 + 1, length_code(size)];
+        plain_rust_make_sector(id, &data[number * size..(number + 1) * size], out);
+    }
+    stream(&items)
+}
+
+fn repeated(intervals: Vec<u16>) -> Vec<u16> {
+    intervals.into_iter().cycle().take(TRACK_INTERVALS).collect()
+}
+
+/// As short as a lock can be.
+fn one_mark() -> Vec<u16> {
+    [vec![PROFILE.t1; 64], vec![PROFILE.b23, PROFILE.b34, PROFILE.b23, PROFILE.b34, PROFILE.b23]].concat()
+}
+
+/// An ID field with wrong check bytes, and its sync.
+fn failing_id() -> Vec<u16> {
+    stream(&[vec![0; 12], vec![MARK_A1; 3], vec![0xFE, 39, 1, 7, 2, 0, 0]].concat())
 }
 
 /// The sectors that a pass reads from one of them on; the sum of some fails.

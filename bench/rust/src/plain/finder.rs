@@ -62,13 +62,16 @@ impl Class2 {
 
 #[inline(never)]
 pub fn plain_rust_find(profile: Profile, intervals: &[u16], start: u64) -> Answer {
-    either(find(&profile, intervals, start))
+    either(check_profile(&profile).map(|()| {
+        let lock = find_lock(&profile, intervals, start);
+        lock.map_or(refused(10, 0), |place| counted(place as u64))
+    }))
 }
 
-/// The 64 intervals of a run that begins at `first` are looked at from the last one back. One of another class rules
-/// out every run over it, and what was seen behind it is not looked at again, so no interval is seen twice.
-fn find(p: &Profile, intervals: &[u16], start: u64) -> Result<Answer, Answer> {
-    check_profile(p)?;
+/// The first lock from `start` on, under a true profile. The 64 intervals of a run that begins at `first` are looked at
+/// from the last one back. One of another class rules out every run over it, and what was seen behind it is not looked
+/// at again, so no interval is seen twice.
+pub fn find_lock(p: &Profile, intervals: &[u16], start: u64) -> Option<usize> {
     let class_2 = Class2 { min: p.min, width: p.b23 - p.min };
     let mut first = usize::try_from(start).unwrap_or(usize::MAX).min(intervals.len());
     let mut seen = first;
@@ -86,12 +89,12 @@ fn find(p: &Profile, intervals: &[u16], start: u64) -> Result<Answer, Answer> {
         }
         let end = first + SYNC + class_2.run(&intervals[first + SYNC..]);
         if is_mark(p, &intervals[end..]) {
-            return Ok(counted(end as u64));
+            return Some(end);
         }
         first = end + 1;
         seen = first;
     }
-    Err(refused(10, 0))
+    None
 }
 
 /// Whether the intervals begin with an A1 mark or two C2 marks.

@@ -1,0 +1,84 @@
+/* Finder and index in C, over the search for a lock and the field reader of the version whose PREFIX it gets. */
+#include "common.h"
+
+ism_answer NAME(find)(ism_profile profile, const uint16_t *intervals, size_t n, uint64_t start) {
+    ism_answer verdict = check_profile(&profile);
+    if (verdict.number != ISM_ACCEPTED) return verdict;
+    size_t place = NAME(find_lock)(&profile, intervals, n, start);
+    return place == NOWHERE ? refused(ISM_ADRIFT, 0) : counted(place);
+}
+
+ism_answer NAME(read_field)(ism_profile profile, const uint16_t *intervals, size_t n, uint64_t bytes, uint16_t *out,
+                            size_t room);
+
+#define ID_BYTES 10u
+
+/* The classes of three A1 marks. What begins otherwise need not be read. */
+static bool has_three_marks(const ism_profile *p, const uint16_t *intervals, size_t n) {
+    static const uint8_t classes[15] = {3, 4, 3, 4, 3, 2, 4, 3, 4, 3, 2, 4, 3, 4, 3};
+    if (n < sizeof classes) return false;
+    for (size_t i = 0; i < sizeof classes; i++)
+        if (classify(p, intervals[i]) != classes[i]) return false;
+    return true;
+}
+
+/* The field at a lock, if it reads and has three marks A1 and this byte behind them; else `used` is 0. */
+static ism_answer sector_field(const ism_profile *p, const uint16_t *intervals, size_t n, size_t bytes, uint16_t name,
+                               uint16_t *items) {
+    if (!has_three_marks(p, intervals, n)) return counted(0);
+    ism_answer field = NAME(read_field)(*p, intervals, n, bytes, items, bytes);
+    return field.number == ISM_ACCEPTED && items[3] == name ? field : counted(0);
+}
+
+/* The intervals of the ID field at a place, 0 if there is none; the entry gets what it says. */
+static size_t read_id(const ism_profile *p, const uint16_t *intervals, size_t n, size_t place, ism_index_entry *entry) {
+    uint16_t items[ID_BYTES];
+    ism_answer field = sector_field(p, intervals + place, n - place, ID_BYTES, 0xFE, items);
+    if (!field.holds || (items[4] | items[5] | items[6]) > 0xFF || items[7] > 3) return 0;
+    entry->id_place = place;
+    entry->track = (uint8_t)items[4];
+    entry->side = (uint8_t)items[5];
+    entry->sector = (uint8_t)items[6];
+    entry->code = (uint8_t)items[7];
+    return (size_t)field.used;
+}
+
+/* The same for the data field of an entry. */
+static size_t read_data(const ism_profile *p, const uint16_t *intervals, size_t n, size_t place,
+                        ism_index_entry *entry) {
+    uint16_t items[ISM_MAX_FIELD_BYTES];
+    size_t bytes = ((size_t)128 << entry->code) + 6;
+    ism_answer field = sector_field(p, intervals + place, n - place, bytes, 0xFB, items);
+    if (field.used == 0) return 0;
+    entry->data_place = place;
+    entry->found = 1;
+    entry->holds = (uint8_t)field.holds;
+    return (size_t)field.used;
+}
+
+/* Entries in the order of their ID fields. A lock that is not the data's may be that of the next ID. */
+ism_index NAME(index_track)(ism_profile profile, const uint16_t *intervals, size_t n) {
+    ism_index index = {0};
+    ism_answer verdict = check_profile(&profile);
+    index.number = verdict.number;
+    index.place = verdict.place;
+    if (verdict.number != ISM_ACCEPTED) return index;
+    size_t lock = NAME(find_lock)(&profile, intervals, n, 0), used;
+    while (lock != NOWHERE) {
+        ism_index_entry entry = {0};
+        used = read_id(&profile, intervals, n, lock, &entry);
+        if (used == 0) {
+            lock = NAME(find_lock)(&profile, intervals, n, lock + 1);
+            continue;
+        }
+        if (index.count == ISM_MAX_SECTORS) {
+            ism_index crowded = {.number = ISM_CROWDED};
+            return crowded;
+        }
+        lock = NAME(find_lock)(&profile, intervals, n, lock + used);
+        used = lock == NOWHERE ? 0 : read_data(&profile, intervals, n, lock, &entry);
+        if (used > 0) lock = NAME(find_lock)(&profile, intervals, n, lock + used);
+        index.entries[index.count++] = entry;
+    }
+    return index;
+}
