@@ -18,8 +18,8 @@
  *   ism_index_track, 3 KB at most for every other.
  *
  *   Every argument value is answered. A refusal comes back in `number` and `place`, changes no buffer, and leaves
- *   `count`, `used`, `holds`, the rows of a report and the entries of an index 0. When several causes hold at once, the
- *   first in the order listed at the function is answered.
+ *   `count`, `used`, `holds`, `clearance`, the rows of a report and the entries of an index 0. When several causes hold
+ *   at once, the first in the order listed at the function is answered.
  *
  *   On acceptance `number` and `place` are 0, the result fills the front of the output, and the rest of the output
  *   keeps its contents. Fields of an answer that a function does not give are 0.
@@ -107,7 +107,7 @@ typedef struct {
 typedef struct {
     uint32_t number, place;
     uint64_t count, used;
-    uint32_t holds;
+    uint32_t holds, clearance;
 } ism_answer;
 
 /*
@@ -127,10 +127,23 @@ ism_answer ism_margin(ism_profile profile);
 #define ISM_CLASS_WIDE 5u   /* rpt or more */
 
 /*
+ * Clearance: how far an interval is inside the window of its class, in half clocks. It is the most by which the
+ * interval could move either way and keep its class: the smaller of the way down to the lower edge and the way up to
+ * the last number below the upper edge. Narrow and wide intervals have 0. The readers give the least over the
+ * intervals they used, so that a close call shows: a strip as written has the margin at least, and one whose intervals
+ * were each changed by at most c, where c is at most the margin, has at least margin - c.
+ *
+ * A bench reads a master and compares its clearance with the margin on the drive's card (ism_margin). By as much as it
+ * is below the margin, an interval of the master has come nearer to an edge than any is written. With 0 an interval
+ * stands at the edge of its window: half a clock further it is of another class.
+ */
+
+/*
  * The class of one interval.
  *
- *   count     ISM_CLASS_NARROW, ISM_CLASS_2, ISM_CLASS_3, ISM_CLASS_4 or ISM_CLASS_WIDE
- *   refusals  ISM_UNSET, ISM_CROSSED; a narrow or wide interval is not refused here
+ *   count      ISM_CLASS_NARROW, ISM_CLASS_2, ISM_CLASS_3, ISM_CLASS_4 or ISM_CLASS_WIDE
+ *   clearance  of this interval
+ *   refusals   ISM_UNSET, ISM_CROSSED; a narrow or wide interval is not refused here
  */
 ism_answer ism_class(ism_profile profile, uint16_t interval);
 
@@ -154,6 +167,7 @@ ism_answer ism_write(ism_profile profile, const uint16_t *items, size_t n, uint1
  *   intervals, n  the whole stream
  *   out, room     the items: a data byte, or ISM_MARK plus the byte for a mark; n / 4 is always room enough
  *   count         items
+ *   clearance     the least over all intervals
  *   refusals      ISM_UNSET, ISM_CROSSED, ISM_OVERLONG (over 51,202 intervals), the first of ISM_NARROW or ISM_WIDE,
  *                 ISM_RAGGED, ISM_OVERLONG (over 6,400 bytes), ISM_STRAY, ISM_FULL
  *
@@ -187,6 +201,7 @@ ism_answer ism_find(ism_profile profile, const uint16_t *intervals, size_t n, ui
  *   count         items, equal to `bytes`
  *   used          intervals used; the rest of the list begins there
  *   holds         1 if the CRC register is zero after the items, else 0
+ *   clearance     the least over the used intervals
  *   refusals      ISM_UNSET, ISM_CROSSED, ISM_MISCOUNT, then ISM_NARROW, ISM_WIDE or ISM_SHORT as first met,
  *                 ISM_STRAY (any gap out of place in the used intervals; one on the lead 0 or one that runs past the
  *                 bytes is out of place), ISM_FULL

@@ -38,7 +38,7 @@ use Rattle.demands.proofs.ClassCells.{number-of-units, class-numbers-in
 use Rattle.demands.proofs.Demand1.{room-for-its-list-is-enough}
 use Rattle.demands.proofs.Demand2.{read-only-lists, one-list, every-list-is-read}
 
-stated-is-the-margin : (p : Profile) → AcceptedProfile p → stated p ≡ marginOf p
+pub stated-is-the-margin : (p : Profile) → AcceptedProfile p → stated p ≡ marginOf p
 unfolding marginRule
 stated-is-the-margin p h = ap (λ a. a .count) (first-refusal-passes (profileRule p) (accepted (marginOf p)) h)
 
@@ -81,7 +81,7 @@ module _ (p : Profile) (accepts : AcceptedProfile p) where
       ∙ ap (λ (us : List ℕ). map classOfUnits (writtenCells us)) (listed a .as-written))
       ∙ numbers-of-cells ws
 
-  reads-back
+  pub reads-back
       : (ws : List ℕ)
       → AcceptedList ws
       → (changed : List ℕ)

@@ -16,3 +16,5 @@ pub mod Demand2
 pub mod Demand3
 pub mod UniqueImages
 pub mod Stretch
+pub mod UsedLaws
+pub mod HowNear

@@ -11,3 +11,4 @@ pub mod Demand3
 pub mod Settled
 pub mod UniqueImages
 pub mod Stretch
+pub mod HowNear

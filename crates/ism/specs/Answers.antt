@@ -1,7 +1,8 @@
 -- The C interface: a profile and an answer as they cross it. No lemmas here.
 use Prim.Native.Nat.{ℕ}
-use mathlib.Core.Bool.{Bool, true, false}
+use mathlib.Core.Bool.{Bool, true, false, cond}
 use mathlib.Core.List.{List, [], _∷_}
+use lib.Dec.{eqb}
 use Rattle.refusal.specs.Answer.{Answer}
 use Rattle.fields.specs.FieldRule.{FieldAnswer}
 use Rattle.merge.specs.Rule.{MergeAnswer}
@@ -20,7 +21,8 @@ profileOf p = fromNumbers (profileNumbersOf p)
 
 -- number, place and count of document 01, the rest 0
 abbrev pub answerOf : Answer → IsmAnswer
-answerOf a = record { number = a .number; place = a .place; count = a .count; used = 0; holds = 0 }
+answerOf a =
+    record { number = a .number; place = a .place; count = a .count; used = 0; holds = 0; clearance = 0 }
 
 -- a yes or no as a number
 abbrev pub asNumber : Bool → ℕ
@@ -36,6 +38,7 @@ fieldAnswerOf f =
       count = f .answer .count;
       used = f .used;
       holds = asNumber (f .holds);
+      clearance = 0;
     }
 
 -- the merge's, with the bytes stored
@@ -47,4 +50,17 @@ givenMerge m =
       count = m .answer .count;
       used = m .stored;
       holds = 0;
+      clearance = 0;
+    }
+
+-- an answer with a clearance, which is 0 on a refusal
+abbrev pub withClearance : ℕ → IsmAnswer → IsmAnswer
+withClearance e a =
+    record {
+      number = a .number;
+      place = a .place;
+      count = a .count;
+      used = a .used;
+      holds = a .holds;
+      clearance = cond (eqb (a .number) 0) e 0;
     }

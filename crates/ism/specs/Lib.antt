@@ -1,3 +1,4 @@
 pub mod Answers
+pub mod Clearances
 pub mod Reports
 pub mod Indexes

@@ -2,13 +2,15 @@
 ghost use mathlib.Core.Path.{_≡_};
 ghost use lib.ListN.{length};
 ghost use Rattle.fields.specs.Lock.{findRule};
-ghost use Rattle.fields.specs.FieldRule.{fieldAnswer, fieldReading, fieldOutput};
+ghost use Rattle.fields.specs.FieldRule.{fieldAnswer, fieldOutput};
 ghost use Rattle.sectors.specs.Sector.{sectorRule, sectorOutput};
 ghost use Rattle.ism.specs.Answers.{profileOf, answerOf, fieldAnswerOf};
+ghost use Rattle.ism.specs.Clearances.{fieldAnswerFor};
 use crate::IsmAnswer;
 use crate::IsmProfile;
 use crate::answer;
 use crate::profile;
+use crate::with_clearance;
 use fields::reader::FieldRead;
 
 #[no_mangle]
@@ -28,6 +30,7 @@ fn field_answer(read: FieldRead) -> IsmAnswer
             count: count as u64,
             used: used as u64,
             holds: holds as u32,
+            clearance: 0,
         },
         FieldRead::Refused(refusal) => IsmAnswer {
             number: refusal.number(),
@@ -35,6 +38,7 @@ fn field_answer(read: FieldRead) -> IsmAnswer
             count: 0,
             used: 0,
             holds: 0,
+            clearance: 0,
         },
     }
 }
@@ -47,12 +51,17 @@ pub extern "C" fn ism_read_field(
     out: &mut [u16],
 ) -> IsmAnswer
     ensures answer { λ r. ⌜
-        r ≡ fieldAnswerOf (fieldReading (profileOf p) (now (intervals .entry)) bytes (length (now (out .entry)))) ⌝ }
+        r ≡ fieldAnswerFor (profileOf p) (now (intervals .entry)) bytes (length (now (out .entry))) ⌝ }
     ensures output { λ _. ⌜
         now (out .exit) ≡ fieldOutput (profileOf p) (now (intervals .entry)) bytes (now (out .entry)) ⌝ }
 {
-    let read = fields::reader::read_field(profile(p), intervals, bytes as usize, out);
-    field_answer(read)
+    let q = profile(p);
+    let field = field_answer(fields::reader::read_field(q, intervals, bytes as usize, out));
+    if field.number != 0 {
+        return field;
+    }
+    let used = field.used as usize;
+    with_clearance(field, clearance::least(q, &intervals[..used]))
 }
 
 #[no_mangle]

@@ -1,13 +1,13 @@
 // The C interface, as include/ism.h declares it. Each function hands its arguments to the library and its answer
-// back: nothing is computed here.
+// back: nothing is computed here. An answer that was accepted gets its clearance after that.
 ghost use mathlib.Core.Path.{_≡_};
 ghost use lib.ListN.{length};
 ghost use Rattle.refusal.specs.Answer.{countedAnswer};
-ghost use Rattle.timing.specs.Class.{classRule};
 ghost use Rattle.lengths.specs.Margin.{marginRule};
 ghost use Rattle.codec.specs.Writer.{writeRule, writeOutput};
-ghost use Rattle.codec.specs.Reader.{readRule, readOutput};
-ghost use Rattle.ism.specs.Answers.{profileOf, answerOf};
+ghost use Rattle.codec.specs.Reader.{readOutput};
+ghost use Rattle.ism.specs.Answers.{profileOf, answerOf, withClearance};
+ghost use Rattle.ism.specs.Clearances.{classAnswerOf, stripAnswerOf};
 use refusal::Counted;
 use timing::Profile;
 
@@ -39,6 +39,7 @@ pub struct IsmAnswer {
     pub count: u64,
     pub used: u64,
     pub holds: u32,
+    pub clearance: u32,
 }
 
 fn profile(p: IsmProfile) -> Profile
@@ -68,6 +69,7 @@ fn answer(counted: Counted) -> IsmAnswer
             count: count as u64,
             used: 0,
             holds: 0,
+            clearance: 0,
         },
         Counted::Refused(refusal) => IsmAnswer {
             number: refusal.number(),
@@ -75,7 +77,23 @@ fn answer(counted: Counted) -> IsmAnswer
             count: 0,
             used: 0,
             holds: 0,
+            clearance: 0,
         },
+    }
+}
+
+// An answer that was accepted, with its clearance.
+fn with_clearance(given: IsmAnswer, clearance: u16) -> IsmAnswer
+    requires { ⌜ given .number ≡ 0 ⌝ }
+    ensures { λ r. ⌜ r ≡ withClearance clearance given ⌝ }
+{
+    IsmAnswer {
+        number: given.number,
+        place: given.place,
+        count: given.count,
+        used: given.used,
+        holds: given.holds,
+        clearance: clearance as u32,
     }
 }
 
@@ -88,9 +106,14 @@ pub extern "C" fn ism_margin(p: IsmProfile) -> IsmAnswer
 
 #[no_mangle]
 pub extern "C" fn ism_class(p: IsmProfile, interval: u16) -> IsmAnswer
-    ensures { λ r. ⌜ r ≡ answerOf (classRule (profileOf p) interval) ⌝ }
+    ensures { λ r. ⌜ r ≡ classAnswerOf (profileOf p) interval ⌝ }
 {
-    answer(timing::class_number(profile(p), interval))
+    let q = profile(p);
+    let class = answer(timing::class_number(q, interval));
+    if class.number != 0 {
+        return class;
+    }
+    with_clearance(class, clearance::of_interval(q, interval))
 }
 
 #[no_mangle]
@@ -104,9 +127,13 @@ pub extern "C" fn ism_write(p: IsmProfile, items: &[u16], out: &mut [u16]) -> Is
 
 #[no_mangle]
 pub extern "C" fn ism_read(p: IsmProfile, intervals: &[u16], out: &mut [u16]) -> IsmAnswer
-    ensures answer { λ r. ⌜ r ≡ answerOf (readRule (profileOf p) (now (intervals .entry)) (length (now (out .entry)))) ⌝ }
+    ensures answer { λ r. ⌜ r ≡ stripAnswerOf (profileOf p) (now (intervals .entry)) (length (now (out .entry))) ⌝ }
     ensures output { λ _. ⌜ now (out .exit) ≡ readOutput (profileOf p) (now (intervals .entry)) (now (out .entry)) ⌝ }
 {
-    let counted = codec::reader::read(profile(p), intervals, out);
-    answer(counted)
+    let q = profile(p);
+    let strip = answer(codec::reader::read(q, intervals, out));
+    if strip.number != 0 {
+        return strip;
+    }
+    with_clearance(strip, clearance::least(q, intervals))
 }

@@ -16,6 +16,7 @@ fn merged_answer(merged: Merged) -> IsmAnswer
             count: count as u64,
             used: bytes as u64,
             holds: 0,
+            clearance: 0,
         },
         Merged::Refused(refusal) => IsmAnswer {
             number: refusal.number(),
@@ -23,6 +24,7 @@ fn merged_answer(merged: Merged) -> IsmAnswer
             count: 0,
             used: 0,
             holds: 0,
+            clearance: 0,
         },
     }
 }

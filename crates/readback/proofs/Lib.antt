@@ -14,3 +14,5 @@ pub mod EveryDotRaised
 -- The law of a track of sectors
 pub mod SectorIndexed
 pub mod TrackIndexed
+-- The clearances of its fields
+pub mod SectorClears

@@ -1,3 +1,4 @@
 pub mod SectorReads
 pub mod NoLockInData
 pub mod TrackIndexed
+pub mod SectorClears

@@ -12,6 +12,20 @@ use lib.ListN.{length, getD}
 use Rattle.report.specs.Row.{least, greatest}
 use Rattle.report.specs.Claims.{Spanned}
 
+pub least-of-none : least [] ≡ 0
+unfolding least
+least-of-none = refl
+
+pub least-of-one : (d : ℕ) → least (d ∷ []) ≡ d
+unfolding least
+least-of-one d = refl
+
+-- of the first two the lesser counts
+pub least-of-two : (d e : ℕ) (ds : List ℕ) → least (d ∷ e ∷ ds) ≡ least (min d e ∷ ds)
+unfolding least
+least-of-two d e [] = refl
+least-of-two d e (f ∷ ds) = omega arith
+
 none-below : (ds : List ℕ) (k : ℕ) → k < length ds → least ds ≤ getD ds k 0
 unfolding least
 none-below [] k h = absurd (omega arith)

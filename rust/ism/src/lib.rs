@@ -11,7 +11,8 @@
 //! let mut items = [0; 16];
 //! let read = ism::read(profile, &intervals[..count], &mut items)?;
 //! assert_eq!(items[..2], [ism::MARK_A1, 0xFE]);
-//! assert_eq!(read, 4); // the check order has become two bytes
+//! assert_eq!(read.items, 4); // the check order has become two bytes
+//! assert!(u64::from(read.clearance) >= ism::margin(profile)?); // as it was written
 //! # Ok::<(), ism::Refusal>(())
 //! ```
 
@@ -56,6 +57,23 @@ pub enum Class {
     Wide,
 }
 
+/// What the class operation gives.
+#[derive(Clone, Copy, Debug, PartialEq, Eq)]
+pub struct Classed {
+    pub class: Class,
+    /// half clocks by which the interval could move either way and keep its class; 0 for narrow and wide
+    pub clearance: u32,
+}
+
+/// What the strip reader gives besides the items.
+#[derive(Clone, Copy, Debug, PartialEq, Eq)]
+pub struct Strip {
+    /// items read
+    pub items: usize,
+    /// the least clearance of an interval
+    pub clearance: u32,
+}
+
 /// What the field reader gives besides the items.
 #[derive(Clone, Copy, Debug, PartialEq, Eq)]
 pub struct Field {
@@ -65,6 +83,8 @@ pub struct Field {
     pub used: usize,
     /// whether the CRC register is zero after the items
     pub holds: bool,
+    /// the least clearance of a used interval
+    pub clearance: u32,
 }
 
 /// Track, side, sector and length code of an ID field.
@@ -84,17 +104,18 @@ pub fn margin(profile: Profile) -> Result<u64, Refusal> {
     Ok(accepted(answer)?.count)
 }
 
-/// The class of one interval.
-pub fn classify(profile: Profile, interval: u16) -> Result<Class, Refusal> {
+/// The class of one interval, and how far it is inside its window.
+pub fn classify(profile: Profile, interval: u16) -> Result<Classed, Refusal> {
     // SAFETY: numbers in, numbers out
-    let answer = unsafe { sys::ism_class(profile, interval) };
-    Ok(match accepted(answer)?.count {
+    let answer = accepted(unsafe { sys::ism_class(profile, interval) })?;
+    let class = match answer.count {
         1 => Class::Narrow,
         2 => Class::Two,
         3 => Class::Three,
         4 => Class::Four,
         _ => Class::Wide,
-    })
+    };
+    Ok(Classed { class, clearance: answer.clearance })
 }
 
 /// Writes the intervals of `items` to the front of `out` and gives their count.
@@ -106,14 +127,16 @@ pub fn write(profile: Profile, items: &[u16], out: &mut [u16]) -> Result<usize, 
     Ok(accepted(answer)?.count as usize)
 }
 
-/// Reads the items of a whole stream to the front of `out` and gives their count.
+/// Reads the items of a whole stream to the front of `out` and gives their count, and how near an interval came to an
+/// edge of its window.
 ///
 /// Refusals in order: profile, too many intervals, interval too short or too long, not whole bytes, too many bytes,
 /// misplaced mark, output too short.
-pub fn read(profile: Profile, intervals: &[u16], out: &mut [u16]) -> Result<usize, Refusal> {
+pub fn read(profile: Profile, intervals: &[u16], out: &mut [u16]) -> Result<Strip, Refusal> {
     // SAFETY: each pointer comes with the length of its slice, and slices do not overlap
     let answer = unsafe { sys::ism_read(profile, intervals.as_ptr(), intervals.len(), out.as_mut_ptr(), out.len()) };
-    Ok(accepted(answer)?.count as usize)
+    let answer = accepted(answer)?;
+    Ok(Strip { items: answer.count as usize, clearance: answer.clearance })
 }
 
 /// The first place at which a mark stands behind 64 intervals of class 2, all of them at or after `start`.
@@ -133,7 +156,12 @@ pub fn read_field(profile: Profile, intervals: &[u16], bytes: u64, out: &mut [u1
         sys::ism_read_field(profile, intervals.as_ptr(), intervals.len(), bytes, out.as_mut_ptr(), out.len())
     };
     let answer = accepted(answer)?;
-    Ok(Field { items: answer.count as usize, used: answer.used as usize, holds: answer.holds != 0 })
+    Ok(Field {
+        items: answer.count as usize,
+        used: answer.used as usize,
+        holds: answer.holds != 0,
+        clearance: answer.clearance,
+    })
 }
 
 /// Reads as [`read_field`] does, and gives the rest of `intervals` from the first unused one; on a refusal, all of them.

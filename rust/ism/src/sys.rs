@@ -25,6 +25,7 @@ pub struct Answer {
     pub count: u64,
     pub used: u64,
     pub holds: u32,
+    pub clearance: u32,
 }
 
 /// `ism_report_row`: the intervals of one class

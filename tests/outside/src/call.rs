@@ -8,7 +8,7 @@ use ism::sys::Answer;
 use crate::paper::{self, Refused};
 
 /// The answer of an acceptance that gives nothing.
-pub const ACCEPTED: Answer = Answer { number: 0, place: 0, count: 0, used: 0, holds: 0 };
+pub const ACCEPTED: Answer = Answer { number: 0, place: 0, count: 0, used: 0, holds: 0, clearance: 0 };
 
 /// Cells on each side of the lent output that no call may touch.
 const GUARD: usize = 8;
@@ -52,6 +52,11 @@ impl<O> Expected<O> {
         Expected::answer(Answer { count, ..ACCEPTED })
     }
 
+    pub fn cleared(mut self, clearance: u32) -> Self {
+        self.answer.clearance = clearance;
+        self
+    }
+
     pub fn list(front: Vec<O>) -> Self {
         Expected { answer: Answer { count: front.len() as u64, ..ACCEPTED }, front }
     }
@@ -59,7 +64,7 @@ impl<O> Expected<O> {
 
 impl Expected {
     pub fn field(field: paper::Field) -> Expected {
-        let mut expected = Expected::list(field.items);
+        let mut expected = Expected::list(field.items).cleared(field.clearance);
         expected.answer.used = field.used as u64;
         expected.answer.holds = u32::from(field.holds);
         expected

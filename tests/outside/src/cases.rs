@@ -1,6 +1,7 @@
 //! The groups of cases.
 
 pub mod bit_images;
+pub mod clearances;
 pub mod faults;
 pub mod fields;
 pub mod fifo;

@@ -6,7 +6,7 @@ use std::io::Write;
 use std::process::exit;
 
 use ism::sys::{self, Answer};
-use ism::{Class, Field, Profile, Refusal, SectorId};
+use ism::{Classed, Field, Profile, Refusal, SectorId, Strip};
 
 use crate::call::{Call, Cell, Expected, Reply, ACCEPTED};
 use crate::paper::{self, CellShape, Nine};
@@ -99,15 +99,19 @@ impl Compare {
 
     pub fn class(&mut self, nine: &Nine, interval: u16) {
         let p = profile(nine);
-        let number = |class: Class| 1 + class as usize;
+        let answer =
+            |classed: Classed| Answer { clearance: classed.clearance, ..count_answer(1 + classed.class as usize) };
         let call = Call::<u16> {
             name: "ism_class",
             arguments: format!("profile {nine:?}, interval {interval}"),
             room: 0,
-            paper: &|_| Expected::new(paper::class(nine, interval).map(Expected::count)),
+            paper: &|_| {
+                let given = |number| Expected::count(number).cleared(paper::clearance(nine, interval));
+                Expected::new(paper::class(nine, interval).map(given))
+            },
             // SAFETY: numbers in, numbers out
             interface: &|_, _| unsafe { sys::ism_class(p, interval) },
-            wrapper: Some(&|_, _| from_wrapper(ism::classify(p, interval), |class| count_answer(number(class)))),
+            wrapper: Some(&|_, _| from_wrapper(ism::classify(p, interval), answer)),
         };
         self.run(&[], call);
     }
@@ -130,16 +134,20 @@ impl Compare {
 
     pub fn read(&mut self, nine: &Nine, intervals: &[u16], room: usize) {
         let p = profile(nine);
+        let answer = |strip: Strip| Answer { clearance: strip.clearance, ..count_answer(strip.items) };
         let call = Call {
             name: "ism_read",
             arguments: format!("profile {nine:?}"),
             room,
-            paper: &|intervals| Expected::new(paper::read(nine, intervals, room).map(Expected::list)),
+            paper: &|intervals| {
+                let given = |items| Expected::list(items).cleared(paper::least_clearance(nine, intervals));
+                Expected::new(paper::read(nine, intervals, room).map(given))
+            },
             // SAFETY: each pointer comes with the length of its slice
             interface: &|intervals: &[u16], out| unsafe {
                 sys::ism_read(p, intervals.as_ptr(), intervals.len(), out.as_mut_ptr(), out.len())
             },
-            wrapper: Some(&|intervals, out| from_wrapper(ism::read(p, intervals, out), count_answer)),
+            wrapper: Some(&|intervals, out| from_wrapper(ism::read(p, intervals, out), answer)),
         };
         self.run(intervals, call);
     }
@@ -163,6 +171,7 @@ impl Compare {
         let answer = |field: Field| Answer {
             used: field.used as u64,
             holds: u32::from(field.holds),
+            clearance: field.clearance,
             ..count_answer(field.items)
         };
         let call = Call {

@@ -65,6 +65,11 @@ fn library() {
     compare.group("no stretch: short lists", 0x42, cases::stretch::every_short_list);
     compare.group("no stretch: random lists", 0x43, cases::stretch::random_lists);
     compare.group("no stretch: longest lists", 0x44, cases::stretch::longest);
+    compare.group("clearance: by hand", 0x45, cases::clearances::by_hand);
+    compare.group("clearance: used intervals", 0x46, cases::clearances::used_intervals);
+    compare.group("clearance: changed strips", 0x47, cases::clearances::changed_strips);
+    compare.group("clearance: exactly the margin", 0x48, cases::clearances::exactly_the_margin);
+    compare.group("clearance: changed sectors", 0x49, cases::clearances::changed_sectors);
     compare.group("finder", 0x50, fields::finder);
     compare.group("tracks", 0x51, fields::tracks);
     compare.group("fields", 0x52, fields::fields);

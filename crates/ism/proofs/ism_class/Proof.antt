@@ -1,8 +1,12 @@
--- Why `ism::ism_class` answers as the library does: it hands the arguments over and the answer back. Rests on no axiom.
-use mathlib.Core.Path.{ap, _∙_}
-use Rattle.timing.specs.declared.Profile.{Profile}
+-- Why `ism::ism_class` answers as the library does: it hands the arguments over and the answer back, with the clearance
+-- where the class was given. Rests on no axiom.
+use mathlib.Core.Path.{refl, sym, ap, ap₂, _∙_}
 use Rattle.timing.specs.Class.{classRule}
-use Rattle.ism.specs.Answers.{answerOf}
+use Rattle.timing.specs.declared.Profile.{Profile}
+use Rattle.clearance.specs.Clearance.{clearanceOf}
+use Rattle.ism.specs.Answers.{answerOf, withClearance}
+use Rattle.ism.specs.declared.IsmAnswer.{IsmAnswer}
+use Rattle.ism.proofs.ClearanceLaws.{refused-comes-without, class-accepts-profile}
 use borrow.Author.Needs.{needs}
 use Rattle.ism.proofs.ism_class.Statement.{statement}
 use Rattle.ism.proofs.ism_class.Tie as tie
@@ -18,11 +22,43 @@ answer-requires c κs = search needs
 
 returns : tie.Need-returns
 returns c =
-    c .answer .ensures
-    ∙ ap answerOf (c .before .class-number .ensures)
-    ∙ ap (λ (q : Profile). answerOf (classRule q (c .before .before .before .args .interval)))
-    (c .before .before .profile .ensures)
+    let classed = c .before .before .before in
+    let interval = classed .before .before .args .interval in
+    refused-comes-without _
+    (c .before .before .answer .ensures
+    ∙ ap answerOf
+    (classed .class-number .ensures
+    ∙ ap (λ (q : Profile). classRule q interval) (classed .before .profile .ensures)))
+    (c .if1 .taken)
+    refl
+
+of-interval-requires : tie.Need-of-interval-requires
+of-interval-requires c κs =
+    let same = c .before .before .answer .ensures ∙ ap answerOf (c .before .before .before .class-number .ensures) in
+    class-accepts-profile _ _ (sym (ap (λ (a : IsmAnswer). a .number) same) ∙ c .if1 .left)
+
+with-clearance-requires : tie.Need-with-clearance-requires
+with-clearance-requires c κs = c .before .if1 .left
+
+returns-2 : tie.Need-returns-2
+returns-2 c =
+    let classed = c .before .before .before .before .before in
+    let interval = classed .before .before .args .interval in
+    let same = classed .before .profile .ensures in
+    c .with-clearance .ensures
+    ∙ ap₂ withClearance
+    (c .before .of-interval .ensures ∙ ap (λ (q : Profile). clearanceOf q interval) same)
+    (c .before .before .before .before .answer .ensures
+    ∙ ap answerOf (classed .class-number .ensures ∙ ap (λ (q : Profile). classRule q interval) same))
 
 pub ism-class-spec : {M : Type 1} → statement M
 ism-class-spec =
-    tie.close (tie.spec profile-requires class-number-requires answer-requires returns)
+    tie.close
+    (tie.spec
+    profile-requires
+    class-number-requires
+    answer-requires
+    returns
+    of-interval-requires
+    with-clearance-requires
+    returns-2)

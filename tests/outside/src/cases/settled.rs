@@ -130,7 +130,7 @@ fn check_bytes(items: &[u16]) -> Vec<u16> {
     let mut stream = vec![0; ism::MAX_INTERVALS];
     let count = ism::write(profile, items, &mut stream).expect("a list within the limit");
     let mut read = vec![0; ism::MAX_BYTES];
-    let count = ism::read(profile, &stream[..count], &mut read).expect("the stream of a list");
+    let count = ism::read(profile, &stream[..count], &mut read).expect("the stream of a list").items;
     read.truncate(count);
     read
 }

@@ -45,6 +45,22 @@ pub fn classes(nine: &Nine, intervals: &[u16]) -> String {
     letters.collect()
 }
 
+/// How far an interval is inside its window: the most half clocks by which it could move either way and keep its class;
+/// 0 for narrow and wide.
+pub fn clearance(nine: &Nine, interval: u16) -> u32 {
+    least_clearance(nine, &[interval])
+}
+
+/// The least of these over some intervals: ever longer moves are tried on all of them.
+pub fn least_clearance(nine: &Nine, intervals: &[u16]) -> u32 {
+    let keeps = |interval: &u16, by: i64| {
+        let d = i64::from(*interval);
+        let class = class_letter(nine, d);
+        class != 'n' && class != 'w' && [d - by, d + by].iter().all(|e| class_letter(nine, *e) == class)
+    };
+    (1..).take_while(|by| intervals.iter().all(|d| keeps(d, *by))).count() as u32
+}
+
 /// The class operation; the number given is 1 narrow, 2, 3, 4, 5 wide.
 pub fn class(nine: &Nine, interval: u16) -> Result<u64, Refused> {
     check_profile(nine)?;

@@ -1,6 +1,6 @@
 //! Strip reader, finder and field reader.
 
-use super::{check_profile, class_letter, classes, fit, refuse, Nine, Refused, Register, Written};
+use super::{check_profile, class_letter, classes, fit, least_clearance, refuse, Nine, Refused, Register, Written};
 use super::{MOST_BYTES, MOST_FIELD_BYTES, MOST_INTERVALS};
 
 /// Bits as read, and each mark's gap with the bit at which it starts and the interval that gave it.
@@ -115,6 +115,7 @@ pub struct Field {
     pub items: Vec<u16>,
     pub used: usize,
     pub holds: bool,
+    pub clearance: u32,
 }
 
 /// The field reader.
@@ -139,5 +140,5 @@ pub fn read_field(nine: &Nine, intervals: &[u16], n: u64, room: usize) -> Result
     let mut register = Register::all_ones();
     written.iter().for_each(|w| register.pass(*w));
     let items = fit(items_of(&written), room)?;
-    Ok(Field { items, used, holds: register.value() == 0 })
+    Ok(Field { items, used, holds: register.value() == 0, clearance: least_clearance(nine, &intervals[..used]) })
 }

@@ -19,7 +19,8 @@ number-of-yes true = refl
 number-of-yes false = refl
 
 abbrev fieldGiven : ℕ → ℕ → ℕ → IsmAnswer
-fieldGiven count used holds = record { number = 0; place = 0; count = count; used = used; holds = holds }
+fieldGiven count used holds =
+    record { number = 0; place = 0; count = count; used = used; holds = holds; clearance = 0 }
 
 enum-known-read : tie.Need-enum-known-read
 enum-known-read c = search needs

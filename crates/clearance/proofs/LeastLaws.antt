@@ -1,0 +1,80 @@
+-- The clearances of a list, one for each step of the cursor, and the least of them: what it is no more than, and that
+-- it is one of them. Rests on no axiom.
+use Prim.Native.Nat.{ℕ, zero, suc, _≤_, _<_}
+use mathlib.Core.Path.{_≡_, refl, sym, ap, subst, _∙_}
+use mathlib.Core.List.{List, [], _∷_}
+use native.Mathlib.Omega.{arith}
+use lib.ListN.{length, getD, take, drop}
+use lib.Seq.{drop-cons}
+use Rattle.timing.specs.Class.{cursorPast, cursorAfter}
+use Rattle.timing.specs.declared.cursor.Cursor.{Cursor}
+use Rattle.report.specs.Row.{least}
+use Rattle.report.proofs.SpanLaws.{least-of-none, spanned}
+use Rattle.clearance.specs.Clearance.{clearanceIn, clearancesFrom, leastFrom}
+
+pub clearances-none : (c : Cursor) → clearancesFrom c [] ≡ []
+unfolding clearancesFrom
+clearances-none c = refl
+
+clearances-cons
+    : (c : Cursor) (d : ℕ) (ds : List ℕ)
+    → clearancesFrom c (d ∷ ds) ≡ clearanceIn c d ∷ clearancesFrom (cursorPast c d) ds
+unfolding clearancesFrom
+clearances-cons c d ds = refl
+
+-- the turn of a loop over a list: the interval at a place, and those after it
+pub clearances-here
+    : (c : Cursor) (ds : List ℕ) (k : ℕ)
+    → k < length ds
+    → clearancesFrom c (drop k ds)
+    ≡ clearanceIn c (getD ds k 0) ∷ clearancesFrom (cursorPast c (getD ds k 0)) (drop (suc k) ds)
+clearances-here c ds k h =
+    ap (clearancesFrom c) (drop-cons ds k 0 h) ∙ clearances-cons c (getD ds k 0) (drop (suc k) ds)
+
+pub clearances-count : (c : Cursor) (ds : List ℕ) → length (clearancesFrom c ds) ≡ length ds
+unfolding clearancesFrom
+clearances-count c [] = refl
+clearances-count c (d ∷ ds) = ap suc (clearances-count (cursorPast c d) ds)
+
+pub clearance-at
+    : (c : Cursor) (ds : List ℕ) (k : ℕ)
+    → k < length ds
+    → getD (clearancesFrom c ds) k 0 ≡ clearanceIn (cursorAfter c (take k ds)) (getD ds k 0)
+unfolding clearancesFrom cursorAfter
+clearance-at c [] k h = absurd (omega arith)
+clearance-at c (d ∷ ds) zero h = refl
+clearance-at c (d ∷ ds) (suc k) h = clearance-at (cursorPast c d) ds k (omega arith)
+
+-- ---- the least
+
+pub least-from-none : (c : Cursor) (ds : List ℕ) → length ds ≡ 0 → leastFrom c ds ≡ 0
+unfolding leastFrom
+least-from-none c [] h = ap least (clearances-none c) ∙ least-of-none
+least-from-none c (d ∷ ds) h = absurd (omega arith)
+
+module _ (c : Cursor) (ds : List ℕ) where
+  pub least-is-no-more
+      : (k : ℕ) → k < length ds → leastFrom c ds ≤ clearanceIn (cursorAfter c (take k ds)) (getD ds k 0)
+  unfolding leastFrom
+  least-is-no-more k h =
+      let there : k < length (clearancesFrom c ds) = rw clearances-count h in
+      rw (clearance-at c ds k h) at (spanned (clearancesFrom c ds) .none-below k there)
+
+  pub least-is-of-one
+      : 0 < length ds
+      → (k : ℕ) × (k < length ds) × (clearanceIn (cursorAfter c (take k ds)) (getD ds k 0) ≡ leastFrom c ds)
+  unfolding leastFrom
+  least-is-of-one some =
+      let (k, there, same) = spanned (clearancesFrom c ds) .low-is-there (rw clearances-count some) in
+      let h : k < length ds = rw clearances-count at there in
+      (k, h, sym (clearance-at c ds k h) ∙ same)
+
+  -- what each interval has, the least has
+  pub least-is-at-least
+      : (e : ℕ)
+      → 0 < length ds
+      → ((k : ℕ) → k < length ds → e ≤ clearanceIn (cursorAfter c (take k ds)) (getD ds k 0))
+      → e ≤ leastFrom c ds
+  least-is-at-least e some each =
+      let (k, h, same) = least-is-of-one some in
+      subst (λ (x : ℕ). e ≤ x) same (each k h)

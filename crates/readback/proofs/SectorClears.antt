@@ -1,0 +1,98 @@
+-- Why a made sector's fields are clear: each interval of its stream is, those of a field are among them, and a field
+-- that reads uses some. Rests on no axiom.
+use Prim.Native.Nat.{ℕ, _+_, _-_, _≤_, _<_}
+use mathlib.Core.Path.{_≡_, ap, subst}
+use mathlib.Core.List.{List}
+use native.Mathlib.Omega.{arith}
+use native.Mathlib.Nat.{le-refl}
+use lib.ListN.{length, getD, take, drop, length-drop}
+use lib.Seq.{length-take-le, getD-take, getD-drop}
+use Rattle.timing.specs.Class.{classesOf}
+use Rattle.timing.specs.declared.Profile.{Profile}
+use Rattle.clearance.specs.Clearance.{clearanceOf}
+use Rattle.clearance.proofs.AloneLaws.{least-is-what-each-has}
+use Rattle.lengths.specs.Stream.{streamOf}
+use Rattle.fields.specs.Field.{fieldUsed}
+use Rattle.fields.specs.FieldRule.{FieldAnswer, fieldReading}
+use Rattle.fields.proofs.ReaderLaws.{used-is-within}
+use Rattle.sectors.specs.Sector.{sectorSize, sectorItems}
+use Rattle.demands.specs.Streams.{AcceptedProfile, Moved}
+use Rattle.demands.specs.Demand3.{stated}
+use Rattle.demands.proofs.HowNear.{each-is-clear, within-the-margin, unmoved}
+use Rattle.demands.proofs.UsedLaws.{field-has-intervals}
+use Rattle.readback.specs.SectorReads.{ReadsField, Made, idPlace, dataPlace}
+use Rattle.readback.specs.SectorClears.{fieldClearance, SectorClears, MadeSectorsClear}
+use Rattle.readback.proofs.SectorReads.{made-sectors-read-back}
+
+-- a field that reads, at a place of a list whose intervals all have so much
+module _
+    (p : Profile) (ds : List ℕ) (e : ℕ)
+    (each : (k : ℕ) → k < length ds → e ≤ clearanceOf p (getD ds k 0))
+    (place n : ℕ) (items : List ℕ)
+    (reads : ReadsField p (drop place ds) n items)
+  where
+    used : ℕ
+    used = fieldUsed (classesOf p (drop place ds)) n
+
+    answer : fieldReading p (drop place ds) n n .used ≡ used
+    unfolding used
+    answer = ap (λ (a : FieldAnswer). a .used) (reads .answer n (le-refl n))
+
+    uses-some : 0 < used
+    uses-some =
+        let accepts = ap (λ (a : FieldAnswer). a .answer .number) (reads .answer n (le-refl n)) in
+        subst (λ (k : ℕ). 0 < k) answer (field-has-intervals p (drop place ds) n n accepts)
+
+    within : used ≤ length (drop place ds)
+    within = subst (λ (k : ℕ). k ≤ length (drop place ds)) answer (used-is-within p (drop place ds) n n)
+
+    abbrev front : List ℕ
+    front = take used (drop place ds)
+
+    front-length : length front ≡ used
+    front-length = length-take-le used (drop place ds) within
+
+    front-is-clear : (k : ℕ) → k < length front → e ≤ clearanceOf p (getD front k 0)
+    front-is-clear k h =
+        let below : k < used = subst (λ (m : ℕ). k < m) front-length h in
+        let most : used ≤ length ds - place = subst (λ (m : ℕ). used ≤ m) (length-drop place ds) within in
+        rw (getD-take used (drop place ds) k 0 below, getD-drop place ds k 0) (each (place + k) (omega arith))
+
+    pub field-is-clear : e ≤ fieldClearance p (drop place ds) n
+    unfolding used
+    field-is-clear = least-is-what-each-has p front e (rw front-length uses-some) front-is-clear
+
+module _ (track side sector code : ℕ) (bytes : List ℕ) (made : Made track side sector code bytes)
+    (p : Profile) (accepts : AcceptedProfile p)
+  where
+    abbrev stream : List ℕ
+    stream = streamOf p (sectorItems track side sector code bytes)
+
+    changed-sector
+        : (c : ℕ)
+        → c ≤ stated p
+        → (changed : List ℕ)
+        → Moved c stream changed
+        → SectorClears track side sector code bytes p changed (stated p - c)
+    changed-sector c few changed moved =
+        let items = sectorItems track side sector code bytes in
+        let each = each-is-clear p accepts items c few changed moved in
+        let near = within-the-margin p accepts items c few changed moved in
+        let read = made-sectors-read-back track side sector code bytes made p accepts changed near in
+        record {
+          id-clear = field-is-clear p changed _ each idPlace 10 _ (read .id-reads);
+          data-clear =
+              field-is-clear p changed _ each (dataPlace track side sector code bytes) (sectorSize code + 6) _
+              (read .data-reads);
+        }
+
+    written-sector : SectorClears track side sector code bytes p stream (stated p)
+    written-sector =
+        let items = sectorItems track side sector code bytes in
+        let sector = changed-sector 0 (omega arith) stream (unmoved p accepts items) in
+        let id = sector .id-clear in
+        let data-field = sector .data-clear in
+        record { id-clear = omega arith; data-clear = omega arith }
+
+pub made-sectors-clear : MadeSectorsClear
+made-sectors-clear = record { changed-sector = changed-sector; written-sector = written-sector }
