@@ -1,4 +1,4 @@
-pub mod ScanLaws
-pub mod InkLaws
+pub mod PenLaws
+pub mod TrackLaws
 pub mod WriterLaws
 pub mod ReaderLaws

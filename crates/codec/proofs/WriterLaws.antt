@@ -1,57 +1,24 @@
 -- The writer's answers by its tests: where profile and list are accepted, the stream of the written bytes and the
 -- room decide. Rests on no axiom.
-use Prim.Native.Nat.{ℕ, _+_}
+use Prim.Native.Nat.{ℕ}
 use mathlib.Core.Path.{_≡_, refl, sym, ap, _∙_}
 use mathlib.Core.Bool.{true, false}
-use mathlib.Core.List.{List, [], _∷_, _++_}
+use mathlib.Core.List.{List}
 use lib.Dec.{leb}
-use native.Mathlib.Omega.{arith}
-use lib.ListN.{length, length-append}
+use lib.ListN.{length}
 use borrow.Author.Tests.{lt-ltb, le-ltb, leb-true, leb-false}
 use Rattle.lists.specs.Filled.{storedAt}
-use Rattle.lists.proofs.StoreLaws.{stored-after-stored, stored-length, stored-at-front-fills}
+use Rattle.lists.proofs.StoreLaws.{stored-at-front-fills}
 use Rattle.refusal.specs.Answer.{Answer, accepted, refused, settled}
 use Rattle.refusal.proofs.AnswerLaws.{first-refusal-passes}
 use Rattle.items.specs.Written.{written}
 use Rattle.items.specs.Rule.{listRule}
-use Rattle.symbols.specs.Bits.{O, allBits}
 use Rattle.symbols.specs.Cells.{writtenCells}
 use Rattle.timing.specs.Profile.{profileRule}
 use Rattle.timing.specs.declared.Profile.{Profile}
-use Rattle.lengths.specs.Pen.{inked, penAfter, freshPen}
 use Rattle.lengths.specs.Stream.{byteStream, streamOf}
-use Rattle.lengths.specs.declared.pen.Pen.{Pen}
-use Rattle.lengths.proofs.PenLaws.{pen-gives-the-stream, inked-append}
-use Rattle.lengths.proofs.StreamLaws.{stream-has-cells}
+use Rattle.lengths.proofs.StreamLaws.{stream-is-as-long-as-its-cells}
 use Rattle.codec.specs.Writer.{streamRule, writeRule, writeOutput}
-
--- the bytes' bits and then the closing 0s are the stream
-module _ (p : Profile) (ws : List ℕ) (pen : Pen) (at : ℕ) (pens : pen ≡ penAfter p (freshPen p) (allBits ws))
-    (places : at ≡ 0 + length (inked p (freshPen p) (allBits ws))) where
-  both-parts
-      : inked p (freshPen p) (allBits ws) ++ inked p pen (O ∷ O ∷ O ∷ []) ≡ byteStream p ws
-  both-parts =
-      ap (λ (q : Pen). inked p (freshPen p) (allBits ws) ++ inked p q (O ∷ O ∷ O ∷ [])) pens
-      ∙ sym (inked-append p (freshPen p) (allBits ws) (O ∷ O ∷ O ∷ []))
-      ∙ pen-gives-the-stream p ws
-
-  pub length-in-two-parts : at + length (inked p pen (O ∷ O ∷ O ∷ [])) ≡ length (byteStream p ws)
-  length-in-two-parts =
-      let front = inked p (freshPen p) (allBits ws) in
-      let closing = inked p pen (O ∷ O ∷ O ∷ []) in
-      let sum : at + length closing ≡ length front + length closing = omega arith in
-      sum ∙ sym (length-append front closing) ∙ ap length both-parts
-
-  pub stream-in-two-parts
-      : (old middle : List ℕ)
-      → middle ≡ storedAt old 0 (inked p (freshPen p) (allBits ws))
-      → storedAt middle at (inked p pen (O ∷ O ∷ O ∷ [])) ≡ storedAt old 0 (byteStream p ws)
-  stream-in-two-parts old middle stores =
-      let front = inked p (freshPen p) (allBits ws) in
-      let closing = inked p pen (O ∷ O ∷ O ∷ []) in
-      ap (λ (l : List ℕ). storedAt l at closing) stores
-      ∙ stored-after-stored front closing old 0 at places
-      ∙ ap (storedAt old 0) both-parts
 
 -- the room decides
 module _ (p : Profile) (ws old : List ℕ) where
@@ -61,7 +28,7 @@ module _ (p : Profile) (ws old : List ℕ) where
       × (old ≡ settled (streamRule p ws (length old)) (byteStream p ws) old)
   unfolding streamRule
   too-short e =
-      let h = leb-false (length (byteStream p ws)) (length old) (rw (stream-has-cells p ws) e) in
+      let h = leb-false (length (byteStream p ws)) (length old) (rw (stream-is-as-long-as-its-cells p ws) e) in
       rw (lt-ltb (length old) (length (byteStream p ws)) h) (refl, refl)
 
   pub long-enough
@@ -73,7 +40,7 @@ module _ (p : Profile) (ws old : List ℕ) where
       × (stored ≡ settled (streamRule p ws (length old)) (byteStream p ws) old)
   unfolding streamRule
   long-enough e count stored counted stores =
-      let h = leb-true (length (byteStream p ws)) (length old) (rw (stream-has-cells p ws) e) in
+      let h = leb-true (length (byteStream p ws)) (length old) (rw (stream-is-as-long-as-its-cells p ws) e) in
       rw (le-ltb (length old) (length (byteStream p ws)) h)
       (ap accepted counted, stores ∙ stored-at-front-fills (byteStream p ws) old h)
 

@@ -1,4 +1,3 @@
 pub mod Writer
 pub mod Reader
-pub mod Scan
-pub mod Output
+pub mod machine

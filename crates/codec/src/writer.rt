@@ -1,22 +1,22 @@
 // The writer: the list is checked whole before the first interval is stored.
-ghost use Prim.Native.Nat.{_≤_, _<_};
+ghost use Prim.Native.Nat.{_≤_};
 ghost use mathlib.Core.Path.{_≡_};
 ghost use lib.Dec.{leb};
 ghost use lib.ListN.{length};
 ghost use Rattle.lists.specs.Filled.{storedAt};
 ghost use Rattle.refusal.specs.Answer.{countedAnswer};
 ghost use Rattle.items.specs.Item.{writtenBytes};
-ghost use Rattle.items.specs.Written.{afterBytes, writtenFrom, written};
-ghost use Rattle.symbols.specs.Bits.{allBits};
+ghost use Rattle.items.specs.Written.{afterItem, itemBytes, written};
 ghost use Rattle.symbols.specs.Cells.{writtenCells};
 ghost use Rattle.timing.specs.Profile.{profileRule};
-ghost use Rattle.lengths.specs.Pen.{Steady};
 ghost use Rattle.items.specs.Rule.{listRule};
 ghost use Rattle.lengths.specs.Stream.{byteStream};
-ghost use Rattle.codec.specs.Output.{freshTrack, Inks};
+ghost use Rattle.codec.specs.machine.Pen.{Room};
+ghost use Rattle.codec.specs.machine.Track.{writing, wrote, freshTrack};
 ghost use Rattle.codec.specs.Writer.{writeRule, writeOutput};
 use crate::track::Track;
 use crate::track::fresh_track;
+use crate::track::write_byte;
 use crate::track::write_bytes;
 use crate::track::write_closing;
 use items::Check;
@@ -31,65 +31,85 @@ pub struct Part {
     pub check: Check,
 }
 
-// The bits of at most 64 items. Their bytes are made first, so that the register and the pen have a loop each.
-fn write_part(p: Profile, start: Part, items: &[u16], out: &mut [u16]) -> Part
-    requires { ⌜ Steady p (start .track .pen) ⌝ }
-    requires { ⌜ (start .track .at < 60000) × (length (now items) ≤ 64) ⌝ }
-    ensures check { λ r. ⌜ r .check ≡ afterBytes (start .check) (writtenFrom (start .check) (now (items .entry))) ⌝ }
+fn write_item(table: &[u16; 64], start: Part, item: u16, out: &mut [u16]) -> Part
+    requires { ⌜ Room (start .track .pen) 2 ⌝ }
+    ensures check { λ r. ⌜ r .check ≡ afterItem (start .check) item ⌝ }
     ensures track { λ r. ⌜
-        Inks p (start .track) (allBits (writtenFrom (start .check) (now (items .entry))))
-        (now (out .entry)) (r .track) (now (out .exit)) ⌝ }
+        writing (r .track) (now (out .exit))
+        ≡ wrote (now (table .entry)) (writing (start .track) (now (out .entry))) (itemBytes (start .check) item) ⌝ }
 {
-    let mut bytes = [0u16; 128];
-    let stored = items::write_bytes(start.check, items, &mut bytes);
-    let n = stored.count;
-    let check = stored.check;
-    let track = write_bytes(p, start.track, &bytes[..n], out);
-    Part { track, check }
+    let check = start.check.after_item(item);
+    if items::is_check(item) {
+        let high = write_byte(table, start.track, start.check.high(), out);
+        let low = write_byte(table, high, start.check.low(), out);
+        return Part { track: low, check };
+    }
+    Part {
+        track: write_byte(table, start.track, item, out),
+        check,
+    }
 }
 
-// The bits of a list's written bytes, from the front of the output on.
-fn write_items(p: Profile, items: &[u16], out: &mut [u16]) -> Track
-    requires { ⌜ profileRule p .number ≡ 0 ⌝ }
-    requires { ⌜ writtenBytes (now items) ≤ 6400 ⌝ }
-    ensures { λ r. ⌜
-        Inks p (freshTrack p) (allBits (written (now (items .entry)))) (now (out .entry)) r (now (out .exit)) ⌝ }
+// Item by item, so that a check order finds the register as it is then.
+fn write_each(table: &[u16; 64], items: &[u16], out: &mut [u16]) -> Track
+    requires { ⌜ length (now items) ≤ 6400 ⌝ }
+    ensures room { λ r. ⌜ Room (r .pen) 1 ⌝ }
+    ensures track { λ r. ⌜
+        writing r (now (out .exit))
+        ≡ wrote (now (table .entry)) (writing freshTrack (now (out .entry))) (written (now (items .entry))) ⌝ }
 {
     let mut part = Part {
-        track: fresh_track(p),
+        track: fresh_track(),
         check: Check::fresh(),
     };
     let mut k: usize = 0;
     while k < items.len() {
-        let end = items::part_end(k, items.len());
-        part = write_part(p, part, &items[k..end], out);
-        k = end;
+        part = write_item(table, part, items[k], out);
+        k += 1;
     }
     part.track
 }
 
+// The cells of a list's written bytes, from the front of the output on. A list with no check order is its own bytes,
+// and needs no register.
+fn write_items(table: &[u16; 64], items: &[u16], bytes: usize, out: &mut [u16]) -> Track
+    requires { ⌜ (bytes ≡ writtenBytes (now items)) × (length (now items) ≤ 6400) ⌝ }
+    ensures room { λ r. ⌜ Room (r .pen) 1 ⌝ }
+    ensures track { λ r. ⌜
+        writing r (now (out .exit))
+        ≡ wrote (now (table .entry)) (writing freshTrack (now (out .entry))) (written (now (items .entry))) ⌝ }
+{
+    if bytes == items.len() {
+        return write_bytes(table, fresh_track(), items, out);
+    }
+    write_each(table, items, out)
+}
+
 // The stream of a list. Answers its length.
-fn write_stream(p: Profile, items: &[u16], out: &mut [u16]) -> usize
+fn write_stream(p: Profile, items: &[u16], bytes: usize, out: &mut [u16]) -> usize
     requires { ⌜ profileRule p .number ≡ 0 ⌝ }
-    requires { ⌜ writtenBytes (now items) ≤ 6400 ⌝ }
+    requires { ⌜ listRule (now items) .number ≡ 0 ⌝ }
+    requires { ⌜ bytes ≡ writtenBytes (now items) ⌝ }
     ensures length { λ r. ⌜ r ≡ length (byteStream p (written (now (items .entry)))) ⌝ }
     ensures output { λ _. ⌜
         now (out .exit) ≡ storedAt (now (out .entry)) 0 (byteStream p (written (now (items .entry)))) ⌝ }
 {
-    let track = write_items(p, items, out);
-    write_closing(p, track, out)
+    let table = lengths::length_table(p);
+    let track = write_items(&table, items, bytes, out);
+    write_closing(&table, track, out)
 }
 
 // Whether an accepted list's stream has room in an output of so many places. A byte ends eight cells at most and the
 // closing 0s two: only where there is less room they are counted.
-fn has_room(items: &[u16], room: usize) -> bool
+fn has_room(items: &[u16], bytes: usize, room: usize) -> bool
     requires { ⌜ listRule (now items) .number ≡ 0 ⌝ }
+    requires { ⌜ bytes ≡ writtenBytes (now items) ⌝ }
     ensures { λ r. ⌜ r ≡ leb (length (writtenCells (written (now (items .entry))))) room ⌝ }
 {
-    if 8 * items::written_bytes(items) + 2 <= room {
+    if 8 * bytes + 2 <= room {
         return true;
     }
-    images::count_cells(items) <= room
+    images::count_cells(items, bytes) <= room
 }
 
 // An accepted list under an accepted profile: 9, or its stream.
@@ -99,8 +119,9 @@ fn write_list(p: Profile, items: &[u16], out: &mut [u16]) -> Counted
     ensures answer { λ r. ⌜ countedAnswer r ≡ writeRule p (now (items .entry)) (length (now (out .entry))) ⌝ }
     ensures output { λ _. ⌜ now (out .exit) ≡ writeOutput p (now (items .entry)) (now (out .entry)) ⌝ }
 {
-    if has_room(items, out.len()) {
-        let count = write_stream(p, items, out);
+    let bytes = items::written_bytes(items);
+    if has_room(items, bytes, out.len()) {
+        let count = write_stream(p, items, bytes, out);
         return Counted::Count(count);
     }
     Counted::Refused(Refusal::OutputTooShort)

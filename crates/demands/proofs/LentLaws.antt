@@ -1,6 +1,6 @@
 -- What becomes of every lent output: it is settled by the rule's answer, and a rule that accepts has found room for the
 -- result, whose length it counts. Rests on no axiom.
-use Prim.Native.Nat.{ℕ, _≤_}
+use Prim.Native.Nat.{ℕ}
 use mathlib.Core.Path.{ap, sym, _∙_}
 use mathlib.Core.List.{List}
 use lib.Dec.{ltb}
@@ -22,7 +22,6 @@ use Rattle.fields.proofs.FieldLaws.{field-items-count}
 use Rattle.sectors.specs.Sector.{isMisfit, sectorItems, sectorRule, sectorOutput}
 use Rattle.demands.specs.Order.{Lent}
 use Rattle.demands.proofs.OrderLaws.{settled-is-lent}
-use mathlib.Mathlib.Data.Bool.Basic.{or-eq-false-eq-eq-false-and-eq-false}
 use Rattle.demands.proofs.ReadLaws.{passed-of-accepted, accepted-of-passed}
 
 pub writer-output
@@ -65,8 +64,7 @@ field-output p ds n old =
     let after-8 = first-refusal-accepts (gatherRule cs n) _ (after-12 .1) in
     let after-11 = first-refusal-accepts (fieldStop cs n) _ (after-8 .0) in
     let after-9 = refuse-if-accepts (ltb room n) 8 0 (accepted n) (after-8 .1) in
-    let few : n ≤ 1030 = ltb-false 1030 n (or-eq-false-eq-eq-false-and-eq-false (ltb n 1) (ltb 1030 n) .0 (after-12 .0) .1) in
-    let items = field-items-count cs n (after-11 .0) few in
+    let items = field-items-count cs n (after-11 .0) in
     let count =
     first-refusal-passes (profileRule p) _ (after-2 .0)
     ∙ refuse-if-passes (outside 1 1030 n) 12 0 _ (after-12 .0)

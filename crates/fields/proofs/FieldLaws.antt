@@ -15,13 +15,8 @@ use Rattle.symbols.specs.Bits.{Bit, O}
 use Rattle.symbols.specs.Bytes.{itemOf, rowsOf, straysOf, isGap, itemsRead, straysRead}
 use Rattle.symbols.specs.Reading.{readBits, sources}
 use Rattle.symbols.specs.Strip.{isStray, strayPlace}
-use Rattle.symbols.specs.Machine.{freshReading}
-use Rattle.symbols.specs.Step.{ran}
 use Rattle.symbols.proofs.PlaceLaws.{rows-append, rows-of-few}
-use Rattle.symbols.proofs.UnitLaws.{cells-at-most-bits}
-use Rattle.symbols.proofs.ReadsLaws.{reads-fresh}
-use Rattle.symbols.proofs.AnswerLaws.{reads-rows, reads-items-count}
-use Rattle.symbols.proofs.RunLaws.{reads-ran}
+use Rattle.symbols.proofs.AnswerLaws.{items-count}
 use Rattle.fields.specs.Field.{bitsWanted, fieldStop, fieldCells, fieldUsed, fieldBits}
 use Rattle.fields.specs.Field.{fieldItems, fieldStray, fieldStrayPlace}
 use Rattle.fields.proofs.EnoughLaws.{Enough, used-give-enough, fewer-give-less}
@@ -79,17 +74,11 @@ module _ (cs : List Class) (n : ℕ) (whole : fieldStop cs n .number ≡ 0) wher
       ap (λ (l : List Bool). getD (sources (fieldCells cs n)) (lowest passed l) 0) (dropped .strays)
 
   -- n items
-  pub field-items-count : n ≤ 1030 → length (fieldItems cs n) ≡ n
-  unfolding readBits
-  field-items-count h =
-      let cells = fieldCells cs n in
+  pub field-items-count : length (fieldItems cs n) ≡ n
+  field-items-count =
       let enough = field-bits-enough .enough in
       let one-over = field-bits-enough .one-over in
-      let few = cells-at-most-bits O cells in
-      let reads = reads-ran freshReading [] cells reads-fresh (omega arith) in
-      let rows = reads-rows (ran freshReading 0 cells) cells reads in
-      let count = reads-items-count (ran freshReading 0 cells) cells reads in
-      ap length field-items-of-cells ∙ count ∙ omega arith
+      ap length field-items-of-cells ∙ items-count (readBits (fieldCells cs n)) ∙ omega arith
 
 -- the intervals used are the least number whose bits are the lead and n bytes or more
 pub field-uses-fewest

@@ -13,8 +13,7 @@ use Rattle.timing.specs.declared.Class.the-variants.{Narrow, Wide}
 use Rattle.symbols.specs.Bits.{Bit, O, lastOf}
 use Rattle.symbols.specs.Reading.{given, lastAfter, readBits}
 use Rattle.symbols.specs.declared.Cell.{Cell}
-use Rattle.symbols.proofs.CellLaws.{last-append, last-of-more}
-use Rattle.symbols.proofs.MachineLaws.{bits-grown}
+use Rattle.symbols.proofs.CellLaws.{last-append, last-of-more, bits-grown}
 use Rattle.intervals.proofs.CellLaws.{ReadAs}
 use Rattle.fields.specs.Field.{wantedAfter, bitsWanted, cellsTaken, stopFrom, fieldStop, fieldCells}
 use Rattle.fields.proofs.TakenLaws.{read-none, taken-one-more, stop-one-more, taken-none, stop-none}

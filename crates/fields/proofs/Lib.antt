@@ -7,6 +7,7 @@ pub mod EnoughLaws
 pub mod FieldLaws
 pub mod AgreeLaws
 pub mod FrontLaws
+pub mod FieldPassLaws
 pub mod RuleLaws
 pub mod ReaderLaws
 pub mod FirstLockLaws

@@ -53,8 +53,10 @@ module _ (p : Profile) (ds : List ℕ) (n : ℕ) (old : List ℕ) where
     unfolding fieldReading fieldOutput fieldRule checkedReading checkedOutput
     checked-settles h = (rw (← fair, h), rw (← fair, h))
 
-pub count-in-range : (n : ℕ) → outside 1 1030 n ≡ false → n ≤ 1030
-count-in-range n h = ltb-false 1030 n (or-eq-false-eq-eq-false-and-eq-false (ltb n 1) (ltb 1030 n) .0 h .1)
+pub count-in-range : (n : ℕ) → outside 1 1030 n ≡ false → (1 ≤ n) × (n ≤ 1030)
+count-in-range n h =
+    let both = or-eq-false-eq-eq-false-and-eq-false (ltb n 1) (ltb 1030 n) .0 h in
+    (ltb-false n 1 (both .0), ltb-false 1030 n (both .1))
 
 -- ---- the used intervals are in the list
 

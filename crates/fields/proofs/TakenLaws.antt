@@ -1,6 +1,6 @@
--- Laws of the intervals that a field uses: what follows them is not looked at, and each gives a bit, so that no more
--- are used than bits are wanted. By induction on the classes. Rests on no axiom.
-use Prim.Native.Nat.{ℕ, zero, suc, _≤_}
+-- Laws of the intervals that a field uses: what follows them is not looked at. By induction on the classes. Rests on no
+-- axiom.
+use Prim.Native.Nat.{ℕ, zero, suc}
 use mathlib.Core.Path.{_≡_, refl, sym, ap, _∙_}
 use mathlib.Core.List.{List, [], _∷_, _++_}
 use native.Mathlib.Omega.{arith}
@@ -10,7 +10,6 @@ use Rattle.timing.specs.declared.Class.{Class}
 use Rattle.symbols.specs.Bits.{Bit}
 use Rattle.symbols.specs.Reading.{given, lastAfter, readFrom}
 use Rattle.symbols.specs.declared.Cell.{Cell}
-use Rattle.symbols.proofs.UnitLaws.{given-at-least-one}
 use Rattle.intervals.proofs.CellLaws.{ReadAs, by-each-class, by-class-read}
 use Rattle.fields.specs.Field.{wantedAfter, cellsTaken, stopFrom}
 
@@ -98,23 +97,3 @@ module _ (xs : List Class) where
       (λ f. absurd (omega arith))
       c
       e
-
--- ---- each interval gives a bit, so no more intervals than bits are used
-
-pub front-decides : (cs : List Class) (k j want : ℕ) (b : Bit) → want ≤ j → SameFront cs (take j cs) k want b
-unfolding cellsTaken stopFrom
-front-decides [] k j zero b h = none-wanted [] _ k b
-front-decides [] k zero (suc want) b h = absurd (omega arith)
-front-decides [] k (suc j) (suc want) b h = record { cells = refl; stop = refl }
-front-decides (c ∷ cs) k j zero b h = none-wanted (c ∷ cs) _ k b
-front-decides (c ∷ cs) k zero (suc want) b h = absurd (omega arith)
-front-decides (c ∷ cs) k (suc j) (suc want) b h =
-    by-each-class
-    (λ (d : Class). SameFront (d ∷ cs) (d ∷ take j cs) k (suc want) b)
-    (record { cells = refl; stop = refl })
-    (λ d x read.
-    let one = given-at-least-one b x in
-    front-grows read cs (take j cs) k want b
-    (front-decides cs (suc k) j (wantedAfter (suc want) b x) (lastAfter b x) (omega arith)))
-    (record { cells = refl; stop = refl })
-    c

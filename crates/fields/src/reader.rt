@@ -1,25 +1,29 @@
 // Document 01, "Finding and reading a field": the field reader.
-ghost use Prim.Native.Nat.{_+_, _*_, _≤_};
+ghost use Prim.Native.Nat.{_≤_};
 ghost use mathlib.Core.Path.{_≡_};
-ghost use lib.ListN.{length, take};
+ghost use lib.ListN.{length};
 ghost use Rattle.lists.specs.Filled.{filled};
 ghost use Rattle.refusal.specs.Answer.{countedAnswer};
+ghost use Rattle.timing.specs.Profile.{profileRule};
 ghost use Rattle.timing.specs.Class.{classesOf};
 ghost use Rattle.fields.specs.Field.{holdsAfter};
 ghost use Rattle.fields.specs.FieldRule.{gatherRule, GathersItems, deliverReading, deliverOutput, fieldAnswer};
 ghost use Rattle.fields.specs.FieldRule.{checkedReading, checkedOutput, fieldReading, fieldOutput};
 ghost use Rattle.fields.specs.FieldRule.{fieldRest, restPlace};
-use intervals::Taken;
+use intervals::Pass;
+use intervals::last_place;
+use intervals::pass_over;
 use items::Check;
 use refusal::Counted;
 use refusal::Refusal;
 use refusal::Verdict;
-use symbols::Reading;
-use timing::Cursor;
 use timing::Profile;
 
 // The most bytes of a field: a sector of 1,024, its marks and its check bytes.
 const MAX_FIELD_BYTES: usize = 1030;
+
+// As many as an ID field has, and more.
+const SHORT_FIELD_BYTES: usize = 16;
 
 // What a field reads as: how many items, how many intervals they used, and whether the register is zero after them.
 pub enum FieldRead {
@@ -31,48 +35,29 @@ pub enum FieldRead {
     Refused(Refusal),
 }
 
-// At most so many intervals from the front.
-fn front(intervals: &[u16], most: usize) -> &[u16]
-    ensures { λ r. ⌜ now r ≡ take most (now (intervals .entry)) ⌝ }
-{
-    if intervals.len() <= most {
-        return intervals;
-    }
-    &intervals[..most]
-}
-
-// One pass over the intervals of n bytes; each gives a bit at least, so 1,030 bytes use 8,241 at most. The items that
-// have room are stored from the front on. Answers how many intervals were used.
+// One pass over the intervals of n bytes, whose items are stored from the front on where they have room. Answers how
+// many intervals were used.
 fn gather(p: Profile, intervals: &[u16], n: u32, out: &mut [u16]) -> Counted
-    requires { ⌜ (length (now intervals) ≤ 8241) × (n ≤ 1030) ⌝ }
+    requires { ⌜ profileRule p .number ≡ 0 ⌝ }
+    requires { ⌜ (1 ≤ n) × (n ≤ 1030) ⌝ }
     ensures answer { λ r. ⌜ countedAnswer r ≡ gatherRule (classesOf p (now (intervals .entry))) n ⌝ }
     ensures fill { λ _. ⌜ GathersItems (classesOf p (now (intervals .entry))) n (now (out .entry)) (now (out .exit)) ⌝ }
 {
-    let mut m = Reading::new();
-    let mut cursor = Cursor::start(p);
-    let mut count: usize = 0;
-    let mut k: usize = 0;
-    while m.rows <= n {
-        if intervals.len() <= k {
-            return Counted::Refused(Refusal::EndsEarly);
-        }
-        let classed = cursor.step(intervals[k]);
-        let class = classed.class;
-        match intervals::take(class, k as u32) {
-            Taken::Refused(refusal) => return Counted::Refused(refusal),
-            Taken::Read(cell) => {
-                let next = m.step(cell, k as u32);
-                count = lists::put(out, count, next.done, next.item);
-                m = next;
-                cursor = classed.next;
-                k += 1;
+    match pass_over(p, intervals, n, out) {
+        Pass::TooShort(at) => Counted::Refused(Refusal::IntervalTooShort(at)),
+        Pass::TooLong(at) => Counted::Refused(Refusal::IntervalTooLong(at)),
+        Pass::Read { reading, used } => {
+            if reading.words < n {
+                return Counted::Refused(Refusal::EndsEarly);
             }
+            if reading.is_stray() {
+                return Counted::Refused(Refusal::MisplacedMark(reading.stray_place(last_place(
+                    used,
+                ))));
+            }
+            Counted::Count(used)
         }
     }
-    if m.stray == 1 {
-        return Counted::Refused(Refusal::MisplacedMark(m.place));
-    }
-    Counted::Count(k)
 }
 
 // The register is zero after the items.
@@ -109,19 +94,42 @@ fn deliver(items: &[u16], used: usize, out: &mut [u16]) -> FieldRead
     }
 }
 
-// The items wait in a buffer of their own, as a refusal changes nothing that was lent.
-fn read_checked(p: Profile, intervals: &[u16], n: usize, out: &mut [u16]) -> FieldRead
-    requires { ⌜ n ≤ 1030 ⌝ }
+// The items wait in a buffer, as a refusal changes nothing that was lent.
+fn read_into(
+    p: Profile,
+    intervals: &[u16],
+    n: usize,
+    buffer: &mut [u16],
+    out: &mut [u16],
+) -> FieldRead
+    requires { ⌜ profileRule p .number ≡ 0 ⌝ }
+    requires { ⌜ (1 ≤ n) × (n ≤ 1030) × (n ≤ length (now buffer)) ⌝ }
     ensures answer { λ r. ⌜
         fieldAnswer r ≡ checkedReading (classesOf p (now (intervals .entry))) n (length (now (out .entry))) ⌝ }
     ensures output { λ _. ⌜
         now (out .exit) ≡ checkedOutput (classesOf p (now (intervals .entry))) n (now (out .entry)) ⌝ }
 {
-    let mut buffer = [0u16; MAX_FIELD_BYTES];
-    match gather(p, front(intervals, 8 * n + 1), n as u32, &mut buffer) {
+    match gather(p, intervals, n as u32, buffer) {
         Counted::Refused(refusal) => FieldRead::Refused(refusal),
         Counted::Count(used) => deliver(&buffer[..n], used, out),
     }
+}
+
+// A short field has a short buffer: to clear the long one costs more than to read ten bytes.
+fn read_checked(p: Profile, intervals: &[u16], n: usize, out: &mut [u16]) -> FieldRead
+    requires { ⌜ profileRule p .number ≡ 0 ⌝ }
+    requires { ⌜ (1 ≤ n) × (n ≤ 1030) ⌝ }
+    ensures answer { λ r. ⌜
+        fieldAnswer r ≡ checkedReading (classesOf p (now (intervals .entry))) n (length (now (out .entry))) ⌝ }
+    ensures output { λ _. ⌜
+        now (out .exit) ≡ checkedOutput (classesOf p (now (intervals .entry))) n (now (out .entry)) ⌝ }
+{
+    if n <= SHORT_FIELD_BYTES {
+        let mut buffer = [0u16; SHORT_FIELD_BYTES];
+        return read_into(p, intervals, n, &mut buffer, out);
+    }
+    let mut buffer = [0u16; MAX_FIELD_BYTES];
+    read_into(p, intervals, n, &mut buffer, out)
 }
 
 // 1, 2, 12, then 5, 6 or 11 as first met, 8, 9. On acceptance the items fill the front of the output.

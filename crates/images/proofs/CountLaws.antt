@@ -1,33 +1,31 @@
 -- The ones of a word are the distances that end in it, and so the cells; summed along a list they are the cells of the
 -- list, but for those that the closing 0s end. Rests on no axiom.
-use Prim.Native.Nat.{ℕ, suc, _+_, _*_, _%_}
+use Prim.Native.Nat.{ℕ, suc, _+_, _%_}
 use mathlib.Core.Path.{_≡_, refl, sym, ap, ap₂, _∙_}
 use mathlib.Core.Bool.{true, false, cond}
 use mathlib.Core.List.{List, [], _∷_, _++_, append-assoc}
-use native.Mathlib.Nat.{zero-add, add-zero}
+use native.Mathlib.Nat.{zero-add}
 use native.Mathlib.Omega.{arith}
-use lib.Count.{ones, onesIn, ones-cat}
+use lib.Count.{ones, onesIn}
 use lib.Dec.{T, eqb}
 use lib.ListN.{length}
 use Rattle.lists.specs.Place.{everywhere}
 use Rattle.lists.proofs.PlaceLaws.{everywhere-passes-at-first}
 use Rattle.items.specs.Item.{isByte}
 use Rattle.symbols.specs.Bits.{Bit, O, I, G, writtenBits, allBits, bitsOf}
-use Rattle.symbols.specs.Bytes.{digit, numberFrom, isGap}
+use Rattle.symbols.specs.Bytes.{isGap}
 use Rattle.symbols.specs.Cells.{symbolsFrom, symbolsOf, cellsFrom, cellsOf, writtenSymbols, writtenCells}
-use Rattle.symbols.proofs.RegisterLaws.{sound}
+use Rattle.symbols.proofs.CellLaws.{sound}
+use Rattle.symbols.proofs.HalfCells.{clockAfter, dataOf, cellsAfter, onesAmong}
+use Rattle.symbols.proofs.HalfLaws.{cells-after-append}
+use Rattle.symbols.proofs.NumberLaws.{ones-of-number}
 use Rattle.images.specs.Words.{clockBit, wordOf, lastBit}
 use Rattle.images.specs.Distances.{distancesFrom}
-use Rattle.images.proofs.HalfCells.{clockAfter, dataOf, cellsAfter}
 use Rattle.images.proofs.WordLaws.{word-is-kept, last-bit-is-data}
-use Rattle.images.proofs.DistanceLaws.{unitsAt, distances-of-letters, cells-after-append, last-of-first}
+use Rattle.images.proofs.DistanceLaws.{unitsAt, distances-of-letters, last-of-first}
 use Rattle.images.proofs.DistanceLaws.{bytes-are-sound}
 
 -- ---- ones among half cells
-
-unfoldable pub onesAmong : List Bit → ℕ
-onesAmong [] = 0
-onesAmong (b ∷ bs) = digit b + onesAmong bs
 
 ones-of-append : (xs ys : List Bit) → onesAmong (xs ++ ys) ≡ onesAmong xs + onesAmong ys
 unfolding onesAmong
@@ -41,20 +39,6 @@ distances-count n [] = refl
 distances-count n (O ∷ bs) = let rest = distances-count (suc n) bs in omega arith
 distances-count n (I ∷ bs) = let rest = distances-count 1 bs in omega arith
 distances-count n (G ∷ bs) = let rest = distances-count (suc n) bs in omega arith
-
-ones-of-digit : (m : ℕ) (b : Bit) → ones (m * 2 + digit b) ≡ ones m + digit b
-unfolding ones onesIn
-ones-of-digit m O = ones-cat 1 m 0 (omega arith)
-ones-of-digit m I = ones-cat 1 m 1 (omega arith)
-ones-of-digit m G = ones-cat 1 m 0 (omega arith)
-
-pub ones-of-number : (m : ℕ) (bs : List Bit) → ones (numberFrom m bs) ≡ ones m + onesAmong bs
-unfolding numberFrom onesAmong
-ones-of-number m [] = sym (add-zero (ones m))
-ones-of-number m (b ∷ bs) =
-    let rest = ones-of-number (m * 2 + digit b) bs in
-    let one = ones-of-digit m b in
-    omega arith
 
 -- ---- a word
 

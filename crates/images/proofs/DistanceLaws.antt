@@ -11,12 +11,12 @@ use Rattle.items.specs.Item.{isByte}
 use Rattle.symbols.specs.Bits.{Bit, O, I, G, isOne, lastOf, writtenBits, allBits, bitsOf}
 use Rattle.symbols.specs.Bytes.{isGap}
 use Rattle.symbols.specs.Cells.{pairSymbols, symbolsFrom, symbolsOf, cellsFrom, cellsOf, writtenSymbols, writtenCells}
-use Rattle.symbols.proofs.CellLaws.{last-append, sound-append}
-use Rattle.symbols.proofs.RegisterLaws.{follows, sound}
-use Rattle.images.specs.Words.{clockBit, lastBit}
+use Rattle.symbols.proofs.CellLaws.{last-append, follows, sound, sound-append}
+use Rattle.symbols.proofs.HalfCells.{clockAfter, dataOf, cellsAfter}
+use Rattle.symbols.proofs.HalfLaws.{cells-after-append}
+use Rattle.images.specs.Words.{clockBit, wordOf, lastBit}
 use Rattle.images.specs.Image.{imageFrom, imageOf}
-use Rattle.images.specs.Distances.{imageCells, framed, distancesFrom, distances}
-use Rattle.images.proofs.HalfCells.{clockAfter, dataOf, cellsAfter}
+use Rattle.images.specs.Distances.{halfCells, imageCells, framed, distancesFrom, distances}
 use Rattle.images.proofs.WordLaws.{word-is-kept, last-bit-is-data}
 
 -- ---- letters
@@ -42,13 +42,6 @@ distances-of-letters I (G ∷ bs) n t = absurd t
 distances-of-letters G (O ∷ bs) n t = distances-of-letters O bs (suc (suc n)) t
 distances-of-letters G (I ∷ bs) n t = absurd t
 distances-of-letters G (G ∷ bs) n t = absurd t
-
-pub cells-after-append
-    : (b : Bit) (xs ys : List Bit) → cellsAfter b (xs ++ ys) ≡ cellsAfter b xs ++ cellsAfter (lastOf b xs) ys
-unfolding cellsAfter lastOf
-cells-after-append b [] ys = refl
-cells-after-append b (x ∷ xs) ys =
-    ap (λ (l : List Bit). clockAfter b x ∷ dataOf x ∷ l) (cells-after-append x xs ys)
 
 last-half-cell : (b : Bit) (bs : List Bit) → lastOf (dataOf b) (cellsAfter b bs) ≡ dataOf (lastOf b bs)
 unfolding cellsAfter lastOf
@@ -144,3 +137,45 @@ distances-are-cells ws bytes =
     ∙ ap (λ (l : List Bit). front ++ l) (sym (closing-cells last))
     ∙ sym (cells-after-append O (allBits ws) (O ∷ O ∷ [])))
     ∙ distances-of-letters O (allBits ws ++ (O ∷ O ∷ [])) 2 (bytes-are-sound O ws refl bytes)
+
+-- ---- what follows an image
+
+-- a one ends the distance before it, and the next begins there
+distances-from-a-one
+    : (n : ℕ) (xs ys : List Bit)
+    → distancesFrom n (xs ++ (I ∷ ys)) ≡ distancesFrom n (xs ++ (I ∷ [])) ++ distancesFrom 1 ys
+unfolding distancesFrom
+distances-from-a-one n [] ys = refl
+distances-from-a-one n (O ∷ xs) ys = distances-from-a-one (suc n) xs ys
+distances-from-a-one n (I ∷ xs) ys = ap (λ (l : List ℕ). n ∷ l) (distances-from-a-one 1 xs ys)
+distances-from-a-one n (G ∷ xs) ys = distances-from-a-one (suc n) xs ys
+
+pub distances-and-more
+    : (ws : List ℕ) (ys : List Bit)
+    → everywhere isByte ws ≡ true
+    → distancesFrom 2
+    (imageCells (imageOf ws) ++ (clockBit (lastOf O (imageCells (imageOf ws))) O ∷ O ∷ I ∷ ys))
+    ≡ writtenCells ws ++ distancesFrom 1 ys
+unfolding distances distancesFrom framed
+distances-and-more ws ys bytes =
+    let front = imageCells (imageOf ws) in
+    let clock = clockBit (lastOf O front) O in
+    ap (distancesFrom 2) (sym (append-assoc front (clock ∷ O ∷ []) (I ∷ ys)))
+    ∙ distances-from-a-one 2 (front ++ (clock ∷ O ∷ [])) ys
+    ∙ ap (λ (l : List ℕ). l ++ distancesFrom 1 ys)
+    (ap (distancesFrom 2) (append-assoc front (clock ∷ O ∷ []) (I ∷ [])) ∙ distances-are-cells ws bytes)
+
+data-bit-alone : (b : Bit) → isGap b ≡ false → dataOf b ≡ b
+unfolding dataOf
+data-bit-alone O d = refl
+data-bit-alone I d = refl
+data-bit-alone G d = absurd (true≢false d)
+
+-- a word ends in its byte's last bit
+pub last-of-word : (b : Bit) (w : ℕ) → isGap b ≡ false → isByte w ≡ true → lastOf b (halfCells (wordOf b w)) ≡ lastBit w
+last-of-word b w d byte =
+    let kept = word-is-kept b w d byte in
+    ap₂ lastOf (sym (data-bit-alone b d)) (kept .half-cells)
+    ∙ last-half-cell b (writtenBits w)
+    ∙ ap dataOf (kept .last-letter)
+    ∙ data-bit-alone (lastBit w) (last-bit-is-data w)

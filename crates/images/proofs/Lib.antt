@@ -1,6 +1,6 @@
--- One word: the table, the half cells, the test over all words
+-- One word: the table, the test over all words
 pub mod TableLaws
-pub mod HalfCells
+pub mod SpreadLaws
 pub mod WordLaws
 -- Words and cells
 pub mod DistanceLaws

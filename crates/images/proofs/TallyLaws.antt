@@ -1,5 +1,5 @@
--- A tally along a list: it is a fold, it stays small, and with what the closing 0s end it is the number of cells. Rests
--- on no axiom.
+-- A tally along a list: it is a fold, it only grows, and with what the closing 0s end it is the number of cells, so
+-- that it stays small. Rests on no axiom.
 use Prim.Native.Nat.{ℕ, _+_, _*_, _%_, _≤_, _<_}
 use mathlib.Core.Path.{_≡_, refl, sym, ap, _∙_}
 use mathlib.Core.Bool.{true, false, cond}
@@ -14,14 +14,19 @@ use lib.Seq.{drop-cons}
 use Rattle.lists.specs.Place.{everywhere}
 use Rattle.lists.proofs.PlaceLaws.{everywhere-in-rest}
 use Rattle.items.specs.Item.{isByte, isMark}
+use Rattle.items.specs.Rule.{listRule}
+use Rattle.items.specs.Written.{written}
+use Rattle.items.proofs.RuleLaws.{listed}
+use Rattle.items.proofs.WrittenLaws.{length-of-written, written-are-bytes}
 use Rattle.symbols.specs.Bits.{Bit, O, byteBits}
 use Rattle.symbols.specs.Cells.{writtenCells}
-use Rattle.symbols.proofs.UnitLaws.{digit-is-small}
+use Rattle.symbols.proofs.UnitLaws.{digit-is-small, cells-at-most}
+use Rattle.symbols.proofs.HalfCells.{onesAmong}
+use Rattle.symbols.proofs.NumberLaws.{ones-of-number}
 use Rattle.images.specs.Words.{clocked, dataWord, markWord, wordOf, lastBit}
-use Rattle.images.specs.Tally.{noTally, talliedByte, tallied}
+use Rattle.images.specs.machine.Tally.{noTally, talliedByte, tallied}
 use Rattle.images.specs.declared.count.Tally.{Tally}
 use Rattle.images.proofs.WordLaws.{last-bit-is-data}
-use Rattle.images.proofs.CountLaws.{onesAmong, ones-of-number}
 use Rattle.images.proofs.CountLaws.{cellsLeft, cells-left-of-none, cells-left-of-byte, cells-left-at-start}
 
 -- ---- a fold
@@ -68,18 +73,6 @@ sixteen-at-most before w =
     elim (isMark w) as (λ t. ones (cond t (markWord w) (dataWord before w)) ≤ 16)
     [ true ↦ ones-of-mark w | false ↦ ones-of-data before w ]
 
-pub tally-of-byte : (t : Tally) (w : ℕ) → talliedByte t w .cells ≤ t .cells + 16
-unfolding talliedByte
-tally-of-byte t w = let most = sixteen-at-most (lastBit (t .previous)) w in omega arith
-
-pub tally-at-most : (t : Tally) (ws : List ℕ) → tallied t ws .cells ≤ t .cells + 16 * length ws
-unfolding tallied
-tally-at-most t [] = omega arith
-tally-at-most t (w ∷ ws) =
-    let first = tally-of-byte t w in
-    let rest = tally-at-most (talliedByte t w) ws in
-    omega arith
-
 pub tally-at-least : (t : Tally) (ws : List ℕ) → t .cells ≤ tallied t ws .cells
 unfolding tallied talliedByte
 tally-at-least t [] = omega arith
@@ -108,3 +101,13 @@ tally-is-count ws bytes =
     ∙ cells-with-the-rest noTally ws bytes
     ∙ zero-add (cellsLeft O ws)
     ∙ cells-left-at-start ws bytes
+
+-- no accepted list writes more than 51,202 cells
+pub tally-of-list-fits : (items : List ℕ) → listRule items .number ≡ 0 → tallied noTally (written items) .cells < 65536
+tally-of-list-fits items accepted =
+    let l = listed items accepted in
+    let count = tally-is-count (written items) (written-are-bytes items (l .none-foreign)) in
+    let most = cells-at-most (written items) in
+    let bytes = length-of-written items in
+    let few = l .few-bytes in
+    omega arith

@@ -9,16 +9,17 @@ use Rattle.symbols.specs.Bits.{Bit, O, I, G, byteBits, withGaps, markBits, writ
 use Rattle.symbols.specs.Bytes.{numberFrom, isGap}
 use Rattle.symbols.proofs.TestLaws.{left-of, right-of, holds}
 use Rattle.symbols.proofs.RowLaws.{sameBit, sameBits, same-bit, same-bits, passesBelow, overBytes, over-bytes}
-use Rattle.symbols.proofs.RegisterLaws.{follows, sound}
+use Rattle.symbols.proofs.CellLaws.{follows, sound}
+use Rattle.symbols.proofs.HalfCells.{clockAfter, dataOf, cellsAfter}
 use Rattle.images.specs.Words.{clockBit, clocked, dataWord, markWord, wordOf, lastBit}
 use Rattle.images.specs.Distances.{halfCells}
-use Rattle.images.specs.Candidate.{dataBits, candidate}
-use Rattle.images.proofs.HalfCells.{clockAfter, dataOf, cellsAfter}
+use Rattle.images.specs.machine.Candidate.{dataBits, candidate}
+use Rattle.images.specs.machine.TopBits.{topBits}
 
 -- ---- the test
 
 -- the candidate for a byte's word is the byte; the word's half cells are those of the byte's letters, and it is their
--- number; its letters are sound and end in its last data bit
+-- number; its letters are sound and end in its last data bit; taken by its highest ones it has the same half cells
 wordKept : Bit → ℕ → Bool
 wordKept before w =
     eqb (candidate (wordOf before w)) w
@@ -26,14 +27,15 @@ wordKept before w =
     && eqb (wordOf before w) (numberFrom 0 (cellsAfter before (writtenBits w)))
     && sound before (writtenBits w)
     && sameBit (lastOf before (writtenBits w)) (lastBit w)
+    && sameBits (topBits 16 (wordOf before w)) (halfCells (wordOf before w))
 
 bothKept : ℕ → Bool
 bothKept w = wordKept O w && wordKept I w
 
 all-words-kept : T (overBytes bothKept)
 unfolding overBytes passesBelow bothKept wordKept candidate dataBits wordOf isMark markWord dataWord clocked clockBit
-    byteBits numberFrom sameBits sameBit halfCells cellsAfter clockAfter dataOf writtenBits markBits withGaps sound
-    follows lastOf lastBit
+    byteBits topBits numberFrom sameBits sameBit halfCells cellsAfter clockAfter dataOf writtenBits markBits withGaps
+    sound follows lastOf lastBit
 all-words-kept = tt
 
 -- ---- what it says of each word
@@ -44,6 +46,7 @@ pub record Kept (before : Bit) (w : ℕ) : Type 0 where
   pub number : wordOf before w ≡ numberFrom 0 (cellsAfter before (writtenBits w))
   pub letters-are-sound : T (sound before (writtenBits w))
   pub last-letter : lastOf before (writtenBits w) ≡ lastBit w
+  pub top-bits : topBits 16 (wordOf before w) ≡ halfCells (wordOf before w)
 
 kept-of-test : (before : Bit) (w : ℕ) → T (wordKept before w) → Kept before w
 unfolding wordKept
@@ -53,7 +56,9 @@ kept-of-test before w t =
     let r = eqb (wordOf before w) (numberFrom 0 (cellsAfter before (writtenBits w))) in
     let s = sound before (writtenBits w) in
     let u = sameBit (lastOf before (writtenBits w)) (lastBit w) in
-    let pqrs = left-of (p && q && r && s) u t in
+    let v = sameBits (topBits 16 (wordOf before w)) (halfCells (wordOf before w)) in
+    let pqrsu = left-of (p && q && r && s && u) v t in
+    let pqrs = left-of (p && q && r && s) u pqrsu in
     let pqr = left-of (p && q && r) s pqrs in
     let pq = left-of (p && q) r pqr in
     record {
@@ -61,7 +66,8 @@ kept-of-test before w t =
       half-cells = same-bits _ _ (right-of p q pq);
       number = eqb→eq _ _ (right-of (p && q) r pqr);
       letters-are-sound = right-of (p && q && r) s pqrs;
-      last-letter = same-bit _ _ (right-of (p && q && r && s) u t);
+      last-letter = same-bit _ _ (right-of (p && q && r && s) u pqrsu);
+      top-bits = same-bits _ _ (right-of (p && q && r && s && u) v t);
     }
 
 pub word-is-kept : (before : Bit) (w : ℕ) → isGap before ≡ false → isByte w ≡ true → Kept before w

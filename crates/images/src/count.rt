@@ -1,20 +1,18 @@
 // How many cells a list writes: a one of a code word ends a cell, so that the words tell it without a trial.
-ghost use Prim.Native.Nat.{_+_, _*_, _≤_};
+ghost use Prim.Native.Nat.{_<_};
 ghost use mathlib.Core.Path.{_≡_};
 ghost use lib.ListN.{length};
 ghost use Rattle.items.specs.Item.{writtenBytes};
 ghost use Rattle.items.specs.Rule.{listRule};
-ghost use Rattle.items.specs.Written.{afterBytes, writtenFrom, written};
+ghost use Rattle.items.specs.Written.{afterItem, itemBytes, written};
 ghost use Rattle.symbols.specs.Cells.{writtenCells};
-ghost use Rattle.images.specs.Words.{codeWords};
-ghost use Rattle.images.specs.Tally.{noTally, talliedByte, tallied};
-use crate::table::code_words;
-use crate::words::word_of;
+ghost use Rattle.images.specs.machine.Tally.{noTally, talliedByte, tallied};
+use crate::words::made_word;
 use items::Check;
 
-// The cells that ended so far, and the byte before.
+// The cells that ended so far, and the byte before. No list writes 65,536 cells: numbers of 16 bits add up fastest.
 pub struct Tally {
-    pub cells: usize,
+    pub cells: u16,
     pub previous: u16,
 }
 
@@ -24,52 +22,52 @@ pub struct Part {
     pub check: Check,
 }
 
-fn count_byte(table: &[u16; 512], tally: Tally, byte: u16) -> Tally
-    requires { ⌜ now table ≡ codeWords ⌝ }
-    requires { ⌜ tally .cells ≤ 200000 ⌝ }
+fn count_byte(tally: Tally, byte: u16) -> Tally
+    requires { ⌜ talliedByte tally byte .cells < 65536 ⌝ }
     ensures { λ r. ⌜ r ≡ talliedByte tally byte ⌝ }
 {
-    let ones = u16::count_ones(word_of(table, tally.previous, byte));
+    let ones = u16::count_ones(made_word(tally.previous, byte)) as u16;
     Tally {
-        cells: tally.cells + ones as usize,
+        cells: tally.cells + ones,
         previous: byte,
     }
 }
 
-fn count_bytes(table: &[u16; 512], start: Tally, bytes: &[u16]) -> Tally
-    requires { ⌜ now table ≡ codeWords ⌝ }
-    requires { ⌜ start .cells + 16 * length (now bytes) ≤ 200000 ⌝ }
+fn count_bytes(start: Tally, bytes: &[u16]) -> Tally
+    requires { ⌜ tallied start (now bytes) .cells < 65536 ⌝ }
     ensures { λ r. ⌜ r ≡ tallied start (now (bytes .entry)) ⌝ }
 {
     let mut tally = start;
     let mut k: usize = 0;
     while k < bytes.len() {
-        tally = count_byte(table, tally, bytes[k]);
+        tally = count_byte(tally, bytes[k]);
         k += 1;
     }
     tally
 }
 
-// At most 64 items.
-fn count_part(table: &[u16; 512], start: Part, items: &[u16]) -> Part
-    requires { ⌜ now table ≡ codeWords ⌝ }
-    requires { ⌜ (start .tally .cells ≤ 190000) × (length (now items) ≤ 64) ⌝ }
-    ensures check { λ r. ⌜ r .check ≡ afterBytes (start .check) (writtenFrom (start .check) (now (items .entry))) ⌝ }
-    ensures tally { λ r. ⌜ r .tally ≡ tallied (start .tally) (writtenFrom (start .check) (now (items .entry))) ⌝ }
+fn count_item(start: Part, item: u16) -> Part
+    requires { ⌜ tallied (start .tally) (itemBytes (start .check) item) .cells < 65536 ⌝ }
+    ensures check { λ r. ⌜ r .check ≡ afterItem (start .check) item ⌝ }
+    ensures tally { λ r. ⌜ r .tally ≡ tallied (start .tally) (itemBytes (start .check) item) ⌝ }
 {
-    let mut bytes = [0u16; 128];
-    let stored = items::write_bytes(start.check, items, &mut bytes);
-    let n = stored.count;
-    let check = stored.check;
-    let tally = count_bytes(table, start.tally, &bytes[..n]);
-    Part { tally, check }
+    let check = start.check.after_item(item);
+    if items::is_check(item) {
+        let high = count_byte(start.tally, start.check.high());
+        let low = count_byte(high, start.check.low());
+        return Part { tally: low, check };
+    }
+    Part {
+        tally: count_byte(start.tally, item),
+        check,
+    }
 }
 
-fn count_items(items: &[u16]) -> Tally
-    requires { ⌜ writtenBytes (now items) ≤ 6400 ⌝ }
+// Item by item, so that a check order finds the register as it is then.
+fn count_each(items: &[u16]) -> Tally
+    requires { ⌜ listRule (now items) .number ≡ 0 ⌝ }
     ensures { λ r. ⌜ r ≡ tallied noTally (written (now (items .entry))) ⌝ }
 {
-    let table = code_words();
     let mut part = Part {
         tally: Tally {
             cells: 0,
@@ -79,21 +77,37 @@ fn count_items(items: &[u16]) -> Tally
     };
     let mut k: usize = 0;
     while k < items.len() {
-        let end = items::part_end(k, items.len());
-        part = count_part(&table, part, &items[k..end]);
-        k = end;
+        part = count_item(part, items[k]);
+        k += 1;
     }
     part.tally
 }
 
-// The cells of an accepted list. The two closing 0s end two cells after a 0, and one after a 1.
-pub fn count_cells(items: &[u16]) -> usize
-    requires { ⌜ listRule (now items) .number ≡ 0 ⌝ }
+// A list with no check order is its own bytes, and needs no register.
+fn count_items(items: &[u16], bytes: usize) -> Tally
+    requires { ⌜ (listRule (now items) .number ≡ 0) × (bytes ≡ writtenBytes (now items)) ⌝ }
+    ensures { λ r. ⌜ r ≡ tallied noTally (written (now (items .entry))) ⌝ }
+{
+    if bytes == items.len() {
+        let none = Tally {
+            cells: 0,
+            previous: 0,
+        };
+        return count_bytes(none, items);
+    }
+    count_each(items)
+}
+
+// The cells of an accepted list that writes so many bytes. The two closing 0s end two cells after a 0, and one after a
+// 1.
+pub fn count_cells(items: &[u16], bytes: usize) -> usize
+    requires { ⌜ (listRule (now items) .number ≡ 0) × (bytes ≡ writtenBytes (now items)) ⌝ }
     ensures { λ r. ⌜ r ≡ length (writtenCells (written (now (items .entry)))) ⌝ }
 {
-    let tally = count_items(items);
+    let tally = count_items(items, bytes);
+    let cells = tally.cells as usize;
     if tally.previous % 2 == 1 {
-        return tally.cells + 1;
+        return cells + 1;
     }
-    tally.cells + 2
+    cells + 2
 }

@@ -8,3 +8,4 @@ mod words;
 pub use count::count_cells;
 pub use make::make_image;
 pub use read::read_image;
+pub use words::made_word;

@@ -8,7 +8,7 @@ ghost use Rattle.lists.specs.Filled.{filled};
 ghost use Rattle.refusal.specs.Answer.{verdictAnswer, countedAnswer};
 ghost use Rattle.images.specs.Image.{unrulyIn};
 ghost use Rattle.images.specs.Rules.{wordsRule, readImageRule, readImageOutput};
-ghost use Rattle.images.specs.Candidate.{candidate};
+ghost use Rattle.images.specs.machine.Candidate.{candidate};
 use crate::table::code_words;
 use crate::words::byte_of;
 use crate::words::word_of;

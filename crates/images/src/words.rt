@@ -1,7 +1,8 @@
 // One code word: that of a byte, and the byte of it.
 ghost use mathlib.Core.Path.{_≡_};
 ghost use Rattle.images.specs.Words.{wordOf, lastBit, codeWords};
-ghost use Rattle.images.specs.Candidate.{dataBits, candidate};
+ghost use Rattle.images.specs.machine.Candidate.{dataBits, candidate};
+ghost use Rattle.images.specs.machine.Spread.{spreadWord};
 
 const MARK_A1: u16 = 0x1a1;
 
@@ -23,6 +24,30 @@ pub fn word_of(table: &[u16; 512], previous: u16, byte: u16) -> u16
         return WORD_C2;
     }
     table[(previous % 2 * 256 + byte % 256) as usize]
+}
+
+// The bits of a data byte at every second place, and a clock bit between each two that are 0.
+fn spread_word(previous: u16, byte: u16) -> u16
+    ensures { λ r. ⌜ r ≡ spreadWord previous byte ⌝ }
+{
+    let fours = (byte | (byte << 4)) & 0x0f0f;
+    let pairs = (fours | (fours << 2)) & 0x3333;
+    let data = (pairs | (pairs << 1)) & 0x5555;
+    let clocks = ((data | (data >> 2) | (previous << 14)) & 0x5555) ^ 0x5555;
+    data | (clocks << 1)
+}
+
+// The same without the table, which is slow to copy where few words are asked for and large where all are.
+pub fn made_word(previous: u16, w: u16) -> u16
+    ensures { λ r. ⌜ r ≡ wordOf (lastBit previous) w ⌝ }
+{
+    if w == MARK_A1 {
+        return WORD_A1;
+    }
+    if w == MARK_C2 {
+        return WORD_C2;
+    }
+    spread_word(previous % 2, w % 256)
 }
 
 // Every second bit of a word, moved together.

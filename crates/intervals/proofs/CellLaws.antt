@@ -2,15 +2,15 @@
 -- axiom.
 use Prim.Native.Nat.{ℕ}
 use mathlib.Core.Path.{_≡_, refl}
-use native.Mathlib.Omega.{arith}
-use Rattle.refusal.specs.declared.Refusal.{Refusal}
-use Rattle.refusal.specs.declared.Refusal.the-variants.{IntervalTooShort, IntervalTooLong}
+use mathlib.Core.Bool.{true, false≢true}
+use Rattle.timing.specs.Class.{isCell, classNumber}
 use Rattle.timing.specs.declared.Class.{Class}
 use Rattle.timing.specs.declared.Class.the-variants.{Narrow, Two, Three, Four, Wide}
+use Rattle.symbols.specs.machine.Step.{stepped, steppedBy}
 use Rattle.symbols.specs.declared.Cell.{Cell}
 use Rattle.symbols.specs.declared.Cell.the-variants.{Short, Medium, Long}
-use Rattle.intervals.specs.Cells.{byClass, taken}
-use Rattle.intervals.specs.declared.Taken.the-variants.{Read, Refused}
+use Rattle.symbols.specs.declared.Reading.{Reading}
+use Rattle.intervals.specs.Cells.{byClass}
 
 -- a class that is read as a cell
 pub data ReadAs : Class → Cell → Type 0 where
@@ -45,28 +45,31 @@ by-class-read narrow read wide as-short = refl
 by-class-read narrow read wide as-medium = refl
 by-class-read narrow read wide as-long = refl
 
--- ---- one interval, at place k
+-- ---- a class that is a cell
 
-module _ (k : ℕ) where
-  pub taken-is-read : (c : Class) (x : Cell) → Read x ≡ taken c k → ReadAs c x
-  unfolding taken
-  taken-is-read Narrow x e = absurd (let z : _≡_ {A = ℕ} 0 1 = cc in omega arith)
-  taken-is-read Two x e = let same : Short ≡ x = cc in rw same at as-short
-  taken-is-read Three x e = let same : Medium ≡ x = cc in rw same at as-medium
-  taken-is-read Four x e = let same : Long ≡ x = cc in rw same at as-long
-  taken-is-read Wide x e = absurd (let z : _≡_ {A = ℕ} 0 1 = cc in omega arith)
+abbrev pub cellOf : Class → Cell
+cellOf Narrow = Short
+cellOf Two = Short
+cellOf Three = Medium
+cellOf Four = Long
+cellOf Wide = Short
 
-  -- where it is refused, its class is narrow or wide
-  pub taken-is-refused
-      : (P : Class → Refusal → Type 0)
-      → P Narrow (IntervalTooShort k)
-      → P Wide (IntervalTooLong k)
-      → (c : Class) (r : Refusal)
-      → Refused r ≡ taken c k
-      → P c r
-  unfolding taken
-  taken-is-refused P narrow wide Narrow r e = let same : IntervalTooShort k ≡ r = cc in rw same at narrow
-  taken-is-refused P narrow wide Two r e = absurd (let z : _≡_ {A = ℕ} 0 1 = cc in omega arith)
-  taken-is-refused P narrow wide Three r e = absurd (let z : _≡_ {A = ℕ} 0 1 = cc in omega arith)
-  taken-is-refused P narrow wide Four r e = absurd (let z : _≡_ {A = ℕ} 0 1 = cc in omega arith)
-  taken-is-refused P narrow wide Wide r e = let same : IntervalTooLong k ≡ r = cc in rw same at wide
+pub cell-is-read-as : (c : Class) → isCell c ≡ true → ReadAs c (cellOf c)
+cell-is-read-as Narrow h = absurd (false≢true h)
+cell-is-read-as Two h = as-short
+cell-is-read-as Three h = as-medium
+cell-is-read-as Four h = as-long
+cell-is-read-as Wide h = absurd (false≢true h)
+
+pub read-is-cell : {c : Class} {x : Cell} → ReadAs c x → isCell c ≡ true
+read-is-cell as-short = refl
+read-is-cell as-medium = refl
+read-is-cell as-long = refl
+
+-- the machine takes it by its units
+pub stepped-by-class
+    : {c : Class} {x : Cell} (m : Reading) (k : ℕ) → ReadAs c x → steppedBy m (classNumber c) k ≡ stepped m x k
+unfolding stepped
+stepped-by-class m k as-short = refl
+stepped-by-class m k as-medium = refl
+stepped-by-class m k as-long = refl

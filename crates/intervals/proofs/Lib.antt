@@ -1,2 +1,3 @@
 pub mod CellLaws
 pub mod ClassCellLaws
+pub mod PassLaws

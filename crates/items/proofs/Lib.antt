@@ -7,4 +7,3 @@ pub mod CheckLaws
 pub mod WrittenLaws
 pub mod CheckFacts
 pub mod RuleLaws
-pub mod PartLaws

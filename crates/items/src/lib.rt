@@ -1,6 +1,5 @@
 // Document 01, "Items and the check register".
 mod list;
-mod part;
 mod register;
 
 pub use list::Stored;
@@ -8,7 +7,6 @@ pub use list::check_list;
 pub use list::find_foreign;
 pub use list::write_bytes;
 pub use list::written_bytes;
-pub use part::part_end;
 ghost use Prim.Native.Nat.{_≤_, _<_};
 ghost use mathlib.Core.Path.{_≡_};
 ghost use lib.ListN.{length, drop};
@@ -85,7 +83,7 @@ impl Check {
         }
     }
 
-    fn after_item(self, n: u16) -> Self
+    pub fn after_item(self, n: u16) -> Self
         ensures { λ r. ⌜ r ≡ afterItem self n ⌝ }
     {
         if is_check(n) {

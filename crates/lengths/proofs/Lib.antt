@@ -6,10 +6,9 @@ pub mod WindowLaws
 pub mod WitnessLaws
 pub mod MarginLaws
 pub mod ShiftLaws
-pub mod PenLaws
-pub mod SteadyLaws
-pub mod PlaceLaws
+pub mod PointLaws
 pub mod BrokenLaws
 pub mod PapersMargin
 pub mod PositiveLengths
 pub mod SumLaws
+pub mod NeighbourLaws

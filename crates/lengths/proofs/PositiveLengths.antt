@@ -13,7 +13,7 @@ use Rattle.lengths.specs.Lengths.{point, symbolAfter, cellLength, length
 use Rattle.lengths.specs.Stream.{byteStream, streamOf}
 use Rattle.lengths.specs.Claims.{signedLength, SignedLengths, LengthsArePositive}
 use Rattle.lengths.proofs.ShiftLaws.{signed-sum}
-use Rattle.lengths.proofs.SteadyLaws.{point-is-in-range}
+use Rattle.lengths.proofs.PointLaws.{point-is-in-range}
 
 -- D is less than T1, and so than every nominal length
 shift-is-less

@@ -5,7 +5,7 @@ use native.Mathlib.Omega.{arith}
 use mathlib.Core.Bool.{Bool, true, false, cond}
 use mathlib.Core.List.{List, [], _∷_}
 use Rattle.symbols.specs.Bits.{Bit, O, G, bitsOf}
-use Rattle.symbols.specs.Cells.{pairSymbols, symbolsFrom, symbolsOf, writtenSymbols}
+use Rattle.symbols.specs.Cells.{pairSymbols, symbolsFrom, symbolsOf, cellsFrom, cellsOf, writtenSymbols, writtenCells}
 use Rattle.lengths.proofs.LetterLaws.{letter, every-list-has-it}
 
 -- no cell that ends in the symbols has more than two 0s, the open one having its zeros already
@@ -41,3 +41,21 @@ written-runs-are-short ws =
     false
     0
     (omega arith)
+
+-- ---- the cells
+
+-- each has 2, 3 or 4 units
+unfoldable pub ShortCells : List ℕ → Type 0
+ShortCells [] = Unit
+ShortCells (c ∷ cs) = (2 ≤ c) × (c ≤ 4) × ShortCells cs
+
+short-runs-have-short-cells
+    : (ss : List Bool) (zeros : ℕ) → ShortRuns zeros ss → ShortCells (cellsFrom (suc (suc zeros)) ss)
+unfolding ShortRuns ShortCells cellsFrom
+short-runs-have-short-cells [] zeros r = tt
+short-runs-have-short-cells (false ∷ ss) zeros r = short-runs-have-short-cells ss (suc zeros) r
+short-runs-have-short-cells (true ∷ ss) zeros r = (omega arith, omega arith, short-runs-have-short-cells ss 0 (r .1))
+
+pub written-cells-are-short : (ws : List ℕ) → ShortCells (writtenCells ws)
+unfolding writtenCells cellsOf
+written-cells-are-short ws = short-runs-have-short-cells (writtenSymbols ws) 0 (written-runs-are-short ws)

@@ -131,16 +131,3 @@ module _ {p : Profile} (k : Kept p) (ws : List ℕ) (i : ℕ) (h : i < length (b
 
   pub length-fits : getD (byteStream p ws) i 0 < 65536
   length-fits = window-fits k window-of-length
-
--- as many lengths as cells, under any profile
-lengths-count : (p : Profile) (start zeros units : ℕ) (before : Bool) (ss : List Bool)
-    → length (lengthsFrom p start zeros before ss) ≡ length (cellsFrom units ss)
-unfolding lengthsFrom cellsFrom
-lengths-count p start zeros units before [] = refl
-lengths-count p start zeros units before (true ∷ ss) =
-    ap suc (lengths-count p (point p before (symbolAfter ss)) 0 2 true ss)
-lengths-count p start zeros units before (false ∷ ss) = lengths-count p start (suc zeros) (suc units) false ss
-
-pub stream-has-cells : (p : Profile) (ws : List ℕ) → length (byteStream p ws) ≡ length (writtenCells ws)
-unfolding byteStream lengthsOf writtenCells cellsOf
-stream-has-cells p ws = lengths-count p (point p true (symbolAfter (writtenSymbols ws))) 0 2 true (writtenSymbols ws)

@@ -17,7 +17,7 @@ use Rattle.symbols.specs.Cells.{pairSymbols, symbolsFrom, symbolsOf, cellsFrom,
 use Rattle.lengths.specs.Lengths.{point, symbolAfter, cellLength, lengthsFrom, lengthsOf}
 use Rattle.lengths.specs.Points.{firstPoint, lastPointFrom, lastPoint, zerosIn}
 use Rattle.lengths.specs.Stream.{byteStream}
-use Rattle.lengths.proofs.SteadyLaws.{point-is-in-range}
+use Rattle.lengths.proofs.PointLaws.{point-is-in-range}
 use Rattle.lengths.proofs.StreamLaws.{stream-is-as-long-as-its-cells}
 
 -- the 0s after the last transition, which no cell has

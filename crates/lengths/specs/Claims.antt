@@ -5,12 +5,13 @@ use mathlib.Core.Bool.{Bool, true, false}
 use mathlib.Core.List.{List, [], _∷_}
 use lib.IntN.{ℤ, pos, _+ℤ_, _-ℤ_}
 use Rattle.items.specs.Written.{written}
-use Rattle.symbols.specs.Cells.{writtenSymbols}
+use Rattle.symbols.specs.Cells.{writtenSymbols, writtenCells}
 use Rattle.timing.specs.Profile.{profileRule}
 use Rattle.timing.specs.declared.Profile.{Profile}
 use Rattle.lengths.specs.Lengths.{point, symbolAfter}
 use Rattle.items.specs.Rule.{listRule}
-use Rattle.lengths.specs.Stream.{streamOf}
+use Rattle.lengths.specs.Neighbours.{lengthsBetween}
+use Rattle.lengths.specs.Stream.{byteStream, streamOf}
 use Rattle.lengths.specs.Margin.{IsMargin, marginOf}
 
 -- "Profile": under every accepted profile the number that the operation gives is the paper's margin
@@ -43,3 +44,7 @@ LengthsArePositive =
     → SignedLengths p (point p true (symbolAfter (writtenSymbols (written items)))) 0 true
     (writtenSymbols (written items))
     (streamOf p items)
+
+-- a length depends on the cell and its two neighbours alone
+abbrev pub LengthsByNeighbours : Type 0
+LengthsByNeighbours = (p : Profile) (ws : List ℕ) → byteStream p ws ≡ lengthsBetween p 2 (writtenCells ws)

@@ -1,8 +1,8 @@
 pub mod Lengths
 pub mod Points
+pub mod Neighbours
 pub mod Stream
 pub mod Units
 pub mod Margin
 pub mod Claims
-pub mod Pen
-pub mod Letters
+pub mod machine

@@ -5,11 +5,11 @@ ghost use Rattle.refusal.specs.Answer.{countedAnswer};
 ghost use Rattle.timing.specs.Profile.{profileRule};
 ghost use Rattle.lengths.specs.Margin.{roomIn, marginOf, marginRule};
 
-pub mod letters;
-pub mod pen;
+mod table;
 
 use refusal::Counted;
 use refusal::Verdict;
+pub use table::length_table;
 use timing::Profile;
 
 fn least(a: u16, b: u16) -> u16

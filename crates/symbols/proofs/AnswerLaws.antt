@@ -1,166 +1,240 @@
--- What a caller learns from the reading machine: the number of bits and of bytes, whether they are whole bytes, the
--- lowest gap out of place, the strip reader's answer, and the items, all by the machine's invariant.
-use Prim.Native.Nat.{ℕ, suc, _+_, _-_, _*_, _/_, _%_, _≤_, _<_}
-use mathlib.Core.Path.{_≡_, refl, ap, sym, _∙_}
-use mathlib.Core.Bool.{Bool, true, false, cond, not, _||_, true≢false}
-use mathlib.Core.Logic.{_⊎_, inl, inr}
-use mathlib.Core.List.{List, [], _∷_, map, cons≢nil}
-use mathlib.Mathlib.Data.Bool.Basic.{or-eq-false-eq-eq-false-and-eq-false}
-use native.Mathlib.Nat.{mul-mod-right}
+-- What a caller learns from the reading machine: the number of bits and of bytes and whether they are whole bytes, by
+-- their units; and the lowest gap out of place, also one on the last letter, which the register shows.
+use Prim.Native.Nat.{ℕ, _+_, _-_, _*_, _/_, _%_, _≤_, _<_}
+use mathlib.Core.Path.{_≡_, refl, ap, sym, subst, _∙_}
+use mathlib.Core.Bool.{Bool, true, false, cond, not, _&&_, _||_, true≢false}
+use mathlib.Core.Logic.{inl, inr}
+use mathlib.Core.List.{List, [], _∷_, _++_, append-assoc}
+use native.Mathlib.Nat.{add-zero}
 use native.Mathlib.Omega.{arith}
-use native.Mathlib.Decide.{decLt}
-use borrow.Author.Tests.{ne-eqb, eqb-true, not-false}
-use lib.Dec.{eqb, ltb}
-use lib.Arith.{digits-mod}
-use lib.Pow.{pow-mono}
-use lib.ListN.{length, getD, length-append, length-map, length-drop}
+use borrow.Author.Tests.{eq-eqb, ne-eqb, eqb-true, not-false}
+use lib.Count.{ones, onesIn}
+use lib.Dec.{T, eqb, eqb→eq, ltb}
+use lib.Pow.{mod-mod-pow}
+use lib.ListN.{length, getD, length-map}
 use Rattle.lists.specs.Place.{anywhere, lowest, passed}
+use Rattle.lists.proofs.PlaceLaws.{anywhere-of-append}
 use Rattle.refusal.specs.Answer.{accepted, refuseIf}
-use Rattle.symbols.specs.Bits.{Bit, O, I, G, isOne, lastOf}
-use Rattle.symbols.specs.Bytes.{numberFrom, itemOf, gapInPlace, straysFrom, rowStrays}
-use Rattle.symbols.specs.Bytes.{rowsOf, straysOf, itemsRead, straysRead}
-use Rattle.symbols.specs.Reading.{readBits}
-use Rattle.symbols.specs.Strip.{endsInOne, isRagged, bytesRead, strayPlace, isStray, stripRule}
-use Rattle.symbols.specs.Step.{stripAnswer}
+use Rattle.symbols.specs.Bits.{Bit, O, I, G, lastOf}
+use Rattle.symbols.specs.Bytes.{digit, numberFrom, isGap, itemOf, rowsOf, itemsRead, straysRead}
+use Rattle.symbols.specs.Reading.{readFrom, readBits, sources}
+use Rattle.symbols.specs.Strip.{isRagged, bytesRead, strayPlace, isStray, stripRule}
+use Rattle.symbols.specs.machine.Step.{freshReading, endsInGap, strayNow, placeNow, stripAnswer}
 use Rattle.symbols.specs.declared.Cell.{Cell}
 use Rattle.symbols.specs.declared.Reading.{Reading}
-use Rattle.symbols.proofs.RegisterLaws.{number-at-least}
-use Rattle.symbols.proofs.MachineLaws.{padded, places}
-use Rattle.symbols.proofs.ReadsLaws.{Reads, closedItems, rows-so-far, items-so-far, rows-count}
+use Rattle.symbols.proofs.TestLaws.{same-test, or-false, holds, left-of, right-of}
+use Rattle.symbols.proofs.ReadingLaws.{last-is-no-gap}
+use Rattle.symbols.proofs.PlaceLaws.{lowest-in-front, lowest-past-front}
+use Rattle.symbols.proofs.UnitLaws.{unitsIn, bits-known, length-by-units, ragged-by-units}
+use Rattle.symbols.proofs.CellLaws.{follows, sound, sound-rest, read-is-sound, last-append}
+use Rattle.symbols.proofs.HalfCells.{clockAfter, dataOf, cellsAfter, track, clockAtEnd}
+use Rattle.symbols.proofs.HalfLaws.{cells-after-append, track-of-letters}
+use Rattle.symbols.proofs.NumberLaws.{number-append, last-digit-is-data}
+use Rattle.symbols.proofs.SourceLaws.{place-by-ones}
+use Rattle.symbols.proofs.ReadsLaws.{Open, Held, Reads, front-length, letters-count, strays-so-far}
 
--- Gaps out of place, with and without the seven 0s before the lead
+-- Counts
 
-strays-of-padded :
-    (bs : List Bit)
-    → anywhere passed (straysOf (rowsOf (O ∷ O ∷ O ∷ O ∷ O ∷ O ∷ O ∷ bs))) ≡ anywhere passed (straysRead bs)
-unfolding anywhere straysOf rowsOf rowStrays straysFrom gapInPlace numberFrom straysRead
-strays-of-padded [] = refl
-strays-of-padded (O ∷ bs) = refl
-strays-of-padded (I ∷ bs) = refl
-strays-of-padded (G ∷ bs) = refl
+pub record Counted (m : Reading) (cs : List Cell) : Type 0 where
+  pub held : m .held + 16 * m .words ≡ unitsIn cs
+  pub few : m .held ≤ 16
+  pub some : 16 * m .words ≤ unitsIn cs - 1
 
-place-of-padded :
-    (bs : List Bit) → anywhere passed (straysRead bs) ≡ true
-    → lowest passed (straysOf (rowsOf (O ∷ O ∷ O ∷ O ∷ O ∷ O ∷ O ∷ bs)))
-    ≡ suc (suc (suc (suc (suc (suc (suc (lowest passed (straysRead bs))))))))
-unfolding anywhere lowest straysOf rowsOf rowStrays straysFrom gapInPlace numberFrom straysRead
-place-of-padded [] h = absurd (true≢false (sym h))
-place-of-padded (O ∷ bs) h = refl
-place-of-padded (I ∷ bs) h = refl
-place-of-padded (G ∷ bs) h = refl
+counted : (m : Reading) (cs : List Cell) → Reads m cs → Counted m cs
+unfolding freshReading unitsIn
+counted m cs (inl e) = rw (e .0, e .1) (record { held = refl; few = omega arith; some = omega arith })
+counted m cs (inr so-far) =
+    let o = so-far .0 in
+    record {
+      held = o .held;
+      few = omega (arith, letters-count m cs o, length-by-units cs, o .held, so-far .1);
+      some = omega (arith, letters-count m cs o, length-by-units cs, o .held);
+    }
 
--- One letter in the open row
+rows-count : (xs : List Bit) → length (rowsOf xs) ≡ length xs / 8
+unfolding rowsOf
+rows-count [] = refl
+rows-count (a ∷ []) = refl
+rows-count (a ∷ b ∷ []) = refl
+rows-count (a ∷ b ∷ c ∷ []) = refl
+rows-count (a ∷ b ∷ c ∷ d ∷ []) = refl
+rows-count (a ∷ b ∷ c ∷ d ∷ e ∷ []) = refl
+rows-count (a ∷ b ∷ c ∷ d ∷ e ∷ f ∷ []) = refl
+rows-count (a ∷ b ∷ c ∷ d ∷ e ∷ f ∷ g ∷ []) = refl
+rows-count (a ∷ b ∷ c ∷ d ∷ e ∷ f ∷ g ∷ h ∷ xs) = omega (arith, rows-count xs)
 
--- l bits and the seven 0s are some rows and k letters
-bits-over : (l rows k : ℕ) → k < 7 → l + 7 ≡ 8 * rows + k → l % 8 ≡ k + 1
-bits-over l rows k h e =
-    let q : l ≡ (rows - 1) * 8 + (k + 1) = omega arith in rw q (digits-mod (rows - 1) (omega arith))
-
-more-letters : (l rows k : ℕ) → 2 ≤ k → k < 8 → l + 7 ≡ 8 * rows + k → l % 8 ≡ 2 → ⊥
-more-letters l rows k h few e two =
-    elim (decLt k 7) [
-      | yes l7 ↦ let q = bits-over l rows k l7 e in omega arith
-      | no l7 ↦
-          let q : l ≡ 8 * rows = omega arith in
-          let z = ap (λ (n : ℕ). n % 8) q ∙ mul-mod-right 8 rows in
-          omega arith
-    ]
-
-one-by-register : (z : Bit) → isOne z ≡ not (eqb (numberFrom 1 (z ∷ [])) 2)
-unfolding numberFrom
-one-by-register O = refl
-one-by-register I = refl
-one-by-register G = refl
-
-ragged-by-register :
-    (rest : List Bit) (rows l : ℕ) (last : Bit) → length rest < 8 → l + 7 ≡ 8 * rows + length rest
-    → (rest ≡ []) ⊎ (lastOf O rest ≡ last)
-    → (not (eqb (l % 8) 2) || isOne last) ≡ not (eqb (numberFrom 1 rest) 2)
-unfolding numberFrom lastOf
-ragged-by-register [] rows l last few e j = rw (bits-over l rows 0 (omega arith) e)
-ragged-by-register (z ∷ []) rows l last few e (inl n) = absurd (cons≢nil n)
-ragged-by-register (z ∷ []) rows l last few e (inr n) = rw (bits-over l rows 1 (omega arith) e, ← n) (one-by-register z)
-ragged-by-register (y ∷ z ∷ bs) rows l last few e j =
-    let long : 4 ≤ numberFrom 1 (y ∷ z ∷ bs) =
-    omega
-    (arith, number-at-least 1 1 (y ∷ z ∷ bs) (omega arith), pow-mono {i = 2} {j = length (y ∷ z ∷ bs)} (omega arith))
-    in
-    rw (
-      ne-eqb (l % 8) 2 (more-letters l rows (length (y ∷ z ∷ bs)) (omega arith) few e),
-      ne-eqb (numberFrom 1 (y ∷ z ∷ bs)) 2 (λ q. omega arith),
-    )
-
--- the tests in their turn: the number of bytes counts where they are whole, the place where a gap is out of place
-same-rule :
-    (t u : Bool) (p p′ n n′ : ℕ) → (t ≡ false → n ≡ n′) → (u ≡ true → p ≡ p′)
-    → refuseIf t 7 0 (refuseIf (ltb 6400 n) 4 0 (refuseIf u 8 p (accepted n)))
-    ≡ refuseIf t 7 0 (refuseIf (ltb 6400 n′) 4 0 (refuseIf u 8 p′ (accepted n′)))
-same-rule true u p p′ n n′ en ep = refl
-same-rule false true p p′ n n′ en ep = rw (en refl, ep refl)
-same-rule false false p p′ n n′ en ep = rw (en refl)
-
-flag-is-one : (t : Bool) → eqb (cond t 1 0) 1 ≡ t
-flag-is-one true = refl
-flag-is-one false = refl
+pub items-count : (bs : List Bit) → length (itemsRead bs) ≡ (length bs - 1) / 8
+unfolding itemsRead
+items-count [] = refl
+items-count (b ∷ bs) = length-map (rowsOf bs) itemOf ∙ rows-count bs ∙ omega arith
 
 module _ (m : Reading) (cs : List Cell) (r : Reads m cs) where
-  bits-counted : length (readBits cs) + 7 ≡ 8 * m .rows + length (r .rest)
-  unfolding padded
-  bits-counted = omega (arith, ap length (r .row .letters), length-append (r .before) (r .rest), r .row .rows)
+  abbrev counts : Counted m cs
+  counts = counted m cs r
 
-  -- the lead, and each eight bits after it
-  pub reads-rows : m .rows ≡ (length (readBits cs) + 7) / 8
-  reads-rows = omega (arith, bits-counted, r .few)
+  -- the lead and n bytes
+  pub reads-enough : (n : ℕ) → 0 < n → n ≤ m .words → 1 + 8 * n ≤ length (readBits cs)
+  reads-enough n h few = omega (arith, length-by-units cs, counts .held, counts .some)
 
-  -- so n bytes are known where more than n rows are closed
-  pub reads-enough : (n : ℕ) → n < m .rows → 1 + 8 * n ≤ length (readBits cs)
-  reads-enough n h = omega (arith, bits-counted)
-
-  pub reads-too-few : (n : ℕ) → m .rows ≤ n → length (readBits cs) < 1 + 8 * n
-  reads-too-few n h = omega (arith, bits-counted, r .few)
-
-  pub reads-items-count : length (itemsRead (readBits cs)) ≡ m .rows - 1
-  unfolding closedItems
-  reads-items-count =
-      ap length (items-so-far m cs (r .before) (r .rest) (r .row) (r .few))
-      ∙ length-drop 1 (map itemOf (rowsOf (r .before)))
-      ∙ omega (arith, length-map (rowsOf (r .before)) itemOf, rows-count (r .before), r .row .rows)
+  pub reads-too-few : (n : ℕ) → m .words < n → length (readBits cs) < 1 + 8 * n
+  reads-too-few n h = omega (arith, length-by-units cs, counts .held, counts .few)
 
   -- 7
-  pub reads-ragged : isRagged (readBits cs) ≡ not (eqb (m .register) 2)
-  unfolding isRagged endsInOne
+  pub reads-ragged : isRagged (readBits cs) ≡ not (eqb (m .held) 4)
   reads-ragged =
-      rw (r .register)
-      (ragged-by-register (r .rest) (m .rows) (length (readBits cs)) (lastOf O (readBits cs)) (r .few) bits-counted
-      (r .joined))
+      ragged-by-units cs
+      ∙ ap not
+      (same-test (unitsIn cs % 16) 4 (m .held) 4 (λ e. omega (arith, counts .held, counts .few))
+      (λ e. rw (sym (counts .held)) (omega arith)))
 
-  pub reads-bytes : isRagged (readBits cs) ≡ false → bytesRead (readBits cs) ≡ m .rows - 1
-  unfolding isRagged
-  reads-bytes h =
-      let n = or-eq-false-eq-eq-false-and-eq-false (not (eqb (length (readBits cs) % 8) 2)) (endsInOne (readBits cs)) .0 h .0 in
-      let two = eqb-true (length (readBits cs) % 8) 2 (not-false _ n) in
-      omega (arith, bits-counted, r .few)
+  pub reads-bytes : m .held ≡ 4 → bytesRead (readBits cs) ≡ m .words
+  reads-bytes h = omega (arith, length-by-units cs, counts .held)
 
-  -- 8
-  strays-before : straysOf (rowsOf (padded cs)) ≡ straysOf (rowsOf (r .before))
-  strays-before = ap straysOf (rows-so-far m cs (r .before) (r .rest) (r .row) (r .few))
+-- 8: a gap on the last letter of the whole bytes, where at most one letter follows, has left 0 0 0 1
 
-  pub reads-stray : eqb (m .stray) 1 ≡ isStray (readBits cs)
-  unfolding isStray padded
-  reads-stray =
-      rw (r .row .stray, ← strays-before, strays-of-padded (readBits cs))
-      (flag-is-one (anywhere passed (straysRead (readBits cs))))
+gap-by-digits : (a : Bit) (p : ℕ) → p % 2 ≡ digit a → isGap a ≡ eqb (numberFrom p (clockAfter a O ∷ O ∷ I ∷ []) % 16) 1
+unfolding numberFrom clockAfter
+gap-by-digits O p e = let n : (((p * 2 + 1) * 2 + 0) * 2 + 1) % 16 ≡ 5 = omega arith in rw n
+gap-by-digits I p e = let n : (((p * 2 + 0) * 2 + 0) * 2 + 1) % 16 ≡ 9 = omega arith in rw n
+gap-by-digits G p e = let n : (((p * 2 + 0) * 2 + 0) * 2 + 1) % 16 ≡ 1 = omega arith in rw n
 
-  pub reads-place : isStray (readBits cs) ≡ true → m .place ≡ strayPlace cs
-  unfolding isStray strayPlace padded places
-  reads-place h =
-      r .row .place (eqb-true (m .stray) 1 (reads-stray ∙ h))
-      ∙ ap (λ (i : ℕ). getD (places cs) i 0) (ap (lowest passed) (sym strays-before) ∙ place-of-padded (readBits cs) h)
+no-gap-before-one : (a : Bit) → T (sound a (I ∷ [])) → isGap a ≡ false
+unfolding sound follows
+no-gap-before-one O t = refl
+no-gap-before-one I t = refl
+no-gap-before-one G t = absurd t
 
-  -- the strip reader's answer
-  pub rule-of-reads : stripRule cs ≡ stripAnswer m
-  unfolding stripRule stripAnswer
-  rule-of-reads =
-      rw (← reads-ragged, reads-stray)
-      (same-rule (isRagged (readBits cs)) (isStray (readBits cs)) (strayPlace cs) (m .place)
-      (bytesRead (readBits cs)) (m .rows - 1) reads-bytes (λ h. sym (reads-place h)))
+module _ (m : Reading) (cs : List Cell) (so-far : Held m cs) where
+  abbrev o : Open m cs
+  o = so-far .0
+
+  abbrev a : Bit
+  a = lastOf (o .lead) (o .before)
+
+  last-letter : (rest : List Bit) → o .rest ≡ rest → lastOf O (readBits cs) ≡ lastOf a rest
+  unfolding lastOf
+  last-letter rest e =
+      ap (lastOf O) (o .letters) ∙ last-append O (o .lead ∷ o .before) (o .rest) ∙ ap (lastOf a) e
+
+  held-by-letters : m .held + digit (lastOf O (readBits cs)) ≡ 2 + 2 * length (o .rest)
+  held-by-letters = omega (arith, bits-known cs, letters-count m cs o, o .held)
+
+  -- where a 0 follows
+  gap-by-register : o .rest ≡ O ∷ [] → isGap a ≡ eqb (m .bits % 16) 1
+  unfolding lastOf cellsAfter dataOf
+  gap-by-register e =
+      let front = cellsAfter O (o .lead ∷ o .before) in
+      let digits : track cs ≡ front ++ (clockAfter a O ∷ O ∷ I ∷ []) =
+      track-of-letters cs
+      ∙ ap (λ (z : Bit). cellsAfter O (readBits cs) ++ clockAtEnd z) (last-letter (O ∷ []) e)
+      ∙ ap (λ (l : List Bit). cellsAfter O l ++ (I ∷ [])) (o .letters)
+      ∙ ap (λ (l : List Bit). cellsAfter O (o .lead ∷ o .before ++ l) ++ (I ∷ [])) e
+      ∙ ap (λ (l : List Bit). l ++ (I ∷ [])) (cells-after-append O (o .lead ∷ o .before) (O ∷ []))
+      ∙ append-assoc front (clockAfter a O ∷ O ∷ []) (I ∷ []) in
+      gap-by-digits a (numberFrom 0 front) (last-digit-is-data 0 O (o .lead) (o .before))
+      ∙ ap (λ (n : ℕ). eqb (n % 16) 1)
+      (sym (number-append 0 front (clockAfter a O ∷ O ∷ I ∷ [])) ∙ ap (numberFrom 0) (sym digits))
+      ∙ ap (λ (n : ℕ). eqb n 1)
+      (sym (mod-mod-pow (numberFrom 0 (track cs)) 28 4) ∙ ap (λ (n : ℕ). n % 16) (sym (o .bits)))
+
+  last-gap : (rest : List Bit) → o .rest ≡ rest → m .held ≤ 4 → isGap a ≡ endsInGap m
+  unfolding lastOf
+  last-gap [] e few =
+      let held = held-by-letters in
+      let none = ap isGap (sym (last-letter [] e)) ∙ last-is-no-gap cs in
+      rw (none, ne-eqb (m .held) 4 (λ h. omega (arith, ap length e)))
+  last-gap (O ∷ []) e few =
+      let held = held-by-letters in
+      rw (eq-eqb (m .held) 4 (omega (arith, ap length e, ap digit (last-letter (O ∷ []) e)))) (gap-by-register e)
+  last-gap (I ∷ []) e few =
+      let held = held-by-letters in
+      let none =
+      no-gap-before-one a
+      (subst (λ (l : List Bit). T (sound a l)) e
+      (sound-rest O (o .lead ∷ o .before) (o .rest)
+      (subst (λ (l : List Bit). T (sound O l)) (o .letters) (read-is-sound cs)))) in
+      rw (none, ne-eqb (m .held) 4 (λ h. omega (arith, ap length e, ap digit (last-letter (I ∷ []) e))))
+  last-gap (G ∷ []) e few = absurd (true≢false (ap isGap (sym (last-letter (G ∷ []) e)) ∙ last-is-no-gap cs))
+  last-gap (b ∷ c ∷ rest) e few =
+      absurd (omega (arith, ap length e, letters-count m cs o, length-by-units cs, o .held))
+
+  open-strays : m .held ≤ 4 → straysRead (readBits cs) ≡ o .front ++ (endsInGap m ∷ [])
+  open-strays few = strays-so-far m cs so-far ∙ ap (λ (t : Bool). o .front ++ (t ∷ [])) (last-gap (o .rest) refl few)
+
+  open-stray : m .held ≤ 4 → strayNow m ≡ isStray (readBits cs)
+  unfolding isStray anywhere
+  open-stray few =
+      sym
+      (ap (anywhere passed) (open-strays few)
+      ∙ anywhere-of-append passed (o .front) (endsInGap m ∷ [])
+      ∙ ap (λ (t : Bool). anywhere passed (o .front) || t) (or-false (endsInGap m))
+      ∙ ap (λ (t : Bool). t || endsInGap m) (sym (o .stray)))
+
+  -- its cell is the last
+  place-of-last : endsInGap m ≡ true → length cs - 1 ≡ getD (sources cs) (8 * m .words) 0
+  unfolding ones onesIn
+  place-of-last h =
+      let p : Bool = eqb (m .held) 4 in
+      let q : Bool = eqb (m .bits % 16) 1 in
+      let four : m .held ≡ 4 = eqb→eq _ _ (left-of p q (holds (p && q) h)) in
+      let one : m .bits % 16 ≡ 1 = eqb→eq _ _ (right-of p q (holds (p && q) h)) in
+      let counted =
+      place-by-ones cs (8 * m .words) 3 (omega (arith, letters-count m cs o)) (omega (arith, o .held)) (omega arith) .1
+      in
+      let last = ap ones (sym one ∙ ap (λ (n : ℕ). n % 16) (o .bits)) in
+      omega arith
+
+  open-place :
+      (s t : Bool) → m .stray ≡ s → endsInGap m ≡ t → (s || t) ≡ true
+      → cond s (m .place) (length cs - 1) ≡ getD (sources cs) (lowest passed (o .front ++ (t ∷ []))) 0
+  unfolding lowest
+  open-place true t es et h =
+      rw (lowest-in-front passed (o .front) (t ∷ []) (sym (o .stray) ∙ es)) (o .place es)
+  open-place false true es et h =
+      rw (
+        lowest-past-front passed (o .front) (true ∷ []) (sym (o .stray) ∙ es),
+        front-length m cs o,
+        add-zero (8 * m .words),
+      )
+      (place-of-last et)
+  open-place false false es et h = absurd (true≢false (sym h))
+
+-- What the machine holds at the end, where at most one letter follows the whole bytes
+
+pub reads-stray : (m : Reading) (cs : List Cell) → Reads m cs → m .held ≤ 4 → strayNow m ≡ isStray (readBits cs)
+unfolding freshReading isStray readBits readFrom straysRead anywhere
+reads-stray m cs (inl e) few = rw (e .0, e .1)
+reads-stray m cs (inr so-far) few = open-stray m cs so-far few
+
+pub reads-place :
+    (m : Reading) (cs : List Cell) → Reads m cs → m .held ≤ 4 → isStray (readBits cs) ≡ true
+    → placeNow m (length cs - 1) ≡ strayPlace cs
+unfolding isStray readBits readFrom straysRead anywhere strayPlace
+reads-place m cs (inl e) few h =
+    absurd (true≢false (sym h ∙ ap (λ (l : List Cell). anywhere passed (straysRead (readFrom O l))) (e .1)))
+reads-place m cs (inr so-far) few h =
+    rw (open-strays m cs so-far few)
+    (open-place m cs so-far (m .stray) (endsInGap m) refl refl (open-stray m cs so-far few ∙ h))
+
+-- the tests in their turn: the number of bytes and the gaps count where the bytes are whole, the place where a gap is
+-- out of place
+same-rule :
+    (t u u′ : Bool) (p p′ n n′ : ℕ) → (t ≡ false → (n ≡ n′) × (u ≡ u′)) → (t ≡ false → u ≡ true → p ≡ p′)
+    → refuseIf t 7 0 (refuseIf (ltb 6400 n) 4 0 (refuseIf u 8 p (accepted n)))
+    ≡ refuseIf t 7 0 (refuseIf (ltb 6400 n′) 4 0 (refuseIf u′ 8 p′ (accepted n′)))
+same-rule true u u′ p p′ n n′ e ep = refl
+same-rule false true u′ p p′ n n′ e ep = rw (e refl .0, sym (e refl .1), ep refl refl)
+same-rule false false u′ p p′ n n′ e ep = rw (e refl .0, sym (e refl .1))
+
+-- the strip reader's answer
+pub rule-of-reads : (m : Reading) (cs : List Cell) → Reads m cs → stripRule cs ≡ stripAnswer m (length cs - 1)
+unfolding stripRule stripAnswer
+rule-of-reads m cs r =
+    let ragged = reads-ragged m cs r in
+    let four : isRagged (readBits cs) ≡ false → m .held ≡ 4 =
+    (λ h. eqb-true (m .held) 4 (not-false _ (sym ragged ∙ h))) in
+    rw (← ragged)
+    (same-rule (isRagged (readBits cs)) (isStray (readBits cs)) (strayNow m) (strayPlace cs)
+    (placeNow m (length cs - 1)) (bytesRead (readBits cs)) (m .words)
+    (λ h. let held = four h in (reads-bytes m cs r held, sym (reads-stray m cs r (omega arith))))
+    (λ h s. let held = four h in sym (reads-place m cs r (omega arith) s)))

@@ -1,20 +1,19 @@
 -- The letters of a list of bytes fall into rows of eight, each the row of its byte; and letters that fall into rows
 -- without a gap out of place are the letters of the bytes that they read as.
-use Prim.Native.Nat.{ℕ, _*_, _%_}
+use Prim.Native.Nat.{ℕ, _*_, _%_, _<_}
 use mathlib.Core.Path.{_≡_, refl, ap, sym, _∙_}
 use mathlib.Core.Bool.{Bool, true, false, cond}
 use mathlib.Core.List.{List, [], _∷_, _++_, map, append-assoc}
-use mathlib.Mathlib.Data.Bool.Basic.{or-eq-false-eq-eq-false-and-eq-false}
 use native.Mathlib.Omega.{arith}
 use lib.ListN.{length, length-append}
 use Rattle.lists.specs.Place.{anywhere, everywhere, passed}
-use Rattle.lists.proofs.PlaceLaws.{everywhere-of-none, everywhere-of-passing}
+use Rattle.lists.proofs.PlaceLaws.{anywhere-of-append, everywhere-of-none, everywhere-of-passing}
 use Rattle.lists.proofs.PlaceLaws.{everywhere-passes-at-first, everywhere-in-rest}
 use Rattle.items.specs.Item.{isMark, isByte}
 use Rattle.symbols.specs.Bits.{Bit, O, byteBits, markBits, withGaps, writtenBits, allBits}
 use Rattle.symbols.specs.Bytes.{itemOf, rowStrays, rowsOf, straysOf, itemsRead, straysRead}
-use Rattle.symbols.proofs.TestLaws.{holds, held}
-use Rattle.symbols.proofs.PlaceLaws.{anywhere-append}
+use Rattle.symbols.proofs.TestLaws.{neither, holds, held}
+use Rattle.symbols.proofs.PlaceLaws.{by-rows}
 use Rattle.symbols.proofs.RowLaws.{item-of-written-byte, written-byte-has-no-stray}
 use Rattle.symbols.proofs.RowLaws.{row-is-a-byte, written-of-row}
 
@@ -78,7 +77,7 @@ unfolding straysOf anywhere
 rows-have-no-stray [] e = refl
 rows-have-no-stray (w ∷ ws) e =
     rw (
-      anywhere-append passed (rowStrays (writtenBits w)),
+      anywhere-of-append passed (rowStrays (writtenBits w)),
       written-byte-has-no-stray w (holds (isByte w) (everywhere-passes-at-first isByte w ws e)),
       rows-have-no-stray ws (everywhere-in-rest isByte w ws e),
     )
@@ -119,20 +118,20 @@ whole-row a b c d e f g h bs fair w =
           ∙ w .bytes;
     }
 
+one-letter :
+    (bs : List Bit) → length bs < 8 → length bs % 8 ≡ 1 → anywhere passed (straysOf (rowsOf bs)) ≡ false → Whole bs
+unfolding rowsOf allBits
+one-letter [] few n fair = absurd (omega arith)
+one-letter (a ∷ []) few n fair = record { last = a; letters = refl; bytes = everywhere-of-none isByte }
+one-letter (a ∷ b ∷ bs) few n fair = absurd (omega arith)
+
 pub whole : (bs : List Bit) → length bs % 8 ≡ 1 → anywhere passed (straysOf (rowsOf bs)) ≡ false → Whole bs
-unfolding rowsOf straysOf allBits
-whole [] n fair = absurd (omega arith)
-whole (a ∷ []) n fair = record { last = a; letters = refl; bytes = everywhere-of-none isByte }
-whole (a ∷ b ∷ []) n fair = absurd (omega arith)
-whole (a ∷ b ∷ c ∷ []) n fair = absurd (omega arith)
-whole (a ∷ b ∷ c ∷ d ∷ []) n fair = absurd (omega arith)
-whole (a ∷ b ∷ c ∷ d ∷ e ∷ []) n fair = absurd (omega arith)
-whole (a ∷ b ∷ c ∷ d ∷ e ∷ f ∷ []) n fair = absurd (omega arith)
-whole (a ∷ b ∷ c ∷ d ∷ e ∷ f ∷ g ∷ []) n fair = absurd (omega arith)
-whole (a ∷ b ∷ c ∷ d ∷ e ∷ f ∷ g ∷ h ∷ bs) n fair =
+unfolding rowsOf straysOf
+whole =
+    by-rows (λ bs. length bs % 8 ≡ 1 → anywhere passed (straysOf (rowsOf bs)) ≡ false → Whole bs) one-letter
+    λ a b c d e f g h bs more n fair.
     let row = a ∷ b ∷ c ∷ d ∷ e ∷ f ∷ g ∷ h ∷ [] in
     let parts =
-    or-eq-false-eq-eq-false-and-eq-false (anywhere passed (rowStrays row)) (anywhere passed (straysOf (rowsOf bs))) .0
-    (sym (anywhere-append passed (rowStrays row) (straysOf (rowsOf bs))) ∙ fair)
-    in
-    whole-row a b c d e f g h bs (parts .0) (whole bs (omega arith) (parts .1))
+    neither (anywhere passed (rowStrays row)) (anywhere passed (straysOf (rowsOf bs)))
+    (sym (anywhere-of-append passed (rowStrays row) (straysOf (rowsOf bs))) ∙ fair) in
+    whole-row a b c d e f g h bs (parts .0) (more (omega arith) (parts .1))

@@ -1,154 +1,246 @@
--- A row of eight letters is closed: its byte, its item and its verdict are those of the definitions, and of all gaps
--- out of place the machine keeps the lowest.
-use Prim.Native.Nat.{ℕ, zero, _+_, _%_, _^_, _<_}
-use mathlib.Core.Path.{_≡_, refl, ap, sym, _∙_}
+-- A word is whole: its half cells are those of the row of eight letters after the letters before it, so its item and
+-- the gaps that it shows are those of the definitions, and of all gaps out of place the machine keeps the lowest.
+use Prim.Native.Nat.{ℕ, _+_, _-_, _*_, _/_, _%_, _^_, _≤_, _<_}
+use mathlib.Core.Path.{_≡_, refl, ap, ap₂, sym, _∙_}
 use mathlib.Core.Bool.{Bool, true, false, cond, not, _&&_, _||_, true≢false}
-use mathlib.Core.List.{List, [], _∷_, _++_, append-assoc, append-nil}
+use mathlib.Core.List.{List, [], _∷_, _++_, map, append-assoc, append-nil, map-append}
 use native.Mathlib.Nat.{mod-eq-of-lt}
 use native.Mathlib.Omega.{arith}
-use borrow.Author.Tests.{eq-eqb, ne-eqb}
-use lib.Dec.{T, eqb}
-use lib.ListN.{length, getD, length-append}
+use lib.Count.{ones, leadingZeros}
+use lib.ListN.{length, getD, take, drop, length-append, length-take, length-drop, take-append-drop}
+use lib.Seq.{append-snoc, length-take-le}
 use Rattle.lists.specs.Place.{anywhere, lowest, passed}
-use Rattle.symbols.specs.Bits.{Bit, O}
-use Rattle.symbols.specs.Bytes.{numberFrom, isGap, rowStrays, rowsOf, straysOf}
-use Rattle.symbols.specs.Machine.{inPlace, misfits, closed}
+use Rattle.lists.proofs.PlaceLaws.{anywhere-of-append, lowest-of-some}
+use Rattle.symbols.specs.Bits.{Bit, O, lastOf}
+use Rattle.symbols.specs.Bytes.{numberFrom, isGap, itemOf, rowStrays, rowsOf, straysOf, itemsRead}
+use Rattle.symbols.specs.Reading.{readBits, sources}
+use Rattle.symbols.specs.Strip.{isStray}
+use Rattle.symbols.specs.machine.Word.{missing, misfits, wordItem, cellsSince, firstOfCells}
+use Rattle.symbols.specs.machine.Step.{surplus, wordOf, closed}
 use Rattle.symbols.specs.declared.Cell.{Cell}
 use Rattle.symbols.specs.declared.Reading.{Reading}
-use Rattle.symbols.proofs.TestLaws.{and-false, both, left-of, right-of}
-use Rattle.symbols.proofs.PlaceLaws.{anywhere-append}
-use Rattle.symbols.proofs.PlaceLaws.{lowest-in-front, lowest-past-front, rows-append}
-use Rattle.symbols.proofs.PlaceLaws.{strays-append, strays-length}
-use Rattle.symbols.proofs.RegisterLaws.{gapCode, follows, sound, Verdict, eight-letters, row-verdict}
-use Rattle.symbols.proofs.MachineLaws.{places, Row, rows-are-whole}
-use Rattle.symbols.proofs.GapLaws.{gap-code-before-plain, gap-is-some}
+use Rattle.symbols.proofs.TestLaws.{neither}
+use Rattle.symbols.proofs.CellLaws.{last-append, sound-front, sound-rest, read-is-sound}
+use Rattle.symbols.proofs.PlaceLaws.{lowest-in-front, lowest-past-front, rows-append, strays-append, one-row}
+use Rattle.symbols.proofs.HalfCells.{cellsAfter, track, clockAtEnd}
+use Rattle.symbols.proofs.HalfLaws.{cells-after-append, cells-after-length, halves-length, track-of-letters}
+use Rattle.symbols.proofs.WordLaws.{wordAfter, shownTests, Verdict, word-verdict, row-strays-end}
+use Rattle.symbols.proofs.NumberLaws.{number-append, last-digit-is-data, word-of-digits}
+use Rattle.symbols.proofs.SourceLaws.{place-by-ones}
+use Rattle.symbols.proofs.ReadsLaws.{Open, Held, whole-rows, front-length, letters-count}
+use Rattle.symbols.proofs.ReadsLaws.{items-so-far, strays-so-far}
 
-sound-front : (b : Bit) (xs ys : List Bit) → T (sound b (xs ++ ys)) → T (sound b xs)
-unfolding sound
-sound-front b [] ys t = tt
-sound-front b (x ∷ xs) ys t =
-    both (follows b x) (sound x xs) (left-of (follows b x) (sound x (xs ++ ys)) t)
-    (sound-front x xs ys (right-of (follows b x) (sound x (xs ++ ys)) t))
+either-order : (a b : Bool) → (a || b) ≡ (b || a)
+either-order true true = refl
+either-order true false = refl
+either-order false true = refl
+either-order false false = refl
 
-one-row : (row : List Bit) → length row ≡ 8 → rowsOf row ≡ row ∷ []
-unfolding rowsOf
-one-row = eight-letters (λ row. rowsOf row ≡ row ∷ []) λ a b c d e f g h. refl
-
--- Two tests, of the rows before and of the row that is closed
-
-misfit-has-gap : (byte gap : ℕ) → misfits byte gap ≡ true → gap ≡ 0 → ⊥
-unfolding misfits
-misfit-has-gap byte gap h z =
-    true≢false (sym h ∙ ap (λ (t : Bool). cond t false (not (inPlace byte gap))) (eq-eqb gap 0 z))
-
-either-flag : (a b : Bool) → _≡_ {A = ℕ} (cond b 1 (cond a 1 0)) (cond (a || b) 1 0)
-either-flag true true = refl
-either-flag true false = refl
-either-flag false true = refl
-either-flag false false = refl
-
+-- m has a word whole: of the letters that are left the first eight are its row
 module _
     (m : Reading)
     (cs : List Cell)
-    (before row rest : List Bit)
-    (r : Row m cs before (row ++ rest))
-    (eight : length row ≡ 8)
-    (plain : anywhere isGap rest ≡ false)
+    (o : Open m cs)
+    (range : (17 ≤ m .held) × (m .held ≤ 20))
+    (room : length cs ≤ 2 ^ 32)
+    (rows : (8 ≤ length (o .rest)) × (length (o .rest) < 16))
   where
-    pub gap-of-row : m .gap ≡ gapCode 1 row
-    gap-of-row = r .gap ∙ gap-code-before-plain 1 row rest plain
+    abbrev lead : Bit
+    lead = o .lead
 
-    pub verdict : Verdict row
-    verdict = row-verdict row eight (sound-front O row rest (r .fair))
+    abbrev before : List Bit
+    before = o .before
 
-    whole : length before % 8 ≡ 0
-    whole = rows-are-whole before (m .rows) (r .rows)
+    abbrev front : List Bool
+    front = o .front
 
-    pub rows-grown : rowsOf (before ++ row) ≡ rowsOf before ++ (row ∷ [])
-    rows-grown = rows-append before row whole ∙ ap (λ (x : List (List Bit)). rowsOf before ++ x) (one-row row eight)
+    abbrev row : List Bit
+    row = take 8 (o .rest)
 
-    abbrev tests : List Bool
-    tests = straysOf (rowsOf before) ++ rowStrays row
+    abbrev rest : List Bit
+    rest = drop 8 (o .rest)
 
-    strays-grown : straysOf (rowsOf (before ++ row)) ≡ tests
-    unfolding straysOf
-    strays-grown =
-        ap straysOf rows-grown ∙ strays-append (rowsOf before) (row ∷ [])
-        ∙ ap (λ (x : List Bool). straysOf (rowsOf before) ++ x) (append-nil (rowStrays row))
+    abbrev a : Bit
+    a = lastOf lead before
 
-    strayed : Bool
-    strayed = anywhere passed (straysOf (rowsOf before))
+    eight : length row ≡ 8
+    eight = length-take-le 8 (o .rest) (rows .0)
 
-    misfit : Bool
-    misfit = misfits (numberFrom 0 row) (m .gap)
+    letters : readBits cs ≡ (lead ∷ before) ++ (row ++ rest)
+    letters = o .letters ∙ ap (λ (l : List Bit). (lead ∷ before) ++ l) (sym (take-append-drop 8 (o .rest)))
 
-    misfit-of-row : anywhere passed (rowStrays row) ≡ misfit
-    unfolding misfit
-    misfit-of-row = verdict .stray ∙ ap (misfits (numberFrom 0 row)) (sym gap-of-row)
+    abbrev tail : List Bit
+    tail = cellsAfter (lastOf a row) rest ++ clockAtEnd (lastOf O (readBits cs))
 
-    strayed-grown : anywhere passed (straysOf (rowsOf (before ++ row))) ≡ (strayed || misfit)
-    unfolding strayed
-    strayed-grown =
-        ap (anywhere passed) strays-grown ∙ anywhere-append passed (straysOf (rowsOf before)) (rowStrays row)
-        ∙ ap (λ (t : Bool). anywhere passed (straysOf (rowsOf before)) || t) misfit-of-row
-
-    -- of the rows before, the lowest gap out of place is kept
-    lowest-before :
-        (b : Bool) → strayed ≡ true
-        → cond (b && eqb (m .stray) 0) (m .source) (m .place) ≡ getD (places cs) (lowest passed tests) 0
-    unfolding strayed
-    lowest-before b e =
-        let one : m .stray ≡ 1 = r .stray ∙ ap (λ (t : Bool). cond t 1 0) e in
-        rw (
-          ne-eqb (m .stray) 0 (λ z. omega arith),
-          and-false b,
-          lowest-in-front passed (straysOf (rowsOf before)) (rowStrays row) e,
+    track-split : track cs ≡ cellsAfter O (lead ∷ before) ++ (cellsAfter a row ++ tail)
+    unfolding lastOf
+    track-split =
+        track-of-letters cs
+        ∙ ap (λ (l : List Bit). cellsAfter O l ++ clockAtEnd (lastOf O (readBits cs))) letters
+        ∙ rw (
+          cells-after-append O (lead ∷ before) (row ++ rest),
+          cells-after-append a row rest,
+          append-assoc (cellsAfter O (lead ∷ before)),
+          append-assoc (cellsAfter a row),
         )
-        (r .place one)
 
-    -- else the first gap of this row is the lowest
-    lowest-here :
-        strayed ≡ false → misfit ≡ true
-        → m .source ≡ getD (places cs) (lowest passed tests) 0
-    unfolding strayed misfit
-    lowest-here e here =
-        let some = misfit-has-gap (numberFrom 0 row) (m .gap) here in
-        let first = lowest-in-front isGap row rest (gap-is-some row (m .gap) gap-of-row some) in
-        let in-row = verdict .place (ap (misfits (numberFrom 0 row)) (sym gap-of-row) ∙ here) in
-        let at : lowest passed tests ≡ length before + lowest isGap (row ++ rest) =
+    tail-length : length tail + 17 ≡ m .held
+    unfolding track
+    tail-length =
         omega (
           arith,
-          lowest-past-front passed (straysOf (rowsOf before)) (rowStrays row) e,
-          strays-length before whole,
-          first,
-          in-row,
+          ap length track-split,
+          halves-length cs,
+          length-append (cellsAfter O (lead ∷ before)) (cellsAfter a row ++ tail),
+          length-append (cellsAfter a row) tail,
+          cells-after-length O (lead ∷ before),
+          cells-after-length a row,
+          o .held,
+          o .whole,
+          eight,
         )
-        in
-        rw at (r .source some)
+
+    surplus-is-tail : surplus m ≡ length tail
+    unfolding surplus
+    surplus-is-tail =
+        let e : m .held - 17 ≡ length tail = omega (arith, tail-length) in
+        rw e (mod-eq-of-lt (let r = range .1 in omega (arith, tail-length)))
+
+    pub word-is-row : wordOf m ≡ wordAfter a row
+    unfolding wordOf
+    word-is-row =
+        let front = cellsAfter O (lead ∷ before) in
+        let n : ℕ = numberFrom 0 front in
+        let digits : m .bits ≡ numberFrom n (cellsAfter a row ++ tail) % 2 ^ 32 =
+        o .bits
+        ∙ ap (λ (x : ℕ). x % 2 ^ 32)
+        (ap (numberFrom 0) track-split ∙ number-append 0 front (cellsAfter a row ++ tail)) in
+        ap₂ (λ (x k : ℕ). x / 2 ^ k % 2 ^ 17) digits surplus-is-tail
+        ∙ word-of-digits n a row tail (15 - length tail) (last-digit-is-data 0 O lead before) eight
+        (let r = range .1 in omega (arith, tail-length))
+
+    pub verdict : Verdict a row
+    unfolding lastOf
+    verdict =
+        word-verdict a row eight
+        (sound-front a row rest
+        (sound-rest O (lead ∷ before) (row ++ rest) (rw letters at (read-is-sound cs))))
+
+    -- The gaps that it shows
+
+    abbrev tests : List Bool
+    tests = shownTests a row
+
+    pub rows-grown : rowsOf (before ++ row) ≡ rowsOf before ++ (row ∷ [])
+    rows-grown =
+        rows-append before row (whole-rows m cs o)
+        ∙ ap (λ (x : List (List Bit)). rowsOf before ++ x) (one-row row eight)
+
+    strays-grown :
+        isGap lead ∷ straysOf (rowsOf (before ++ row))
+        ≡ (front ++ tests) ++ (isGap (lastOf lead (before ++ row)) ∷ [])
+    unfolding straysOf
+    strays-grown =
+        ap (λ (x : List (List Bit)). isGap lead ∷ straysOf x) rows-grown
+        ∙ ap (λ (x : List Bool). isGap lead ∷ x) (strays-append (rowsOf before) (row ∷ []))
+        ∙ ap (λ (x : List Bool). isGap lead ∷ straysOf (rowsOf before) ++ x) (append-nil (rowStrays row))
+        ∙ ap (λ (x : List Bool). x ++ rowStrays row) (o .strays)
+        ∙ append-snoc front (isGap a) (rowStrays row)
+        ∙ ap (λ (x : List Bool). front ++ x) (row-strays-end a row eight)
+        ∙ sym (append-assoc front tests (isGap (lastOf a row) ∷ []))
+        ∙ ap (λ (b : Bit). (front ++ tests) ++ (isGap b ∷ [])) (sym (last-append lead before row))
+
+    pub misfit-of-row : anywhere passed tests ≡ misfits (wordOf m)
+    misfit-of-row = verdict .stray ∙ ap misfits (sym word-is-row)
+
+    stray-grown : (misfits (wordOf m) || m .stray) ≡ anywhere passed (front ++ tests)
+    stray-grown =
+        either-order (misfits (wordOf m)) (m .stray)
+        ∙ ap (λ (t : Bool). t || misfits (wordOf m)) (o .stray)
+        ∙ ap (λ (t : Bool). anywhere passed front || t) (sym misfit-of-row)
+        ∙ sym (anywhere-of-append passed front tests)
+
+    -- the first gap that it shows is the lowest, where none was out of place before
+    lowest-here :
+        anywhere passed front ≡ false → misfits (wordOf m) ≡ true
+        → firstOfCells (length cs - 1) (cellsSince (m .bits) (surplus m) (missing (wordOf m)))
+        ≡ getD (sources cs) (lowest passed (front ++ tests)) 0
+    unfolding cellsSince firstOfCells shownTests
+    lowest-here none here =
+        let k = lowest passed tests in
+        let zeros : leadingZeros 32 (missing (wordOf m)) ≡ 15 + 2 * k =
+        ap (λ (x : ℕ). leadingZeros 32 (missing x)) word-is-row
+        ∙ verdict .place (ap misfits (sym word-is-row) ∙ here) in
+        let few : k < 8 =
+        omega (arith, lowest-of-some passed tests (misfit-of-row ∙ here), length-take 7 (rowStrays row)) in
+        let i : ℕ = 8 * m .words + k in
+        let q : ℕ = length tail + 16 - 2 * k in
+        let at : lowest passed (front ++ tests) ≡ i =
+        lowest-past-front passed front tests none ∙ ap (λ (n : ℕ). n + k) (front-length m cs o) in
+        let exponent : (surplus m + 32 - leadingZeros 32 (missing (wordOf m))) % 32 ≡ q + 1 =
+        ap (λ (n : ℕ). n % 32) (omega (arith, surplus-is-tail))
+        ∙ mod-eq-of-lt (let r = range .1 in omega (arith, tail-length)) in
+        let inside : i < length (readBits cs) =
+        (let r = rows .0 in omega (arith, letters-count m cs o)) in
+        let small : q < 32 = (let r = range .1 in omega (arith, tail-length)) in
+        let counted = place-by-ones cs i q inside (omega (arith, tail-length, o .held)) small in
+        let some = counted .0 in
+        let all = counted .1 in
+        let same = ap₂ (λ (n e : ℕ). ones (n % 2 ^ e)) (o .bits) exponent in
+        rw at (omega arith)
 
     lowest-grown :
-        (a b : Bool) → strayed ≡ a → misfit ≡ b → _≡_ {A = ℕ} (cond b 1 (m .stray)) 1
-        → cond (b && eqb (m .stray) 0) (m .source) (m .place) ≡ getD (places cs) (lowest passed tests) 0
-    unfolding strayed
-    lowest-grown true b ea eb h = lowest-before b ea
-    lowest-grown false true ea eb h =
-        rw (eq-eqb (m .stray) 0 (r .stray ∙ ap (λ (t : Bool). cond t 1 0) ea)) (lowest-here ea eb)
-    lowest-grown false false ea eb h =
-        let zero : m .stray ≡ 0 = r .stray ∙ ap (λ (t : Bool). cond t 1 0) ea in
-        absurd (omega arith)
+        (s t : Bool) → m .stray ≡ s → misfits (wordOf m) ≡ t → (t || s) ≡ true
+        → cond (t && not s)
+        (firstOfCells (length cs - 1) (cellsSince (m .bits) (surplus m) (missing (wordOf m))))
+        (m .place)
+        ≡ getD (sources cs) (lowest passed (front ++ tests)) 0
+    lowest-grown true true es et h = rw (lowest-in-front passed front tests (sym (o .stray) ∙ es)) (o .place es)
+    lowest-grown true false es et h = rw (lowest-in-front passed front tests (sym (o .stray) ∙ es)) (o .place es)
+    lowest-grown false true es et h = lowest-here (sym (o .stray) ∙ es) et
+    lowest-grown false false es et h = absurd (true≢false (sym h))
 
-    -- the row is closed, and the next one begins
-    pub row-closed :
-        T (sound O rest) → m .rows + 1 < 2 ^ 32 → (register : ℕ)
-        → Row (closed m (numberFrom 0 row) register) cs (before ++ row) rest
-    unfolding closed strayed misfit gapCode
-    row-closed fair room register =
-        record {
-          letters = r .letters ∙ sym (append-assoc before row rest);
-          rows = rw (mod-eq-of-lt room) (omega (arith, length-append before row, eight, r .rows));
-          fair = fair;
-          gap = sym (gap-code-before-plain 1 [] rest plain);
-          source = λ h. absurd (h refl);
-          stray = rw (strayed-grown, r .stray) (either-flag strayed misfit);
-          place = rw strays-grown (lowest-grown strayed misfit refl refl);
-        }
+    pub word-closed : m .words + 1 < 2 ^ 32 → Held (closed m (length cs - 1)) cs
+    unfolding closed
+    word-closed words = (
+      record {
+        lead = lead;
+        before = before ++ row;
+        rest = rest;
+        front = front ++ tests;
+        letters = letters ∙ ap (λ (l : List Bit). lead ∷ l) (sym (append-assoc before row rest));
+        whole = rw (mod-eq-of-lt words) (omega (arith, length-append before row, eight, o .whole));
+        held = rw (mod-eq-of-lt words) (let r = range .0 in omega (arith, o .held));
+        bits = o .bits;
+        strays = strays-grown;
+        stray = stray-grown;
+        place = lowest-grown (m .stray) (misfits (wordOf m)) refl refl;
+      },
+      (let r = rows .1 in rw (length-drop 8 (o .rest)) (omega arith)),
+    )
+
+    -- where no gap is out of place, its item is that of the row
+    pub fair-word :
+        m .words + 1 < 2 ^ 32 → isStray (readBits cs) ≡ false
+        → (anywhere passed (front ++ (isGap a ∷ [])) ≡ false)
+        × (itemsRead (readBits cs) ≡ map itemOf (rowsOf before) ++ (wordItem (wordOf m) ∷ []))
+    unfolding isStray word-closed anywhere shownTests
+    fair-word words fair =
+        let after : Held (closed m (length cs - 1)) cs = word-closed words in
+        let last : Bool = isGap (lastOf lead (before ++ row)) in
+        let apart = neither (anywhere passed (front ++ tests)) (last || false)
+        (sym (anywhere-of-append passed (front ++ tests) (last ∷ []))
+        ∙ ap (anywhere passed) (sym (strays-so-far (closed m (length cs - 1)) cs after)) ∙ fair) in
+        let shown = neither (anywhere passed front) (anywhere passed tests)
+        (sym (anywhere-of-append passed front tests) ∙ apart .0) in
+        let a-is-none = neither (isGap a) (anywhere passed (take 7 (rowStrays row))) (shown .1) .0 in
+        let item : itemOf row ≡ wordItem (wordOf m) =
+        verdict .item (sym (verdict .stray) ∙ shown .1)
+        (ap isGap (sym (last-append lead before row)) ∙ neither last false (apart .1) .0)
+        ∙ ap wordItem (sym word-is-row) in (
+          rw (anywhere-of-append passed front (isGap a ∷ []), shown .0, a-is-none),
+          items-so-far (closed m (length cs - 1)) cs after
+              ∙ ap (map itemOf) rows-grown
+              ∙ map-append itemOf (rowsOf before) (row ∷ [])
+              ∙ ap (λ (n : ℕ). map itemOf (rowsOf before) ++ (n ∷ [])) item,
+        )

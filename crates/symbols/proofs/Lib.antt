@@ -17,16 +17,16 @@ pub mod UnitLaws
 pub mod MiddleLaws
 -- The cells of the bytes that a track is laid out with
 pub mod FormatLaws
--- The reading machine, bottom to top: the register, places, the open row, closing it, the invariant, pushing letters,
--- a cell's letters, one cell more, and what a caller learns
-pub mod RegisterLaws
-pub mod PlaceLaws
-pub mod GapLaws
-pub mod MachineLaws
-pub mod ClosingLaws
-pub mod ReadsLaws
-pub mod PushLaws
+-- The reading machine, bottom to top
 pub mod CellLaws
+pub mod PlaceLaws
+pub mod HalfCells
+pub mod HalfLaws
+pub mod WordLaws
+pub mod NumberLaws
+pub mod SourceLaws
+pub mod ReadsLaws
+pub mod ClosingLaws
 pub mod StepLaws
 pub mod AnswerLaws
 pub mod RunLaws

@@ -1,39 +1,20 @@
--- Places in lists that grow at the end: the lowest place, what stands at a place, whole rows and the tests of their
--- letters, and the cells that gave the letters.
+-- Places in lists that grow at the end: the lowest place, whole rows and the tests of their letters, and the cells that
+-- gave the letters.
 use Prim.Native.Nat.{ℕ, suc, _+_, _%_, _<_}
-use mathlib.Core.Path.{_≡_, refl, ap, sym, _∙_}
+use mathlib.Core.Path.{_≡_, refl, ap, sym}
 use mathlib.Core.Bool.{Bool, true, false, cond, _||_, true≢false}
 use mathlib.Core.List.{List, [], _∷_, _++_, append-assoc, append-nil}
 use native.Mathlib.Nat.{add-zero, zero-add, suc-add, add-suc}
 use native.Mathlib.Omega.{arith}
-use lib.ListN.{length, length-append}
+use lib.ListN.{length, getD, length-append, List·getD-append}
 use Rattle.lists.specs.Place.{anywhere, lowest}
-use Rattle.symbols.specs.Bits.{Bit, lastOf}
+use Rattle.symbols.specs.Bits.{Bit, O, lastOf}
 use Rattle.symbols.specs.Bytes.{rowsOf, rowStrays, straysFrom, straysOf}
-use Rattle.symbols.specs.Reading.{given, lastAfter, readFrom, sourceOf, sourcesFrom}
+use Rattle.symbols.specs.Reading.{given, lastAfter, readFrom, readBits, sourceOf, sourcesFrom, sources}
 use Rattle.symbols.specs.declared.Cell.{Cell}
-use Rattle.symbols.proofs.TestLaws.{or-assoc}
 use Rattle.symbols.proofs.ReadingLaws.{last-of-given}
 
--- Whether a test passes anywhere, and the lowest place
-
-pub anywhere-append :
-    {A : Type 0} (f : A → Bool) (xs ys : List A) → anywhere f (xs ++ ys) ≡ (anywhere f xs || anywhere f ys)
-unfolding anywhere
-anywhere-append f [] ys = refl
-anywhere-append f (x ∷ xs) ys =
-    ap (λ (t : Bool). f x || t) (anywhere-append f xs ys) ∙ or-assoc (f x) (anywhere f xs) (anywhere f ys)
-
-pub lowest-below : {A : Type 0} (f : A → Bool) (xs : List A) → anywhere f xs ≡ true → lowest f xs < length xs
-unfolding anywhere lowest
-lowest-below f [] h = absurd (true≢false (sym h))
-lowest-below f (x ∷ xs) h = by (f x) h (lowest-below f xs)
-  where
-    by :
-        (t : Bool) → (t || anywhere f xs) ≡ true → (anywhere f xs ≡ true → lowest f xs < length xs)
-        → cond t 0 (suc (lowest f xs)) < suc (length xs)
-    by true h more = omega arith
-    by false h more = let l = more h in omega arith
+-- The lowest place
 
 pub lowest-in-front :
     {A : Type 0} (f : A → Bool) (xs ys : List A) → anywhere f xs ≡ true → lowest f (xs ++ ys) ≡ lowest f xs
@@ -61,20 +42,7 @@ lowest-past-front f (x ∷ xs) ys h = by (f x) h (lowest-past-front f xs ys)
     by true h more = absurd (true≢false h)
     by false h more = let l = more h in omega arith
 
--- Whole rows
-
-pub rows-append : (xs ys : List Bit) → length xs % 8 ≡ 0 → rowsOf (xs ++ ys) ≡ rowsOf xs ++ rowsOf ys
-unfolding rowsOf
-rows-append [] ys n = refl
-rows-append (a ∷ []) ys n = absurd (omega arith)
-rows-append (a ∷ b ∷ []) ys n = absurd (omega arith)
-rows-append (a ∷ b ∷ c ∷ []) ys n = absurd (omega arith)
-rows-append (a ∷ b ∷ c ∷ d ∷ []) ys n = absurd (omega arith)
-rows-append (a ∷ b ∷ c ∷ d ∷ e ∷ []) ys n = absurd (omega arith)
-rows-append (a ∷ b ∷ c ∷ d ∷ e ∷ f ∷ []) ys n = absurd (omega arith)
-rows-append (a ∷ b ∷ c ∷ d ∷ e ∷ f ∷ g ∷ []) ys n = absurd (omega arith)
-rows-append (a ∷ b ∷ c ∷ d ∷ e ∷ f ∷ g ∷ h ∷ xs) ys n =
-    ap (λ (r : List (List Bit)). (a ∷ b ∷ c ∷ d ∷ e ∷ f ∷ g ∷ h ∷ []) ∷ r) (rows-append xs ys (omega arith))
+-- Rows of eight letters
 
 pub rows-of-few : (xs : List Bit) → length xs < 8 → rowsOf xs ≡ []
 unfolding rowsOf
@@ -88,6 +56,39 @@ rows-of-few (a ∷ b ∷ c ∷ d ∷ e ∷ f ∷ []) n = refl
 rows-of-few (a ∷ b ∷ c ∷ d ∷ e ∷ f ∷ g ∷ []) n = refl
 rows-of-few (a ∷ b ∷ c ∷ d ∷ e ∷ f ∷ g ∷ h ∷ xs) n = absurd (omega arith)
 
+-- by induction on them: fewer than eight, or a row in front
+pub by-rows :
+    (P : List Bit → Type 0) → ((xs : List Bit) → length xs < 8 → P xs)
+    → ((a b c d e f g h : Bit) (xs : List Bit) → P xs → P (a ∷ b ∷ c ∷ d ∷ e ∷ f ∷ g ∷ h ∷ xs))
+    → (xs : List Bit) → P xs
+by-rows P few row [] = few [] (omega arith)
+by-rows P few row (a ∷ []) = few _ (omega arith)
+by-rows P few row (a ∷ b ∷ []) = few _ (omega arith)
+by-rows P few row (a ∷ b ∷ c ∷ []) = few _ (omega arith)
+by-rows P few row (a ∷ b ∷ c ∷ d ∷ []) = few _ (omega arith)
+by-rows P few row (a ∷ b ∷ c ∷ d ∷ e ∷ []) = few _ (omega arith)
+by-rows P few row (a ∷ b ∷ c ∷ d ∷ e ∷ f ∷ []) = few _ (omega arith)
+by-rows P few row (a ∷ b ∷ c ∷ d ∷ e ∷ f ∷ g ∷ []) = few _ (omega arith)
+by-rows P few row (a ∷ b ∷ c ∷ d ∷ e ∷ f ∷ g ∷ h ∷ xs) = row a b c d e f g h xs (by-rows P few row xs)
+
+none-of-few : (xs : List Bit) → length xs < 8 → length xs % 8 ≡ 0 → xs ≡ []
+none-of-few [] n e = refl
+none-of-few (x ∷ xs) n e = absurd (omega arith)
+
+pub rows-append : (xs ys : List Bit) → length xs % 8 ≡ 0 → rowsOf (xs ++ ys) ≡ rowsOf xs ++ rowsOf ys
+unfolding rowsOf
+rows-append xs ys =
+    by-rows (λ xs. length xs % 8 ≡ 0 → rowsOf (xs ++ ys) ≡ rowsOf xs ++ rowsOf ys) (λ xs n e. rw (none-of-few xs n e))
+    (λ a b c d e f g h xs more n.
+    ap (λ (r : List (List Bit)). (a ∷ b ∷ c ∷ d ∷ e ∷ f ∷ g ∷ h ∷ []) ∷ r) (more (omega arith)))
+    xs
+
+pub one-row : (row : List Bit) → length row ≡ 8 → rowsOf row ≡ row ∷ []
+unfolding rowsOf
+one-row =
+    by-rows (λ row. length row ≡ 8 → rowsOf row ≡ row ∷ []) (λ row few n. absurd (omega arith))
+    (λ a b c d e f g h xs more n. rw (none-of-few xs (omega arith) (omega arith)))
+
 pub strays-append : (rs ss : List (List Bit)) → straysOf (rs ++ ss) ≡ straysOf rs ++ straysOf ss
 unfolding straysOf
 strays-append [] ss = refl
@@ -95,15 +96,10 @@ strays-append (r ∷ rs) ss = rw (strays-append rs ss, append-assoc)
 
 pub strays-length : (xs : List Bit) → length xs % 8 ≡ 0 → length (straysOf (rowsOf xs)) ≡ length xs
 unfolding rowsOf straysOf rowStrays straysFrom
-strays-length [] n = refl
-strays-length (a ∷ []) n = absurd (omega arith)
-strays-length (a ∷ b ∷ []) n = absurd (omega arith)
-strays-length (a ∷ b ∷ c ∷ []) n = absurd (omega arith)
-strays-length (a ∷ b ∷ c ∷ d ∷ []) n = absurd (omega arith)
-strays-length (a ∷ b ∷ c ∷ d ∷ e ∷ []) n = absurd (omega arith)
-strays-length (a ∷ b ∷ c ∷ d ∷ e ∷ f ∷ []) n = absurd (omega arith)
-strays-length (a ∷ b ∷ c ∷ d ∷ e ∷ f ∷ g ∷ []) n = absurd (omega arith)
-strays-length (a ∷ b ∷ c ∷ d ∷ e ∷ f ∷ g ∷ h ∷ xs) n = omega (arith, strays-length xs (omega arith))
+strays-length =
+    by-rows (λ xs. length xs % 8 ≡ 0 → length (straysOf (rowsOf xs)) ≡ length xs)
+    (λ xs n e. rw (none-of-few xs n e))
+    (λ a b c d e f g h xs more n. let l = more (omega arith) in omega arith)
 
 -- The cells that gave the letters
 
@@ -131,3 +127,12 @@ unfolding sourcesFrom readFrom lastOf
 sources-append k b [] c = rw (add-zero k, append-nil)
 sources-append k b (d ∷ cs) c =
     rw (sources-append (suc k) (lastAfter b d) cs c, last-of-given b d, append-assoc, suc-add k, add-suc k)
+
+pub source-kept :
+    (cs : List Cell) (c : Cell) (i : ℕ) → i < length (readBits cs)
+    → getD (sources (cs ++ (c ∷ []))) i 0 ≡ getD (sources cs) i 0
+unfolding sources readBits
+source-kept cs c i h =
+    rw (sources-append 0 O cs c)
+    (List·getD-append (sourcesFrom 0 O cs) (sourceOf (0 + length cs) (given (lastOf O (readFrom O cs)) c)) 0 i
+    (omega (arith, sources-length 0 O cs)))

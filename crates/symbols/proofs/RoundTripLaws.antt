@@ -153,6 +153,7 @@ module _
 pub record Accepted (cs : List Cell) : Type 0 where
   pub cells : writtenCells (stripItems cs) ≡ map units cs
   pub bytes : everywhere isByte (stripItems cs) ≡ true
+  pub in-place : isStray (readBits cs) ≡ false
   pub count : length (stripItems cs) ≡ bytesRead (readBits cs)
   pub few : bytesRead (readBits cs) ≤ 6400
 
@@ -175,6 +176,7 @@ write-of-read cs h =
     record {
       cells = written-cells-of-read (stripItems cs) cs (l .0);
       bytes = l .1;
+      in-place = p .third;
       count = omega (arith, bits-count (stripItems cs), ap length (l .0));
       few = ltb-false 6400 (bytesRead bs) (p .second);
     }

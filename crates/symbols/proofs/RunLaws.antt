@@ -1,51 +1,84 @@
--- The machine run over many cells keeps its invariant and gives their items; over a whole strip it gives the strip's
--- answer and items.
-use Prim.Native.Nat.{suc, _+_, _^_, _≤_}
+-- The machine run over many cells keeps what it holds, and gives their items where no gap is out of place; over a whole
+-- strip it gives the strip's answer and, where that accepts, its items.
+use Prim.Native.Nat.{ℕ, suc, _+_, _-_, _^_, _≤_}
 use mathlib.Core.Path.{_≡_, ap, sym, _∙_}
+use mathlib.Core.Bool.{false}
+use mathlib.Core.Logic.{inr}
 use mathlib.Core.List.{List, [], _∷_, _++_, append-assoc, append-nil}
 use native.Mathlib.Omega.{arith}
 use lib.ListN.{length, length-append}
 use lib.Seq.{append-snoc}
 use Rattle.symbols.specs.Bytes.{itemsRead}
 use Rattle.symbols.specs.Reading.{readFrom, readBits}
-use Rattle.symbols.specs.Strip.{stripRule, stripItems}
-use Rattle.symbols.specs.Machine.{freshReading}
-use Rattle.symbols.specs.Step.{stepped, ran, ranItems, stripAnswer}
+use Rattle.symbols.specs.Strip.{isStray, stripRule, stripItems}
+use Rattle.symbols.specs.machine.Step.{freshReading, stepped, itemClosed, ran, ranItems, stripAnswer}
 use Rattle.symbols.specs.declared.Cell.{Cell}
 use Rattle.symbols.specs.declared.Reading.{Reading}
+use Rattle.symbols.proofs.RoundTripLaws.{write-of-read}
 use Rattle.symbols.proofs.ReadsLaws.{Reads, reads-fresh}
-use Rattle.symbols.proofs.StepLaws.{reads-step, items-step}
+use Rattle.symbols.proofs.StepLaws.{After, after-cell}
 use Rattle.symbols.proofs.AnswerLaws.{rule-of-reads}
 
-pub reads-ran :
-    (m : Reading) (cs ds : List Cell) → Reads m cs → length cs + length ds ≤ 2 ^ 32
-    → Reads (ran m (length cs) ds) (cs ++ ds)
-unfolding ran
-reads-ran m cs [] r h = rw (append-nil cs) r
-reads-ran m cs (d ∷ ds) r h =
-    let n : length (cs ++ (d ∷ [])) ≡ suc (length cs) = omega (arith, length-append cs (d ∷ [])) in
-    rw (← append-snoc cs d ds, ← n)
-    (reads-ran (stepped m d (length cs)) (cs ++ (d ∷ [])) ds (reads-step m cs r (omega arith) d) (omega arith))
+-- what the machine is after more cells, how many items they gave, and which, where no gap is out of place
+pub record Run (m : Reading) (cs ds : List Cell) : Type 0 where
+  pub reads : Reads (ran m (length cs) ds) (cs ++ ds)
+  pub words : ran m (length cs) ds .words ≡ m .words + length (ranItems m (length cs) ds)
+  pub items :
+      isStray (readBits (cs ++ ds)) ≡ false
+      → (isStray (readBits cs) ≡ false)
+      × (itemsRead (readBits (cs ++ ds)) ≡ itemsRead (readBits cs) ++ ranItems m (length cs) ds)
 
-pub items-ran :
-    (m : Reading) (cs ds : List Cell) → Reads m cs → length cs + length ds ≤ 2 ^ 32
-    → itemsRead (readBits (cs ++ ds)) ≡ itemsRead (readBits cs) ++ ranItems m (length cs) ds
-unfolding ranItems
-items-ran m cs [] r h =
-    ap (λ (x : List Cell). itemsRead (readBits x)) (append-nil cs) ∙ sym (append-nil (itemsRead (readBits cs)))
-items-ran m cs (d ∷ ds) r h =
+pub machine-runs :
+    (m : Reading) (cs ds : List Cell) → Reads m cs → length cs + length ds ≤ 2 ^ 32 → Run m cs ds
+unfolding ran ranItems
+machine-runs m cs [] r h =
+    record {
+      reads = rw (append-nil cs) r;
+      words = omega arith;
+      items = λ fair.
+          let same = append-nil cs in (
+            rw same at fair,
+            ap (λ (l : List Cell). itemsRead (readBits l)) same ∙ sym (append-nil (itemsRead (readBits cs))),
+          );
+    }
+machine-runs m cs (d ∷ ds) r h =
+    let next = stepped m d (length cs) in
     let n : length (cs ++ (d ∷ [])) ≡ suc (length cs) = omega (arith, length-append cs (d ∷ [])) in
-    let after =
-    items-ran (stepped m d (length cs)) (cs ++ (d ∷ [])) ds (reads-step m cs r (omega arith) d) (omega arith)
-    in
-    rw (← append-snoc cs d ds, ← append-assoc (itemsRead (readBits cs)), ← items-step m cs r (omega arith) d, ← n) after
+    let after : After m cs d next = after-cell m cs r (omega arith) d in
+    let run = machine-runs next (cs ++ (d ∷ [])) ds (inr (after .reads)) (omega arith) in
+    let rest : List ℕ = ranItems next (suc (length cs)) ds in
+    record {
+      reads = rw (append-snoc cs d ds, n) at (run .reads);
+      words =
+          (rw n at (run .words))
+          ∙ ap (λ (k : ℕ). k + length rest) (after .words)
+          ∙ omega (arith, length-append (itemClosed next) rest);
+      items = λ fair.
+          let later = rw (append-snoc cs d ds, n) at (run .items (rw (append-snoc cs d ds) fair)) in
+          let here = after .items (later .0) in (
+            here .0,
+            later .1
+                ∙ ap (λ (l : List ℕ). l ++ rest) (here .1)
+                ∙ append-assoc (itemsRead (readBits cs)) (itemClosed next) rest,
+          );
+    }
+
+module _ (m : Reading) (cs ds : List Cell) (r : Reads m cs) (few : length cs + length ds ≤ 2 ^ 32) where
+  pub reads-ran : Reads (ran m (length cs) ds) (cs ++ ds)
+  reads-ran = machine-runs m cs ds r few .reads
+
+  pub items-ran :
+      isStray (readBits (cs ++ ds)) ≡ false
+      → itemsRead (readBits (cs ++ ds)) ≡ itemsRead (readBits cs) ++ ranItems m (length cs) ds
+  items-ran fair = machine-runs m cs ds r few .items fair .1
 
 -- a whole strip
 pub strip-by-ran :
     (cs : List Cell) → length cs ≤ 2 ^ 32
-    → (stripRule cs ≡ stripAnswer (ran freshReading 0 cs)) × (stripItems cs ≡ ranItems freshReading 0 cs)
+    → (stripRule cs ≡ stripAnswer (ran freshReading 0 cs) (length cs - 1))
+    × (stripRule cs .number ≡ 0 → stripItems cs ≡ ranItems freshReading 0 cs)
 unfolding stripItems itemsRead readBits readFrom
 strip-by-ran cs h = (
   rule-of-reads (ran freshReading 0 cs) cs (reads-ran freshReading [] cs reads-fresh (omega arith)),
-  items-ran freshReading [] cs reads-fresh (omega arith),
+  λ accepts. items-ran freshReading [] cs reads-fresh (omega arith) (write-of-read cs accepts .in-place),
 )

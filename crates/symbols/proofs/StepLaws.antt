@@ -1,163 +1,262 @@
--- One cell more keeps the machine's invariant and gives the next item: the letters that the cell gives are added to
--- the open row and pushed.
-use Prim.Native.Nat.{ℕ, _+_, _*_, _%_, _^_, _<_}
+-- One cell more keeps what the machine holds and gives the next item: the cell's half cells are shifted in, and a word
+-- that is whole is closed.
+use Prim.Native.Nat.{ℕ, _+_, _-_, _*_, _/_, _%_, _^_, _≤_, _<_}
 use mathlib.Core.Path.{_≡_, refl, ap, sym, _∙_}
-use mathlib.Core.Bool.{Bool, true, false, cond, true≢false}
-use mathlib.Core.List.{List, [], _∷_, _++_}
+use mathlib.Core.Bool.{true, false, true≢false}
+use mathlib.Core.Logic.{inl, inr}
+use mathlib.Core.List.{List, [], _∷_, _++_, append-assoc, append-nil}
+use native.Mathlib.Nat.{mod-eq-of-lt}
 use native.Mathlib.Omega.{arith}
-use borrow.Author.Tests.{eq-eqb, ne-eqb}
-use lib.Dec.{T, eqb}
-use lib.ListN.{length, length-append}
-use Rattle.lists.specs.Place.{anywhere}
-use Rattle.symbols.specs.Bits.{Bit, O, I, G, lastOf}
-use Rattle.symbols.specs.Bytes.{digit, numberFrom, isGap, itemsRead}
-use Rattle.symbols.specs.Reading.{given, lastAfter, readBits}
-use Rattle.symbols.specs.Machine.{pushed}
-use Rattle.symbols.specs.Step.{itemClosed, turned, withLast, gapAt, noted, stepped}
+use native.Mathlib.Decide.{decLt}
+use borrow.Author.Tests.{lt-ltb, le-ltb}
+use lib.Bits.{bitOr, or-shifted}
+use lib.ListN.{length, getD, length-append}
+use Rattle.lists.specs.Place.{anywhere, lowest, passed}
+use Rattle.lists.proofs.PlaceLaws.{lowest-of-some}
+use Rattle.symbols.specs.Bits.{Bit, I, lastOf}
+use Rattle.symbols.specs.Bytes.{numberFrom, rowsOf, straysOf, itemsRead, straysRead}
+use Rattle.symbols.specs.Reading.{units, given, lastAfter, readFrom, readBits, sources}
+use Rattle.symbols.specs.Strip.{isStray}
+use Rattle.symbols.specs.machine.Word.{wordItem}
+use Rattle.symbols.specs.machine.Step.{freshReading, shifted, wordOf, closed, steppedBy, stepped, itemClosed}
 use Rattle.symbols.specs.declared.Cell.{Cell}
 use Rattle.symbols.specs.declared.Cell.the-variants.{Short, Medium, Long}
 use Rattle.symbols.specs.declared.Reading.{Reading}
-use Rattle.symbols.proofs.ReadingLaws.{last-is-no-gap}
-use Rattle.symbols.proofs.RegisterLaws.{number-append, sound}
-use Rattle.symbols.proofs.CellLaws.{last-of-more, last-append, sound-grown, given-at-most-two, bits-at-most}
-use Rattle.symbols.proofs.CellLaws.{number-of-short, number-of-medium, number-of-long}
-use Rattle.symbols.proofs.CellLaws.{last-after-short, last-after-medium}
-use Rattle.symbols.proofs.CellLaws.{last-after-long, short-is-plain, medium-is-plain}
-use Rattle.symbols.proofs.MachineLaws.{padded, Row, more, bits-grown, grown-plain, grown-gap}
-use Rattle.symbols.proofs.ReadsLaws.{Reads, items-so-far}
-use Rattle.symbols.proofs.PushLaws.{After, pushed-letters}
+use Rattle.symbols.proofs.CellLaws.{more, bits-grown}
+use Rattle.symbols.proofs.PlaceLaws.{source-kept}
+use Rattle.symbols.proofs.UnitLaws.{unitsIn, length-by-units}
+use Rattle.symbols.proofs.HalfCells.{halves, track}
+use Rattle.symbols.proofs.HalfLaws.{halves-append}
+use Rattle.symbols.proofs.NumberLaws.{number-append}
+use Rattle.symbols.proofs.ReadsLaws.{Open, Held, Reads, front-length, letters-count, items-so-far, strays-so-far}
+use Rattle.symbols.proofs.ClosingLaws.{word-closed, fair-word}
 
-module _ (m : Reading) (cs : List Cell) (c : Cell) (reads : Reads m cs) (room : length cs < 2 ^ 32) where
+-- what a cell more makes of the machine m after the cells cs
+pub record After (m : Reading) (cs : List Cell) (c : Cell) (next : Reading) : Type 0 where
+  pub reads : Held next (cs ++ (c ∷ []))
+  pub words : next .words ≡ m .words + length (itemClosed next)
+  pub few : next .done ≡ true → next .held ≤ 4
+  pub items :
+      isStray (readBits (cs ++ (c ∷ []))) ≡ false
+      → (isStray (readBits cs) ≡ false)
+      × (itemsRead (readBits (cs ++ (c ∷ []))) ≡ itemsRead (readBits cs) ++ itemClosed next)
+
+-- The half cells of a cell, shifted in
+
+shift-two : (n : ℕ) → bitOr (n % 2 ^ 32 * 4 % 2 ^ 32) 1 ≡ (n * 4 + 1) % 2 ^ 32
+shift-two n =
+    let e : n % 2 ^ 32 * 4 % 2 ^ 32 ≡ n % 2 ^ 30 * 4 = omega arith in
+    let f : (n * 4 + 1) % 2 ^ 32 ≡ n % 2 ^ 30 * 4 + 1 = omega arith in
+    rw (e, f) (or-shifted (n % 2 ^ 30) 2 1 (omega arith))
+
+shift-three : (n : ℕ) → bitOr (n % 2 ^ 32 * 8 % 2 ^ 32) 1 ≡ (n * 8 + 1) % 2 ^ 32
+shift-three n =
+    let e : n % 2 ^ 32 * 8 % 2 ^ 32 ≡ n % 2 ^ 29 * 8 = omega arith in
+    let f : (n * 8 + 1) % 2 ^ 32 ≡ n % 2 ^ 29 * 8 + 1 = omega arith in
+    rw (e, f) (or-shifted (n % 2 ^ 29) 3 1 (omega arith))
+
+shift-four : (n : ℕ) → bitOr (n % 2 ^ 32 * 16 % 2 ^ 32) 1 ≡ (n * 16 + 1) % 2 ^ 32
+shift-four n =
+    let e : n % 2 ^ 32 * 16 % 2 ^ 32 ≡ n % 2 ^ 28 * 16 = omega arith in
+    let f : (n * 16 + 1) % 2 ^ 32 ≡ n % 2 ^ 28 * 16 + 1 = omega arith in
+    rw (e, f) (or-shifted (n % 2 ^ 28) 4 1 (omega arith))
+
+shifted-number :
+    (n : ℕ) (c : Cell)
+    → bitOr (n % 2 ^ 32 * 2 ^ (units c % 32) % 2 ^ 32) 1 ≡ numberFrom n (halves (c ∷ [])) % 2 ^ 32
+unfolding halves numberFrom
+shifted-number n Short = shift-two n ∙ ap (λ (x : ℕ). x % 2 ^ 32) (omega arith)
+shifted-number n Medium = shift-three n ∙ ap (λ (x : ℕ). x % 2 ^ 32) (omega arith)
+shifted-number n Long = shift-four n ∙ ap (λ (x : ℕ). x % 2 ^ 32) (omega arith)
+
+units-range : (c : Cell) → (2 ≤ units c) × (units c ≤ 4)
+units-range Short = (omega arith, omega arith)
+units-range Medium = (omega arith, omega arith)
+units-range Long = (omega arith, omega arith)
+
+units-at-most : (cs : List Cell) → unitsIn cs ≤ 4 * length cs
+unfolding unitsIn
+units-at-most [] = omega arith
+units-at-most (c ∷ cs) = omega (arith, units-range c .1, units-at-most cs)
+
+bits-shifted :
+    (m : Reading) (cs : List Cell) (c : Cell) → m .bits ≡ numberFrom 0 (track cs) % 2 ^ 32
+    → shifted m (units c) .bits ≡ numberFrom 0 (track (cs ++ (c ∷ []))) % 2 ^ 32
+unfolding shifted track
+bits-shifted m cs c e =
+    rw (e, halves-append cs (c ∷ []), number-append 0 (I ∷ halves cs) (halves (c ∷ [])))
+    (shifted-number (numberFrom 0 (I ∷ halves cs)) c)
+
+units-grown : (cs : List Cell) (c : Cell) → unitsIn (cs ++ (c ∷ [])) ≡ unitsIn cs + units c
+unfolding unitsIn
+units-grown [] c = omega arith
+units-grown (d ∷ cs) c = omega (arith, units-grown cs c)
+
+-- The first cell opens the letters with the lead
+
+first-opens :
+    (m : Reading) (c : Cell) (lead : Bit) (rest : List Bit) → readBits (c ∷ []) ≡ lead ∷ rest → length rest < 8
+    → m .words ≡ 0 → m .held ≡ unitsIn (c ∷ []) → m .bits ≡ numberFrom 0 (track (c ∷ [])) % 2 ^ 32 → m .stray ≡ false
+    → Held m (c ∷ [])
+unfolding rowsOf straysOf anywhere lastOf
+first-opens m c lead rest letters few none held bits fair = (
+  record {
+    lead = lead;
+    before = [];
+    rest = rest;
+    front = [];
+    letters = letters;
+    whole = omega arith;
+    held = omega arith;
+    bits = bits;
+    strays = refl;
+    stray = fair;
+    place = λ h. absurd (true≢false (sym h ∙ fair));
+  },
+  few,
+)
+
+first-open : (c : Cell) → Held (stepped freshReading c 0) (c ∷ [])
+unfolding stepped steppedBy shifted freshReading readBits readFrom given lastAfter unitsIn track halves numberFrom
+first-open Short = first-opens _ Short _ _ refl (omega arith) refl refl refl refl
+first-open Medium = first-opens _ Medium _ _ refl (omega arith) refl refl refl refl
+first-open Long = first-opens _ Long _ _ refl (omega arith) refl refl refl refl
+
+not-closed : {A : Type 0} → false ≡ true → A
+not-closed h = absurd (true≢false (sym h))
+
+first-after : (c : Cell) → After freshReading [] c (stepped freshReading c 0)
+unfolding stepped steppedBy shifted freshReading itemClosed isStray straysRead itemsRead rowsOf anywhere readBits
+    readFrom given lastAfter
+first-after Short =
+    record { reads = first-open Short; words = refl; few = λ h. not-closed h; items = λ h. (refl, refl) }
+first-after Medium =
+    record { reads = first-open Medium; words = refl; few = λ h. not-closed h; items = λ h. (refl, refl) }
+first-after Long =
+    record { reads = first-open Long; words = refl; few = λ h. not-closed h; items = λ h. (refl, refl) }
+
+-- Every other cell
+
+module _ (m : Reading) (cs : List Cell) (so-far : Held m cs) (room : length cs < 2 ^ 32) (c : Cell) where
+  abbrev o : Open m cs
+  o = so-far .0
+
+  abbrev cs′ : List Cell
+  cs′ = cs ++ (c ∷ [])
+
+  abbrev m₁ : Reading
+  m₁ = shifted m (units c)
+
   abbrev all : List Bit
-  all = reads .rest ++ more cs c
+  all = o .rest ++ more cs c
 
-  last-grown : lastOf O (readBits (cs ++ (c ∷ []))) ≡ lastAfter (lastOf O (readBits cs)) c
-  last-grown =
-      ap (lastOf O) (bits-grown cs c) ∙ last-append O (readBits cs) (more cs c) ∙ last-of-more
-      (lastOf O (readBits cs)) (lastOf O (readBits cs)) c
+  letters-grown : readBits cs′ ≡ (o .lead ∷ o .before) ++ all
+  letters-grown =
+      bits-grown cs c ∙ ap (λ (l : List Bit). l ++ more cs c) (o .letters)
+      ∙ append-assoc (o .lead ∷ o .before) (o .rest) (more cs c)
 
-  joined-grown : lastOf O all ≡ lastOf O (readBits (cs ++ (c ∷ [])))
-  joined-grown =
-      last-append O (reads .rest) (more cs c) ∙ last-of-more (lastOf O (reads .rest)) (lastOf O (readBits cs)) c
-      ∙ sym last-grown
+  few-words : m .words + 1 < 2 ^ 32
+  few-words = omega (arith, letters-count m cs o, length-by-units cs, units-at-most cs)
 
-  fair : T (sound O all)
-  fair = sound-grown (reads .rest) (lastOf O (readBits cs)) c (reads .row .fair) (reads .joined) (last-is-no-gap cs)
+  held-before : m .held ≤ 16
+  held-before = omega (arith, letters-count m cs o, length-by-units cs, o .held, so-far .1)
 
-  rows-room : m .rows + 1 < 2 ^ 32
-  unfolding padded readBits
-  rows-room =
+  held-grown : m₁ .held ≡ m .held + units c
+  unfolding shifted
+  held-grown = mod-eq-of-lt (omega (arith, held-before, units-range c .1))
+
+  held-counts : m₁ .held + 16 * m .words ≡ unitsIn cs′
+  held-counts = omega (arith, held-grown, o .held, units-grown cs c)
+
+  -- half cells by letters
+  letters-held : length all + 1 ≡ (m₁ .held + 1) / 2
+  letters-held =
       omega (
         arith,
-        reads .row .rows,
-        length-append (reads .before) (reads .rest),
-        ap length (reads .row .letters),
-        bits-at-most O cs,
+        held-counts,
+        length-by-units cs′,
+        ap length letters-grown,
+        length-append (o .lead ∷ o .before) all,
+        o .whole,
       )
 
-  -- the machine m₁, which holds the grown row, gets its register
-  advanced :
-      (m₁ : Reading) (word : ℕ) → Row m₁ (cs ++ (c ∷ [])) (reads .before) all → m₁ .rows ≡ m .rows
-      → m₁ .last ≡ digit (lastAfter (lastOf O (readBits cs)) c) → word ≡ numberFrom 1 all
-      → After (pushed m₁ word) (cs ++ (c ∷ [])) (reads .before)
-  advanced m₁ word r rows last number =
-      rw number
-      (pushed-letters m₁ (cs ++ (c ∷ [])) (reads .before) all r (last ∙ ap digit (sym last-grown)) joined-grown
-      (last-is-no-gap (cs ++ (c ∷ []))) (omega (arith, rows-room))
-      (omega (arith, length-append (reads .rest) (more cs c), given-at-most-two (lastOf O (readBits cs)) c, reads .few)))
+  place-kept : m .stray ≡ true → m .place ≡ getD (sources cs′) (lowest passed (o .front)) 0
+  place-kept h =
+      let some = lowest-of-some passed (o .front) (sym (o .stray) ∙ h) in
+      o .place h
+      ∙ sym
+      (source-kept cs c (lowest passed (o .front)) (omega (arith, front-length m cs o, letters-count m cs o)))
 
-  register-grown : numberFrom 1 all ≡ numberFrom (m .register) (more cs c)
-  register-grown =
-      number-append 1 (reads .rest) (more cs c) ∙ ap (λ (n : ℕ). numberFrom n (more cs c)) (sym (reads .register))
+  grown : Open m₁ cs′
+  unfolding shifted
+  grown =
+      record {
+        lead = o .lead;
+        before = o .before;
+        rest = all;
+        front = o .front;
+        letters = letters-grown;
+        whole = o .whole;
+        held = held-counts;
+        bits = bits-shifted m cs c (o .bits);
+        strays = o .strays;
+        stray = o .stray;
+        place = place-kept;
+      }
 
--- Each cell
+  after-open : m₁ .held < 17 → After m cs c m₁
+  unfolding shifted itemClosed isStray grown
+  after-open h =
+      let few : length all < 8 = omega (arith, letters-held) in
+      let none = sym (append-nil (itemsRead (readBits cs))) in
+      record {
+        reads = (grown, few);
+        words = omega arith;
+        few = λ d. not-closed d;
+        items = λ fair. (
+          ap (anywhere passed) (strays-so-far m cs so-far ∙ sym (strays-so-far m₁ cs′ (grown, few))) ∙ fair,
+          items-so-far m₁ cs′ (grown, few) ∙ sym (items-so-far m cs so-far) ∙ none,
+        );
+      }
 
-row-with-last :
-    (m : Reading) (cs : List Cell) (before rest : List Bit) (n : ℕ) → Row m cs before rest
-    → Row (withLast m n) cs before rest
-unfolding withLast
-row-with-last m cs before rest n r =
-    record {
-      letters = r .letters;
-      rows = r .rows;
-      fair = r .fair;
-      gap = r .gap;
-      source = r .source;
-      stray = r .stray;
-      place = r .place;
-    }
+  after-closed : 17 ≤ m₁ .held → After m cs c (closed m₁ (length cs))
+  unfolding closed shifted itemClosed isStray grown
+  after-closed h =
+      let more-cells : length cs′ ≡ length cs + 1 = omega (arith, length-append cs (c ∷ [])) in
+      let last : length cs′ - 1 ≡ length cs = omega arith in
+      let range : (17 ≤ m₁ .held) × (m₁ .held ≤ 20) = (h, omega (arith, held-grown, held-before, units-range c .1)) in
+      let rows : (8 ≤ length all) × (length all < 16) =
+      (omega (arith, letters-held), (let r = range .1 in omega (arith, letters-held))) in
+      record {
+        reads = rw last at (word-closed m₁ cs′ grown range (omega arith) rows few-words);
+        words = mod-eq-of-lt few-words;
+        few = λ d. (let r = range .1 in omega arith);
+        items = λ fair.
+            let w = fair-word m₁ cs′ grown range (omega arith) rows few-words fair in (
+              ap (anywhere passed) (strays-so-far m cs so-far) ∙ w .0,
+              w .1 ∙ ap (λ (l : List ℕ). l ++ (wordItem (wordOf m₁) ∷ [])) (sym (items-so-far m cs so-far)),
+            );
+      }
 
-noted-keeps : (t u : Bool) (m : Reading) (at : ℕ) → let n =
-    cond t (cond u (gapAt m at) m) m in (n .rows ≡ m .rows) × (n .last ≡ m .last)
-unfolding gapAt
-noted-keeps true true m at = (refl, refl)
-noted-keeps true false m at = (refl, refl)
-noted-keeps false u m at = (refl, refl)
+  after-step : After m cs c (stepped m c (length cs))
+  unfolding stepped steppedBy
+  after-step =
+      elim (decLt (m₁ .held) 17) [
+        | yes l ↦ rw (lt-ltb (m₁ .held) 17 l) (after-open l)
+        | no l ↦ let h : 17 ≤ m₁ .held = omega arith in rw (le-ltb (m₁ .held) 17 h) (after-closed h)
+      ]
 
-module _ (m : Reading) (cs : List Cell) (reads : Reads m cs) (room : length cs < 2 ^ 32) where
-  abbrev b : Bit
-  b = lastOf O (readBits cs)
+-- one cell more, at its place
+pub after-cell :
+    (m : Reading) (cs : List Cell) → Reads m cs → length cs < 2 ^ 32 → (c : Cell)
+    → After m cs c (stepped m c (length cs))
+after-cell m cs (inl e) room c = rw (e .0, e .1) (first-after c)
+after-cell m cs (inr so-far) room c = after-step m cs so-far room c
 
-  short-kept : After (stepped m Short (length cs)) (cs ++ (Short ∷ [])) (reads .before)
-  unfolding stepped
-  short-kept =
-      advanced m cs Short reads room m (m .register * 2 + m .last)
-      (grown-plain cs Short m (reads .before) (reads .rest) (reads .row) (fair m cs Short reads room)
-      (short-is-plain b))
-      refl
-      (reads .last ∙ sym (last-after-short b (last-is-no-gap cs)))
-      (rw (reads .last)
-      (sym (number-of-short (m .register) b (last-is-no-gap cs)) ∙ sym (register-grown m cs Short reads room)))
+module _ (m : Reading) (cs : List Cell) (r : Reads m cs) (room : length cs < 2 ^ 32) (c : Cell) where
+  pub reads-step : Reads (stepped m c (length cs)) (cs ++ (c ∷ []))
+  reads-step = inr (after-cell m cs r room c .reads)
 
-  medium-kept : After (stepped m Medium (length cs)) (cs ++ (Medium ∷ [])) (reads .before)
-  unfolding stepped withLast
-  medium-kept =
-      advanced m cs Medium reads room (withLast m (turned (m .register) (m .last) % 2)) (turned (m .register) (m .last))
-      (row-with-last m (cs ++ (Medium ∷ [])) (reads .before) (all m cs Medium reads room)
-      (turned (m .register) (m .last) % 2)
-      (grown-plain cs Medium m (reads .before) (reads .rest) (reads .row) (fair m cs Medium reads room)
-      (medium-is-plain b)))
-      refl
-      (rw (reads .last) (last-after-medium (m .register) b (last-is-no-gap cs)))
-      (rw (reads .last)
-      (sym (number-of-medium (m .register) b (last-is-no-gap cs)) ∙ sym (register-grown m cs Medium reads room)))
-
-  -- after a 0 a gap is noted
-  long-row :
-      (x : Bit) → b ≡ x → isGap x ≡ false
-      → Row (noted m (length cs)) (cs ++ (Long ∷ [])) (reads .before) (all m cs Long reads room)
-  unfolding noted given anywhere
-  long-row O e h =
-      rw (eq-eqb (m .last) 0 (reads .last ∙ ap digit e))
-      (grown-gap cs Long m (reads .before) (reads .rest) (reads .row) (fair m cs Long reads room)
-      (ap (λ (x : Bit). given x Long) e) (reads .register))
-  long-row I e h =
-      rw (ne-eqb (m .last) 0 (λ z. omega (arith, reads .last ∙ ap digit e)))
-      (grown-plain cs Long m (reads .before) (reads .rest) (reads .row) (fair m cs Long reads room)
-      (ap (λ (x : Bit). anywhere isGap (given x Long)) e))
-  long-row G e h = absurd (true≢false h)
-
-  long-kept : After (stepped m Long (length cs)) (cs ++ (Long ∷ [])) (reads .before)
-  unfolding stepped noted
-  long-kept =
-      let keeps = noted-keeps (eqb (m .last) 0) (eqb (m .gap) 0) m (length cs) in
-      advanced m cs Long reads room (noted m (length cs)) (m .register * 4 + m .last)
-      (long-row b refl (last-is-no-gap cs))
-      (keeps .0)
-      (keeps .1 ∙ reads .last ∙ sym (last-after-long b (last-is-no-gap cs)))
-      (rw (reads .last)
-      (sym (number-of-long (m .register) b (last-is-no-gap cs)) ∙ sym (register-grown m cs Long reads room)))
-
-  step-kept : (c : Cell) → After (stepped m c (length cs)) (cs ++ (c ∷ [])) (reads .before)
-  step-kept Short = short-kept
-  step-kept Medium = medium-kept
-  step-kept Long = long-kept
-
-  -- one cell more, at its place
-  pub reads-step : (c : Cell) → Reads (stepped m c (length cs)) (cs ++ (c ∷ []))
-  reads-step c = step-kept c .0
-
-  pub items-step :
-      (c : Cell)
-      → itemsRead (readBits (cs ++ (c ∷ []))) ≡ itemsRead (readBits cs) ++ itemClosed (stepped m c (length cs))
-  items-step c = rw (items-so-far m cs (reads .before) (reads .rest) (reads .row) (reads .few)) (step-kept c .1)
+  -- a cell that closes a word leaves at most one bit more
+  pub step-held : stepped m c (length cs) .done ≡ true → stepped m c (length cs) .held ≤ 4
+  step-held = after-cell m cs r room c .few

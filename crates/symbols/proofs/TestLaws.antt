@@ -38,9 +38,9 @@ pub implied : (a b : Bool) → T a → T (not a || b) → T b
 implied true b s t = t
 implied false b s t = absurd s
 
-pub or-assoc : (a b c : Bool) → (a || (b || c)) ≡ (a || b || c)
-or-assoc true b c = refl
-or-assoc false b c = refl
+pub neither : (a b : Bool) → (a || b) ≡ false → (a ≡ false) × (b ≡ false)
+neither true b h = absurd (true≢false h)
+neither false b h = (refl, h)
 
 pub or-true : (t : Bool) → (t || true) ≡ true
 or-true true = refl

@@ -3,7 +3,7 @@
 use Prim.Native.Nat.{ℕ, _+_, _*_, _/_, _%_, _≤_}
 use mathlib.Core.Path.{_≡_, refl, sym, ap, _∙_}
 use mathlib.Core.Bool.{not, _||_}
-use mathlib.Core.List.{List, [], _∷_, _++_, map}
+use mathlib.Core.List.{List, [], _∷_, map}
 use native.Mathlib.Omega.{arith}
 use native.Mathlib.Decide.{ℕ-discrete}
 use borrow.Author.Tests.{eq-eqb, ne-eqb}
@@ -27,7 +27,7 @@ unfoldable pub unitsIn : List Cell → ℕ
 unitsIn [] = 0
 unitsIn (c ∷ cs) = units c + unitsIn cs
 
-units-of-cell : (b : Bit) (c : Cell) → 2 * length (given b c) + digit b ≡ units c + digit (lastAfter b c)
+pub units-of-cell : (b : Bit) (c : Cell) → 2 * length (given b c) + digit b ≡ units c + digit (lastAfter b c)
 unfolding given lastAfter
 units-of-cell O Short = refl
 units-of-cell O Medium = refl
@@ -83,7 +83,7 @@ by-units l u h =
     ]
 
 module _ (cs : List Cell) where
-  bits-known : 2 * length (readBits cs) ≡ unitsIn cs + digit (lastOf O (readBits cs))
+  pub bits-known : 2 * length (readBits cs) ≡ unitsIn cs + digit (lastOf O (readBits cs))
   unfolding readBits
   bits-known = omega (arith, units-of-bits O cs)
 

@@ -3,5 +3,4 @@ pub mod Cells
 pub mod Reading
 pub mod Bytes
 pub mod Strip
-pub mod Machine
-pub mod Step
+pub mod machine

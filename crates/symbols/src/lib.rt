@@ -1,9 +1,10 @@
 // Document 01, "From bits to cells": bits, symbols and cells of written bytes, and the reading of cells.
+ghost use Prim.Native.Nat.{_≤_};
 ghost use mathlib.Core.Path.{_≡_};
-ghost use Rattle.symbols.specs.Machine.{freshReading, closed, pushed};
-ghost use Rattle.symbols.specs.Step.{noted, wordAfter, readyFor, stepped};
+ghost use Rattle.symbols.specs.machine.Step.{freshReading, shifted, closed, steppedBy};
+ghost use Rattle.symbols.specs.machine.Step.{strayNow, placeNow};
 
-mod register;
+mod word;
 
 // A cell as it is read: of 2, 3 or 4 units.
 pub enum Cell {
@@ -12,129 +13,105 @@ pub enum Cell {
     Long,
 }
 
-// Where the reading of cells stands. It starts seven bits into a byte, so that the lead 0 closes that byte, and a gap
-// on the lead is out of place as in any other byte.
+// Where the reading of cells stands: a shift register of half cells, as a data separator has one. A transition is a 1,
+// and a cell of so many units puts the next 1 so many half cells after the last.
 pub struct Reading {
-    // a 1, then the bits of the byte that is being read
-    pub register: u32,
-    // the last bit known
-    pub last: u32,
-    // bytes closed, the lead's among them
-    pub rows: u32,
-    // the register when the first gap of the byte that is being read came, 0 where there is none, and the place of
-    // that gap's cell
-    pub gap: u32,
-    pub source: u32,
-    // 1 where a gap was out of place, and the place of the lowest such gap's cell
-    pub stray: u32,
+    // the half cells read, the latest in the least significant place
+    pub bits: u32,
+    // how many of them are of the byte that is being read and the data bit before it
+    pub held: u32,
+    // bytes closed
+    pub words: u32,
+    // the place of the cell of the lowest gap out of place, where there is one
     pub place: u32,
     // what the last closed byte is
     pub item: u16,
-    // the last cell closed a byte, not the lead's
+    // a gap was out of place
+    pub stray: bool,
+    // the last cell closed a byte
     pub done: bool,
 }
 
 impl Reading {
+    // The transition before the first cell is the lead's clock bit.
     pub fn new() -> Reading
         ensures { λ r. ⌜ r ≡ freshReading ⌝ }
     {
         Reading {
-            register: 0b1000_0000,
-            last: 0,
-            rows: 0,
-            gap: 0,
-            source: 0,
-            stray: 0,
+            bits: 1,
+            held: 0,
+            words: 0,
             place: 0,
             item: 0,
+            stray: false,
             done: false,
         }
     }
 
-    // One cell more, which stands at this place of the caller's list. Its bits are pushed at one place of the code, so
-    // that a reader's loop can take the whole step in.
-    pub fn step(self, cell: Cell, at: u32) -> Reading
-        ensures { λ r. ⌜ r ≡ stepped self cell at ⌝ }
+    // One cell more, of so many units, which stands at this place of the caller's list. A byte is whole with its 16
+    // half cells and the data bit before it.
+    pub fn step(self, units: u32, at: u32) -> Reading
+        ensures { λ r. ⌜ r ≡ steppedBy self units at ⌝ }
     {
-        let word = self.word_after(cell);
-        self.ready_for(cell, at).push(word)
+        let next = self.shift(units);
+        if next.held < 17 {
+            return next;
+        }
+        next.close(at)
     }
 
-    // The register with a cell's bits. One of 2 units gives the last bit again, one of 3 gives 01 after 0 and 0 after
-    // 1, one of 4 gives 0 and the last bit again.
-    fn word_after(self, cell: Cell) -> u64
-        ensures { λ r. ⌜ r ≡ wordAfter self cell ⌝ }
+    // A gap was out of place, also one on the last bit, which no later byte has shown.
+    pub fn is_stray(self) -> bool
+        ensures { λ r. ⌜ r ≡ strayNow self ⌝ }
     {
-        match cell {
-            Cell::Short => self.register as u64 * 2 + self.last as u64,
-            Cell::Medium => register::turned(self.register, self.last),
-            Cell::Long => self.register as u64 * 4 + self.last as u64,
-        }
+        self.stray | ((self.held == 4) & (self.bits % 16 == 1))
     }
 
-    // The state in which that register is pushed: with its last bit, and a gap noted.
-    fn ready_for(mut self, cell: Cell, at: u32) -> Reading
-        ensures { λ r. ⌜ r ≡ readyFor self cell at ⌝ }
+    // The place of the lowest such gap's cell, given that of the last cell.
+    pub fn stray_place(self, last: u32) -> u32
+        ensures { λ r. ⌜ r ≡ placeNow self last ⌝ }
     {
-        match cell {
-            Cell::Short => self,
-            Cell::Medium => {
-                let word = register::turned(self.register, self.last);
-                self.last = (word % 2) as u32;
-                self
-            }
-            Cell::Long => self.note(at),
+        if self.stray {
+            return self.place;
         }
+        last
     }
 
-    // After 0 a gap begins. The first one of a byte counts: where the byte is A1 or C2 there is no second.
-    fn note(mut self, at: u32) -> Reading
-        ensures { λ r. ⌜ r ≡ noted self at ⌝ }
+    // The half cells of a cell: 0s, then the 1 that ends it.
+    fn shift(mut self, units: u32) -> Reading
+        ensures { λ r. ⌜ r ≡ shifted self units ⌝ }
     {
-        if self.last == 0 {
-            if self.gap == 0 {
-                self.gap = self.register;
-                self.source = at;
-            }
-        }
+        self.bits = self.bits << (units % 32) | 1;
+        self.held = std::num::wrapping_add_u32(self.held, units);
+        self.done = false;
         self
     }
 
-    // The register with its new bits. A byte is whole when it has eight.
-    fn push(mut self, word: u64) -> Reading
-        ensures { λ r. ⌜ r ≡ pushed self word ⌝ }
+    // A byte is whole. Of the gaps out of place the lowest is kept.
+    fn close(mut self, at: u32) -> Reading
+        requires { ⌜ 17 ≤ self .held ⌝ }
+        ensures { λ r. ⌜ r ≡ closed self at ⌝ }
     {
-        self.done = false;
-        if word < 256 {
-            self.register = word as u32;
+        let surplus = (self.held - 17) % 32;
+        let x = (self.bits >> surplus) % 131072;
+        let byte = word::data_byte(x);
+        let gaps = word::missing(x);
+        self.held -= 16;
+        self.words = std::num::wrapping_add_u32(self.words, 1);
+        self.done = true;
+        self.item = byte;
+        if gaps == 0 {
             return self;
         }
-        self.close(register::whole_byte(word), register::next_register(word))
-    }
-
-    // A byte is whole, and the next one begins with this register. Of the gaps out of place the lowest is kept.
-    fn close(mut self, byte: u8, register: u32) -> Reading
-        ensures { λ r. ⌜ r ≡ closed self byte register ⌝ }
-    {
-        let gap = self.gap;
-        self.register = register;
-        self.done = 0 < self.rows;
-        self.rows = std::num::wrapping_add_u32(self.rows, 1);
-        self.gap = 0;
-        self.item = byte as u16;
-        if gap == 0 {
+        self.item = byte + 256;
+        if word::is_mark(x) {
             return self;
         }
-        self.item = byte as u16 + 256;
-        if register::gap_in_place(byte, gap) {
+        if self.stray {
             return self;
         }
-        if self.stray == 0 {
-            self.stray = 1;
-            self.place = self.source;
-            return self;
-        }
-        self.stray = 1;
+        self.stray = true;
+        self.place = word::first_of_cells(at, word::cells_since(self.bits, surplus, gaps));
         self
     }
 }

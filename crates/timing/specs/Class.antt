@@ -1,8 +1,8 @@
 -- Document 01, "Profile": the class of an interval, and of each interval of a list. No lemmas here. A list is classed
 -- from its first interval on, by a cursor that holds what the class of the next interval depends on.
 -- An interval that equals an edge belongs above it (house rule for ties).
-use Prim.Native.Nat.{ℕ}
-use mathlib.Core.Bool.{cond}
+use Prim.Native.Nat.{ℕ, _≤_}
+use mathlib.Core.Bool.{Bool, true, false, cond}
 use mathlib.Core.List.{List, [], _∷_}
 use lib.Dec.{ltb}
 use Rattle.refusal.specs.Answer.{Answer, accepted, firstRefusal}
@@ -25,6 +25,20 @@ classIn c d =
     (cond (ltb d (c .b34 .0)) Three
     (cond (ltb d (c .rpt .0)) Four
     Wide)))
+
+-- a class that is read as a cell
+abbrev pub isCell : Class → Bool
+isCell Narrow = false
+isCell Two = true
+isCell Three = true
+isCell Four = true
+isCell Wide = false
+
+-- no edge is below the one before it, as in every profile that is true
+pub record Ascending (c : Cursor) : Type 0 where
+  pub two : c .min .0 ≤ c .b23 .0
+  pub three : c .b23 .0 ≤ c .b34 .0
+  pub four : c .b34 .0 ≤ c .rpt .0
 
 -- where the classing stands after an interval: the edges are the same for each
 unfoldable pub cursorPast : Cursor → ℕ → Cursor

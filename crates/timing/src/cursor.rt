@@ -1,6 +1,7 @@
 // The one way to class intervals: a cursor that goes over a list from its first interval on.
 ghost use mathlib.Core.Path.{_≡_};
-ghost use Rattle.timing.specs.Class.{atStart, classIn, classed};
+ghost use mathlib.Core.Bool.{true};
+ghost use Rattle.timing.specs.Class.{atStart, classIn, isCell, classNumber, cursorPast, classed, Ascending};
 use crate::Class;
 use crate::HalfClocks;
 use crate::Profile;
@@ -58,5 +59,31 @@ impl Cursor {
             class: self.class_of(interval),
             next: self,
         }
+    }
+
+    // The next three are a reader's: no case for each class, so that a loop over intervals has no jump for one.
+
+    // Whether the next interval is of class 2, 3 or 4.
+    pub fn meets_cell(self, interval: u16) -> bool
+        requires { ⌜ Ascending self ⌝ }
+        ensures { λ r. ⌜ r ≡ isCell (classIn self interval) ⌝ }
+    {
+        (self.min.0 <= interval) & (interval < self.rpt.0)
+    }
+
+    // Which of them it is: the units of its cell, one more for each edge that it reaches.
+    pub fn units(self, interval: u16) -> u32
+        requires { ⌜ Ascending self ⌝ }
+        requires { ⌜ isCell (classIn self interval) ≡ true ⌝ }
+        ensures { λ r. ⌜ r ≡ classNumber (classIn self interval) ⌝ }
+    {
+        2 + (self.b23.0 <= interval) as u32 + (self.b34.0 <= interval) as u32
+    }
+
+    // Where the classing stands after it.
+    pub fn past(self, interval: u16) -> Cursor
+        ensures { λ r. ⌜ r ≡ cursorPast self interval ⌝ }
+    {
+        self
     }
 }

@@ -1,40 +1,53 @@
 -- Why `codec::reader::conclude` answers `stripAnswer`: code and definition make the same tests in the same order.
 -- Rests on no axiom.
-use mathlib.Core.Path.{refl}
-use native.Mathlib.Omega.{arith}
-use Rattle.codec.proofs.ScanLaws.{ends-ragged, ends-overlong, ends-stray, ends-whole}
+use mathlib.Core.Path.{sym, _∙_}
+use Rattle.symbols.specs.machine.Step.{stripAnswer}
+use borrow.Author.Tests.{eq-eqb, ne-eqb, lt-ltb, le-ltb}
 use borrow.Author.Needs.{needs}
 use Rattle.codec.proofs.reader.conclude.Statement.{statement}
 use Rattle.codec.proofs.reader.conclude.Tie as tie
 
 returns : tie.Need-returns
-returns c = ends-ragged _ (c .if1 .taken)
+unfolding stripAnswer
+returns c = rw (ne-eqb _ 4 (c .if1 .taken))
 
 returns-2 : tie.Need-returns-2
-returns-2 c = ends-overlong _ (c .before .before .if1 .left) (c .if2 .taken)
+unfolding stripAnswer
+returns-2 c = rw (eq-eqb _ 4 (c .before .before .if1 .left), lt-ltb 6400 _ (c .if2 .taken))
+
+is-stray-requires : tie.Need-is-stray-requires
+is-stray-requires c κs = search needs
+
+stray-place-requires : tie.Need-stray-place-requires
+stray-place-requires c κs = search needs
 
 returns-3 : tie.Need-returns-3
-returns-3 c = ends-stray _ (c .before .before .before .before .if1 .left) (c .before .before .if2 .left) (c .if3 .taken)
+unfolding stripAnswer
+returns-3 c =
+    let stray = c .before .before in
+    let few = stray .before in
+    rw (
+      sym (stray .is-stray .ensures) ∙ c .before .if3 .taken,
+      eq-eqb _ 4 (few .before .before .if1 .left),
+      le-ltb 6400 _ (few .if2 .left),
+      c .stray-place .ensures,
+    )
+
+cast-t9 : tie.Need-cast-t9
+cast-t9 c = search needs
 
 returns-4 : tie.Need-returns-4
+unfolding stripAnswer
 returns-4 c =
-    let third = c .before .before in
-    let second = third .before .before in
-    let first = second .before .before in
-    ends-whole _ (first .if1 .left) (second .if2 .left) (third .if3 .left) 0 (omega arith)
-
-sub-t6 : tie.Need-sub-t6
-sub-t6 c = search needs
-
-cast-t7 : tie.Need-cast-t7
-cast-t7 c = search needs
-
-returns-5 : tie.Need-returns-5
-returns-5 c =
-    let third = c .before .before .before in
-    let second = third .before .before in
-    let first = second .before .before in
-    ends-whole _ (first .if1 .left) (second .if2 .left) (third .if3 .left) _ refl
+    let stray = c .before .before in
+    let few = stray .before in
+    rw (
+      sym (stray .is-stray .ensures) ∙ c .before .if3 .left,
+      eq-eqb _ 4 (few .before .before .if1 .left),
+      le-ltb 6400 _ (few .if2 .left),
+    )
 
 pub conclude-spec : {M : Type 1} → statement M
-conclude-spec = tie.close (tie.spec returns returns-2 returns-3 returns-4 sub-t6 cast-t7 returns-5)
+conclude-spec =
+    tie.close
+    (tie.spec returns returns-2 is-stray-requires stray-place-requires returns-3 cast-t9 returns-4)

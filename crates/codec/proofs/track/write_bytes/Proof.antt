@@ -1,91 +1,83 @@
--- Why `codec::track::write_bytes` inks all bits: each turn inks those of one byte more. Rests on no axiom.
-use Prim.Native.Nat.{ℕ, suc, _+_, _-_, _≤_, _<_}
-use mathlib.Core.Path.{_≡_, ap, subst}
+-- Why `codec::track::write_bytes` draws all words: each turn draws one more. Rests on no axiom.
+use Prim.Native.Nat.{ℕ, _+_, _-_, _≤_, _<_}
+use mathlib.Core.Path.{_≡_, refl, sym, ap, _∙_}
 use mathlib.Core.List.{List}
-use denote.Ref.{now}
 use native.Mathlib.Omega.{arith}
-use native.Mathlib.Numerals.{add-one}
-use borrow.Author.Needs.{needs}
+use denote.Ref.{now}
 use lib.ListN.{length, drop, getD, drop-of-length-le}
-use lib.Seq.{drop-cons}
-use Rattle.lists.specs.Filled.{storedAt}
-use Rattle.symbols.specs.Bits.{writtenBits, allBits}
-use Rattle.symbols.proofs.BytesLaws.{length-of-bits}
-use Rattle.timing.specs.declared.Profile.{Profile}
-use Rattle.lengths.specs.Pen.{inked, penAfter}
-use Rattle.lengths.specs.declared.pen.Pen.{Pen}
-use Rattle.codec.proofs.InkLaws.{Inking, inked-at-most, inking-begins, inking-goes-on, place-within, inking-ends}
+use Rattle.codec.specs.machine.Pen.{Room}
+use Rattle.codec.specs.machine.Track.{Writing, writing, wroteByte, wrote}
+use Rattle.codec.proofs.TrackLaws.{wrote-from, wrote-none, room-after-byte, same-length-of-whole}
 use Rattle.codec.proofs.track.write_bytes.Statement.{statement}
 use Rattle.codec.proofs.track.write_bytes.Tie as tie
 
+-- at place k: room for the bytes from there on, and they make the whole
+abbrev Drawing-on : List ℕ → List ℕ → Writing → Writing → ℕ → Type 0
+Drawing-on table bytes s₀ s k =
+    (k ≤ length bytes)
+    × Room (s .track .pen) (length bytes - k)
+    × (wrote table s (drop k bytes) ≡ wrote table s₀ bytes)
+
 a-byte-more
-    : (p : Profile) (bytes : List ℕ) (pen₀ : Pen) (old : List ℕ) (at₀ k : ℕ) {out : List ℕ} {pen : Pen} {at : ℕ}
+    : (table bytes : List ℕ) (s₀ s s′ : Writing) (k : ℕ)
     → k < length bytes
-    → Inking p (allBits bytes) pen₀ old at₀ (allBits (drop k bytes)) out pen at
-    → (out′ : List ℕ) (pen′ : Pen) (at′ : ℕ)
-    → pen′ ≡ penAfter p pen (writtenBits (getD bytes k 0))
-    → at′ ≡ at + length (inked p pen (writtenBits (getD bytes k 0)))
-    → out′ ≡ storedAt out at (inked p pen (writtenBits (getD bytes k 0)))
-    → Inking p (allBits bytes) pen₀ old at₀ (allBits (drop (k + 1) bytes)) out′ pen′ at′
-unfolding allBits
-a-byte-more p bytes pen₀ old at₀ k {out} {pen} {at} h inking out′ pen′ at′ pens places stores =
-    rw add-one
-    (inking-goes-on p (allBits bytes) pen₀ old at₀ (writtenBits (getD bytes k 0)) (allBits (drop (suc k) bytes)) out′
-    pen′ at′
-    (subst (λ (ws : List ℕ). Inking p (allBits bytes) pen₀ old at₀ (allBits ws) out pen at) (drop-cons bytes k 0 h)
-    inking)
-    pens places stores)
+    → Drawing-on table bytes s₀ s k
+    → s′ ≡ wroteByte table s (getD bytes k 0)
+    → Drawing-on table bytes s₀ s′ (k + 1)
+a-byte-more table bytes s₀ s s′ k h on e =
+    let byte = getD bytes k 0 in
+    let room = on .1 in
+    rw e (
+      omega arith,
+      room-after-byte table s byte (length bytes - (k + 1)) (room .0, omega arith, omega arith),
+      sym (wrote-from table s bytes k h) ∙ on .2,
+    )
 
 abbrev Inv-loop : tie.InvT-loop
-Inv-loop p bytes out₀ track₀ k₀ out track k =
-    (k ≤ length bytes)
-    × Inking p (allBits bytes) (track₀ .pen) out₀ (track₀ .at) (allBits (drop k bytes)) out (track .pen) (track .at)
+Inv-loop table bytes out₀ track₀ k₀ out track k =
+    Drawing-on table bytes (writing track₀ out₀) (writing track out) k
 
 abbrev μ-loop : tie.MeasureT-loop
-μ-loop p bytes out₀ track₀ k₀ out track k = length bytes - k
+μ-loop table bytes out₀ track₀ k₀ out track k = length bytes - k
 
 loop-holds : tie.Need-loop-holds Inv-loop μ-loop
-loop-holds c = (omega arith, inking-begins _ _ _ _ _ (c .before .before .pre .0))
+loop-holds c = let room = c .before .before .pre in (omega arith, (room .0, omega arith, omega arith), refl)
 
 mul-write-byte : tie.Need-mul-write-byte Inv-loop μ-loop
-mul-write-byte c = search needs
+mul-write-byte c = omega arith
 
 shared-slice-read-write-byte : tie.Need-shared-slice-read-write-byte Inv-loop μ-loop
-shared-slice-read-write-byte c = search needs
+shared-slice-read-write-byte c = omega arith
 
 write-byte-requires : tie.Need-write-byte-requires Inv-loop μ-loop
 write-byte-requires c κs =
-    let inking = c .before .before .before .loop .inv .1 in
-    let within = place-within _ _ _ _ _ _ inking in
-    let entry = c .before .before .before .before .before .before in
-    let start = entry .args in
-    let bits = length-of-bits (now (start .bytes)) in
-    let most = inked-at-most (start .p) (start .start .pen) (allBits (now (start .bytes))) in
-    (inking .steady, omega (arith, entry .pre .1))
+    let room = c .before .before .before .loop .inv .1 in
+    let inside = c .before .before .loop-test .taken in
+    (room .0, omega arith, omega arith)
 
 add-k : tie.Need-add-k Inv-loop μ-loop
-add-k c = search needs
+add-k c = omega arith
 
 loop-less : tie.Need-loop-less Inv-loop μ-loop
-loop-less c = search needs
+loop-less c = omega arith
 
 loop-again : tie.Need-loop-again Inv-loop μ-loop
 loop-again c =
-    let taken = c .before .before .before .before .before .loop-test .taken in
-    let inking = c .before .before .before .before .before .before .loop .inv .1 in
-    let wrote = c .before .before .write-byte .ensures in
-    (omega arith, a-byte-more _ _ _ _ _ _ taken inking _ _ _ (wrote .0) (wrote .1) (wrote .2))
+    let turn = c .before .before .before .before .before in
+    let head = turn .before .loop in
+    a-byte-more _ _ _ _ _ (head .k) (turn .loop-test .taken) (head .inv) (c .before .before .write-byte .ensures)
 
 same-length : tie.Need-same-length Inv-loop μ-loop
-same-length c = c .before .loop .inv .1 .same-length
+same-length c = same-length-of-whole _ _ _ _ _ (c .before .loop .inv .2)
 
 returns : tie.Need-returns Inv-loop μ-loop
-unfolding allBits
 returns c =
-    let bytes = now (c .before .before .before .before .args .bytes) in
-    inking-ends _ _ _ _ _ _
-    (ap allBits (drop-of-length-le bytes {i = c .before .loop .k} (c .loop-test .left)))
-    (c .before .loop .inv .1)
+    let head = c .before .loop in
+    let args = c .before .before .before .before .args in
+    let s = writing (head .track) (head .out) in
+    sym (wrote-none (now (args .table)) s)
+    ∙ ap (wrote (now (args .table)) s) (sym (drop-of-length-le (now (args .bytes)) (c .loop-test .left)))
+    ∙ head .inv .2
 
 pub write-bytes-spec : {M : Type 1} → statement M
 write-bytes-spec =

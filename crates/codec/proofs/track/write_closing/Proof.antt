@@ -1,92 +1,55 @@
--- Why `codec::track::write_closing` inks three 0s: one after the other. Rests on no axiom.
-use Prim.Native.Nat.{ℕ, _+_, _≤_}
-use mathlib.Core.Path.{_≡_, refl}
-use mathlib.Core.List.{List, [], _∷_}
-use denote.Ref.{now}
+-- Why `codec::track::write_closing` answers one less than the cells drawn: the closing word ends one at least. Rests on
+-- no axiom.
+use Prim.Native.Nat.{ℕ, _+_, _-_, _≤_}
 use native.Mathlib.Omega.{arith}
-use lib.ListN.{length}
-use Rattle.lists.specs.Filled.{storedAt}
-use Rattle.symbols.specs.Bits.{Bit, O}
-use Rattle.timing.specs.declared.Profile.{Profile}
-use Rattle.lengths.specs.Pen.{inked, penAfter}
-use Rattle.lengths.specs.declared.pen.Pen.{Pen}
-use Rattle.codec.proofs.InkLaws.{Inking, inked-at-most, inking-begins, inking-goes-on, place-within, inking-ends}
+use mathlib.Core.Path.{_≡_, ap, _∙_}
 use borrow.Author.Needs.{needs}
+use denote.Ref.{now}
+use Rattle.images.specs.machine.TopBits.{topBits}
+use Rattle.codec.specs.machine.Pen.{Drawing, drawing, drawn}
+use Rattle.codec.proofs.TrackLaws.{closing-ends-a-cell}
 use Rattle.codec.proofs.track.write_closing.Statement.{statement}
 use Rattle.codec.proofs.track.write_closing.Tie as tie
 
-abbrev zeros : List Bit
-zeros = O ∷ O ∷ O ∷ []
+one-less : (n m : ℕ) → n ≡ m → 1 ≤ m → n - 1 + 1 ≡ m
+one-less n m e h = omega arith
 
-module _ (p : Profile) (pen₀ : Pen) (old : List ℕ) (at₀ : ℕ) where
-  a-zero-more
-      : (rest : List Bit) {out out′ : List ℕ} {pen pen′ : Pen} {at at′ : ℕ}
-      → Inking p zeros pen₀ old at₀ (O ∷ rest) out pen at
-      → (pen′ ≡ penAfter p pen (O ∷ []))
-      × (at′ ≡ at + length (inked p pen (O ∷ [])))
-      × (out′ ≡ storedAt out at (inked p pen (O ∷ [])))
-      → Inking p zeros pen₀ old at₀ rest out′ pen′ at′
-  a-zero-more rest inking wrote =
-      inking-goes-on p zeros pen₀ old at₀ (O ∷ []) rest _ _ _ inking (wrote .0) (wrote .1) (wrote .2)
+closing-word-requires : tie.Need-closing-word-requires
+closing-word-requires c κs = search needs
 
-  place-below
-      : {rest : List Bit} {out : List ℕ} {pen : Pen} {at : ℕ}
-      → Inking p zeros pen₀ old at₀ rest out pen at
-      → at ≤ at₀ + 3
-  place-below inking =
-      let within = place-within p zeros pen₀ old at₀ _ inking in
-      let most = inked-at-most p pen₀ zeros in
-      omega arith
+draw-word-requires : tie.Need-draw-word-requires
+draw-word-requires c κs = search needs
 
-write-zero-requires : tie.Need-write-zero-requires
-write-zero-requires c κs = search needs
-
-write-zero-requires-2 : tie.Need-write-zero-requires-2
-write-zero-requires-2 c κs =
-    let first = c .before .before .before in
-    let entry = first .before .before .before in
-    let start = entry .args in
-    let track = start .track in
-    let out = now (start .out) in
-    let none = inking-begins (start .p) zeros (track .pen) out (track .at) (entry .pre .0) in
-    let one = a-zero-more (start .p) (track .pen) out (track .at) (O ∷ O ∷ []) none (first .write-zero .ensures) in
-    let within = place-below (start .p) (track .pen) out (track .at) one in
-    (one .steady, omega (arith, entry .pre .1))
-
-write-zero-requires-3 : tie.Need-write-zero-requires-3
-write-zero-requires-3 c κs =
-    let second = c .before .before .before in
-    let first = second .before .before .before .before in
-    let entry = first .before .before .before in
-    let start = entry .args in
-    let track = start .track in
-    let out = now (start .out) in
-    let none = inking-begins (start .p) zeros (track .pen) out (track .at) (entry .pre .0) in
-    let one = a-zero-more (start .p) (track .pen) out (track .at) (O ∷ O ∷ []) none (first .write-zero .ensures) in
-    let two = a-zero-more (start .p) (track .pen) out (track .at) (O ∷ []) one (second .write-zero2 .ensures) in
-    let within = place-below (start .p) (track .pen) out (track .at) two in
-    (two .steady, omega (arith, entry .pre .1))
+sub-result : tie.Need-sub-result
+sub-result c =
+    let drew = c .before .before .before in
+    let made = drew .before .before in
+    let args = made .before .before .args in
+    let start = drawing (args .track .pen) (now (args .out)) in
+    let all = drew .draw-word .ensures
+    ∙ ap (λ (w : ℕ). drawn (now (args .table)) start (topBits 16 w)) (made .closing-word .ensures) in
+    omega (
+      arith,
+      closing-ends-a-cell (now (args .table)) start (args .track .previous),
+      ap (λ (d : Drawing). d .pen .cells) all,
+    )
 
 same-length : tie.Need-same-length
 same-length c = search needs
 
 returns : tie.Need-returns
 returns c =
-    let third = c .before .before in
-    let second = third .before .before .before .before in
-    let first = second .before .before .before .before in
-    let entry = first .before .before .before in
-    let start = entry .args in
-    let track = start .track in
-    let out = now (start .out) in
-    let none = inking-begins (start .p) zeros (track .pen) out (track .at) (entry .pre .0) in
-    let one = a-zero-more (start .p) (track .pen) out (track .at) (O ∷ O ∷ []) none (first .write-zero .ensures) in
-    let two = a-zero-more (start .p) (track .pen) out (track .at) (O ∷ []) one (second .write-zero2 .ensures) in
-    let three = a-zero-more (start .p) (track .pen) out (track .at) [] two (third .write-zero3 .ensures) in
-    let ended = inking-ends _ _ _ _ _ [] refl three in
-    (ended .1, ended .2)
+    let drew = c .before .before .before in
+    let made = drew .before .before in
+    let args = made .before .before .args in
+    let start = drawing (args .track .pen) (now (args .out)) in
+    let all = drew .draw-word .ensures
+    ∙ ap (λ (w : ℕ). drawn (now (args .table)) start (topBits 16 w)) (made .closing-word .ensures) in (
+      one-less _ _ (ap (λ (d : Drawing). d .pen .cells) all)
+          (closing-ends-a-cell (now (args .table)) start (args .track .previous)),
+      ap (λ (d : Drawing). d .out) all,
+    )
 
 pub write-closing-spec : {M : Type 1} → statement M
 write-closing-spec =
-    tie.close
-    (tie.spec write-zero-requires write-zero-requires-2 write-zero-requires-3 same-length returns)
+    tie.close (tie.spec closing-word-requires draw-word-requires sub-result same-length returns)

@@ -14,22 +14,20 @@ use borrow.Author.Needs.{needs}
 use Rattle.codec.proofs.writer.has_room.Statement.{statement}
 use Rattle.codec.proofs.writer.has_room.Tie as tie
 
-written-bytes-requires : tie.Need-written-bytes-requires
-written-bytes-requires c κs = search needs
-
 mul-if1 : tie.Need-mul-if1
-mul-if1 c = omega (arith, listed _ (c .before .before .pre) .few-bytes, c .written-bytes .ensures)
+mul-if1 c = omega (arith, listed _ (c .before .pre .0) .few-bytes, c .before .pre .1)
 
 add-if1 : tie.Need-add-if1
-add-if1 c = omega (arith, listed _ (c .before .before .pre) .few-bytes, c .written-bytes .ensures)
+add-if1 c = omega (arith, listed _ (c .before .pre .0) .few-bytes, c .before .pre .1)
 
 returns : tie.Need-returns
 returns c =
-    let start = c .before .before .before .args in
+    let entry = c .before .before in
+    let start = entry .args in
     let bytes = written (now (start .items)) in
     let many = length-of-written (now (start .items)) in
     let few = cells-at-most bytes in
-    sym (le-leb (length (writtenCells bytes)) (start .room) (omega (arith, c .before .written-bytes .ensures)))
+    sym (le-leb (length (writtenCells bytes)) (start .room) (omega (arith, entry .pre .1)))
 
 count-cells-requires : tie.Need-count-cells-requires
 count-cells-requires c κs = search needs
@@ -41,7 +39,6 @@ pub has-room-spec : {M : Type 1} → statement M
 has-room-spec =
     tie.close
     (tie.spec
-    written-bytes-requires
     mul-if1
     add-if1
     returns

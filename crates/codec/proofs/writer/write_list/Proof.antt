@@ -3,19 +3,22 @@
 use mathlib.Core.Path.{sym, _∙_}
 use denote.Ref.{now}
 use Rattle.items.specs.Written.{written}
-use Rattle.items.proofs.RuleLaws.{listed}
 use Rattle.codec.proofs.WriterLaws.{too-short, long-enough, rule-of-stream, output-of-stream}
 use borrow.Author.Needs.{needs}
 use Rattle.codec.proofs.writer.write_list.Statement.{statement}
 use Rattle.codec.proofs.writer.write_list.Tie as tie
 
+written-bytes-requires : tie.Need-written-bytes-requires
+written-bytes-requires c κs = search needs
+
 has-room-requires : tie.Need-has-room-requires
-has-room-requires c κs = c .before .before .pre .1
+has-room-requires c κs = (c .before .before .before .pre .1, c .written-bytes .ensures)
 
 write-stream-requires : tie.Need-write-stream-requires
 write-stream-requires c κs =
-    let pre = c .before .before .before .before .before .pre in
-    (pre .0, listed _ (pre .1) .few-bytes)
+    let counted = c .before .before .before in
+    let pre = counted .before .before .before .pre in
+    (pre .0, (pre .1, counted .written-bytes .ensures))
 
 same-length : tie.Need-same-length
 same-length c = search needs
@@ -23,7 +26,7 @@ same-length c = search needs
 returns : tie.Need-returns
 returns c =
     let tested = c .before .before .before .before in
-    let entry = tested .before .before .before .before in
+    let entry = tested .before .before .before .before .before in
     let pre = entry .pre in
     let items = now (entry .args .items) in
     let old = now (entry .args .out) in
@@ -36,7 +39,7 @@ returns c =
 
 returns-2 : tie.Need-returns-2
 returns-2 c =
-    let entry = c .before .before .before .before in
+    let entry = c .before .before .before .before .before in
     let pre = entry .pre in
     let items = now (entry .args .items) in
     let old = now (entry .args .out) in
@@ -48,4 +51,4 @@ returns-2 c =
 
 pub write-list-spec : {M : Type 1} → statement M
 write-list-spec =
-    tie.close (tie.spec has-room-requires write-stream-requires same-length returns returns-2)
+    tie.close (tie.spec written-bytes-requires has-room-requires write-stream-requires same-length returns returns-2)

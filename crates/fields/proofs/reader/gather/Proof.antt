@@ -1,207 +1,139 @@
--- Why `fields::reader::gather` answers `gatherRule` and stores the field's items: each turn reads one cell of the
--- field, and the ways out are the rule's cases. Rests on no axiom.
-mod Turn
+-- Why `fields::reader::gather` answers `gatherRule` and stores the field's items: the pass stops where the rule does,
+-- and its tests at the end are the rule's. Rests on no axiom.
 mod End
-use Prim.Native.Nat.{_-_}
 use mathlib.Core.Path.{_≡_, sym, ap, _∙_}
 use native.Mathlib.Omega.{arith}
-use lib.ListN.{length, getD}
-use Rattle.timing.specs.Class.{classIn, classesFrom, classesOf}
-use Rattle.timing.specs.declared.cursor.Cursor.{Cursor}
-use Rattle.timing.specs.declared.cursor.Classed.{Classed}
-use Rattle.timing.proofs.ClassLaws.{classes-from-start}
-use Rattle.symbols.specs.Step.{itemClosed}
-use Rattle.intervals.specs.Cells.{taken}
-use Rattle.refusal.specs.declared.Refusal.the-variants.{EndsEarly, MisplacedMark}
-use Turn.{Gathering, begins, no-items, count-is-small, turn-ends, turn-stops, turn-goes-on}
-use End.{pass-is-stray, pass-is-whole, pass-stored}
+use Rattle.lists.specs.Filled.{storedAt}
+use Rattle.refusal.specs.declared.Refusal.the-variants.{IntervalTooShort, IntervalTooLong, EndsEarly, MisplacedMark}
+use Rattle.timing.specs.Class.{classesOf}
+use Rattle.symbols.specs.machine.Step.{placeNow}
+use Rattle.intervals.specs.machine.Pass.{passed}
+use Rattle.intervals.specs.declared.Pass.the-variants.{Read}
+use End.{refuses, interval-is-short, interval-is-long, field-is-short, used-is-small, field-is-stray}
+use End.{field-is-whole, items-are-gathered}
 use borrow.Author.Needs.{needs}
 use Rattle.fields.proofs.reader.gather.Statement.{statement}
 use Rattle.fields.proofs.reader.gather.Tie as tie
 
-abbrev Inv-loop : tie.InvT-loop
-Inv-loop intervals n out₀ m₀ cursor₀ count₀ k₀ out m cursor count k =
-    Gathering cursor₀ intervals out₀ n out m cursor count k
+-- a pass that was not stopped
+read-is
+    : (c : tie.After-known-told3)
+    → let args = c .before .before .before .before .before .before .before .before .before .args in
+    let read = c .before .reading .given .0 in
+    Read (read .0) (read .1 .0) ≡ passed (args .n) (classesOf (args .p) (args .intervals .now)) .end
+read-is c = sym (c .before .reading .given .1) ∙ c .before .before .before .before .before .pass-over .ensures .0
 
-abbrev μ-loop : tie.MeasureT-loop
-μ-loop intervals n out₀ m₀ cursor₀ count₀ k₀ out m cursor count k = length intervals - k
+pass-over-requires : tie.Need-pass-over-requires
+pass-over-requires c κs = let pre = c .before .before .before .pre in (pre .0, (pre .1 .0, omega (arith, pre .1 .1)))
 
--- the pass starts before the first interval
-the-classes
-    : (c : tie.After-start Inv-loop μ-loop)
-    → let args = c .before .before .before .before .args in
-    classesFrom (c .start .result) (args .intervals .now) ≡ classesOf (args .p) (args .intervals .now)
-the-classes c =
-    let args = c .before .before .before .before .args in
-    ap (λ (start : Cursor). classesFrom start (args .intervals .now)) (c .start .ensures)
-    ∙ sym (classes-from-start (args .p) (args .intervals .now))
+enum-known-at : tie.Need-enum-known-at
+enum-known-at c = search needs
 
--- what the interval's own class was taken as
-taken-here
-    : (c : tie.After-take Inv-loop μ-loop)
-    → let turn = c .before .before .before .before .before .before in
-    let args = turn .before .before .before .before .before .args in
-    c .take .result
-    ≡ taken (classIn (turn .loop .cursor) (getD (args .intervals .now) (turn .loop .k) 0)) (turn .loop .k)
-taken-here c =
-    let turn = c .before .before .before .before .before .before in
-    c .take .ensures ∙ ap (λ (r : Classed). taken (r .class) (turn .loop .k)) (c .before .step .ensures)
+enum-known-at-2 : tie.Need-enum-known-at-2
+enum-known-at-2 c = search needs
 
-new-requires : tie.Need-new-requires Inv-loop μ-loop
-new-requires c κs = search needs
+enum-known-reading : tie.Need-enum-known-reading
+enum-known-reading c = search needs
 
-start-requires : tie.Need-start-requires Inv-loop μ-loop
-start-requires c κs = search needs
+same-length : tie.Need-same-length
+same-length c = search needs
 
-loop-holds : tie.Need-loop-holds Inv-loop μ-loop
-loop-holds c = rw (c .before .new .ensures) (begins _ _ _ _)
-
-same-length : tie.Need-same-length Inv-loop μ-loop
-same-length c = c .before .before .before .loop .inv .same-length
-
-returns : tie.Need-returns Inv-loop μ-loop
+returns : tie.Need-returns
 returns c =
-    let refusal = turn-ends _ _ _ _ (c .before .before .before .loop .inv) (c .before .if1 .taken) (c .if2 .taken) in
-    rw (← the-classes (c .before .before .before .before)) (refusal, no-items _ _ _ _ EndsEarly _ refusal)
+    let read = c .before .before in
+    let pre = read .before .before .before .before .before .before .before .before .before .pre in
+    refuses _ _ EndsEarly _ _ (field-is-short _ _ (pre .1 .0) (pre .1 .1) _ _ (read-is read) (c .if1 .taken))
 
-mul-step : tie.Need-mul-step Inv-loop μ-loop
-mul-step c = search needs
+is-stray-requires : tie.Need-is-stray-requires
+is-stray-requires c κs = search needs
 
-shared-slice-read-step : tie.Need-shared-slice-read-step Inv-loop μ-loop
-shared-slice-read-step c = search needs
+last-place-requires : tie.Need-last-place-requires
+last-place-requires c κs =
+    let tested = c .before .before in
+    let read = tested .before .before in
+    let pre = read .before .before .before .before .before .before .before .before .before .pre in
+    let small = used-is-small _ _ (pre .1 .0) (pre .1 .1) _ _ (read-is read) (tested .if1 .left) in
+    omega arith
 
-step-requires : tie.Need-step-requires Inv-loop μ-loop
-step-requires c κs = search needs
+stray-place-requires : tie.Need-stray-place-requires
+stray-place-requires c κs = search needs
 
-cast-take : tie.Need-cast-take Inv-loop μ-loop
-cast-take c = search needs
+same-length-2 : tie.Need-same-length-2
+same-length-2 c = search needs
 
-take-requires : tie.Need-take-requires Inv-loop μ-loop
-take-requires c κs = search needs
-
-enum-known-refusal : tie.Need-enum-known-refusal Inv-loop μ-loop
-enum-known-refusal c = search needs
-
-same-length-2 : tie.Need-same-length-2 Inv-loop μ-loop
-same-length-2 c = c .before .before .before .before .before .before .before .before .before .loop .inv .same-length
-
-returns-2 : tie.Need-returns-2 Inv-loop μ-loop
+returns-2 : tie.Need-returns-2
 returns-2 c =
-    let at-take = c .before .before .before in
-    let tested = at-take .before .before .before in
-    let stopped = sym (c .before .refusal .given .1) ∙ taken-here at-take in
-    let refusal =
-    turn-stops
-    _
-    _
-    _
-    _
-    (tested .before .before .before .loop .inv)
-    _
-    (tested .before .if1 .taken)
-    (tested .if2 .left)
-    stopped in
-    rw (← the-classes (tested .before .before .before .before))
-    (refusal, no-items _ _ _ _ (c .before .refusal .given .0 .0) _ refusal)
+    let stray = c .before .before .before in
+    let tested = stray .before in
+    let read = tested .before .before in
+    let pre = read .before .before .before .before .before .before .before .before .before .pre in
+    let m = read .before .reading .given .0 .0 in
+    let place = c .stray-place .ensures ∙ ap (placeNow m) (c .before .last-place .ensures) in
+    refuses _ _ (MisplacedMark (c .stray-place .result)) _ _
+    (rw place
+    (field-is-stray _ _ (pre .1 .0) (pre .1 .1) _ _ (read-is read) (tested .if1 .left)
+    (sym (stray .is-stray .ensures) ∙ c .before .before .if2 .taken)))
 
-enum-known-cell : tie.Need-enum-known-cell Inv-loop μ-loop
-enum-known-cell c = search needs
+same-length-3 : tie.Need-same-length-3
+same-length-3 c = search needs
 
-cast-step : tie.Need-cast-step Inv-loop μ-loop
-cast-step c = search needs
-
-step-requires-2 : tie.Need-step-requires-2 Inv-loop μ-loop
-step-requires-2 c κs = search needs
-
-put-requires : tie.Need-put-requires Inv-loop μ-loop
-put-requires c κs =
-    let tested = c .before .before .before .before .before .before .before .before .before in
-    let turn = tested .before .before in
-    count-is-small _ _ _ _ (turn .loop .inv) (tested .if1 .taken) (turn .before .before .before .before .before .pre .1)
-
-add-k : tie.Need-add-k Inv-loop μ-loop
-add-k c =
-    let tested = c .before .before .before .before .before .before .before .before .before .before .before .before in
-    omega (arith, tested .if2 .left, tested .before .before .before .before .before .before .before .before .pre .0)
-
-loop-less : tie.Need-loop-less Inv-loop μ-loop
-loop-less c = search needs
-
-loop-again : tie.Need-loop-again Inv-loop μ-loop
-unfolding itemClosed
-loop-again c =
-    let stored = c .before .before .before .put in
-    let stepped = c .before .before .before .before .before in
-    let at-take = stepped .before .before .before .before in
-    let tested = at-take .before .before .before in
-    let turn = tested .before .before .before in
-    rw (ap (λ (r : Classed). r .next) (at-take .before .step .ensures))
-    (turn-goes-on
-    _
-    _
-    _
-    _
-    (turn .loop .inv)
-    _
-    _
-    _
-    _
-    (tested .before .if1 .taken)
-    (tested .if2 .left)
-    (turn .before .before .before .before .before .pre .0)
-    (sym (stepped .before .before .cell .given .1) ∙ taken-here at-take)
-    (stepped .step2 .ensures)
-    (stored .ensures .0)
-    (stored .ensures .1))
-
-same-length-3 : tie.Need-same-length-3 Inv-loop μ-loop
-same-length-3 c = c .before .before .before .before .loop .inv .same-length
-
-returns-3 : tie.Need-returns-3 Inv-loop μ-loop
+returns-3 : tie.Need-returns-3
 returns-3 c =
-    let pass = c .before .before .before .before in
-    let refusal = pass-is-stray _ _ _ _ (pass .loop .inv) (c .before .before .if1 .left) (c .if3 .taken) in
-    rw (← the-classes (pass .before))
-    (refusal, no-items _ _ _ _ (MisplacedMark (pass .loop .m .place)) _ refusal)
+    let told = c .before in
+    let pass = told .before .before .before .before in
+    let pre = pass .before .before .before .before .pre in
+    let at = told .at .given .0 .0 in
+    refuses _ _ (IntervalTooShort at) _ _
+    (interval-is-short _ _ (pre .1 .0) (pre .1 .1) at (sym (told .at .given .1) ∙ pass .pass-over .ensures .0))
 
-same-length-4 : tie.Need-same-length-4 Inv-loop μ-loop
-same-length-4 c = c .before .before .before .before .loop .inv .same-length
+same-length-4 : tie.Need-same-length-4
+same-length-4 c = search needs
 
-returns-4 : tie.Need-returns-4 Inv-loop μ-loop
+returns-4 : tie.Need-returns-4
 returns-4 c =
-    let pass = c .before .before .before .before in
-    rw (← the-classes (pass .before)) (
-      pass-is-whole _ _ _ _ (pass .loop .inv) (c .before .before .if1 .left) (c .if3 .left),
-      λ e. pass-stored _ _ _ _ (pass .loop .inv) (c .before .before .if1 .left),
+    let told = c .before in
+    let pass = told .before .before .before .before in
+    let pre = pass .before .before .before .before .pre in
+    let at = told .at2 .given .0 .0 in
+    refuses _ _ (IntervalTooLong at) _ _
+    (interval-is-long _ _ (pre .1 .0) (pre .1 .1) at (sym (told .at2 .given .1) ∙ pass .pass-over .ensures .0))
+
+same-length-5 : tie.Need-same-length-5
+same-length-5 c = search needs
+
+returns-5 : tie.Need-returns-5
+returns-5 c =
+    let stray = c .before in
+    let tested = stray .before in
+    let read = tested .before .before in
+    let pass = read .before .before .before .before .before in
+    let pre = pass .before .before .before .before .pre in
+    let fair = sym (stray .is-stray .ensures) ∙ c .if2 .left in (
+      field-is-whole _ _ (pre .1 .0) (pre .1 .1) _ _ (read-is read) (tested .if1 .left) fair,
+      λ e.
+          pass .pass-over .ensures .1
+          ∙ ap (storedAt _ 0)
+          (items-are-gathered _ _ (pre .1 .0) (pre .1 .1) _ _ (read-is read) (tested .if1 .left) fair),
     )
 
 pub gather-spec : {M : Type 1} → statement M
 gather-spec =
     tie.close
     (tie.spec
-    Inv-loop
-    μ-loop
-    new-requires
-    start-requires
-    loop-holds
+    pass-over-requires
+    enum-known-at
+    enum-known-at-2
+    enum-known-reading
     same-length
     returns
-    mul-step
-    shared-slice-read-step
-    step-requires
-    cast-take
-    take-requires
-    enum-known-refusal
+    is-stray-requires
+    last-place-requires
+    stray-place-requires
     same-length-2
     returns-2
-    enum-known-cell
-    cast-step
-    step-requires-2
-    put-requires
-    add-k
-    loop-less
-    loop-again
     same-length-3
     returns-3
     same-length-4
-    returns-4)
+    returns-4
+    same-length-5
+    returns-5)

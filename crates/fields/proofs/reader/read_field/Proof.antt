@@ -2,6 +2,7 @@
 -- of the count are its first tests, and the rest is read below them. Rests on no axiom.
 use mathlib.Core.Path.{sym, ap, _∙_}
 use Rattle.refusal.specs.Answer.{verdictAnswer}
+use Rattle.refusal.proofs.AnswerLaws.{verdict-accepts}
 use Rattle.fields.proofs.ReaderLaws.{profile-refuses, count-refuses, checked-settles, count-in-range}
 use borrow.Author.Needs.{needs}
 use Rattle.fields.proofs.reader.read_field.Statement.{statement}
@@ -23,7 +24,11 @@ returns c =
     count-refuses _ _ _ _ fair (c .if1 .taken)
 
 read-checked-requires : tie.Need-read-checked-requires
-read-checked-requires c κs = count-in-range _ (c .before .if1 .left)
+read-checked-requires c κs =
+    let tested = c .before in (
+      verdict-accepts _ _ (tested .before .before .before .check .ensures) (tested .before .enum-told .given .1),
+      count-in-range _ (tested .if1 .left),
+    )
 
 returns-2 : tie.Need-returns-2
 returns-2 c =

@@ -4,31 +4,26 @@ use mathlib.Core.Path.{ap}
 use lib.Count.{ones}
 use borrow.Author.Needs.{needs}
 use Rattle.images.specs.Words.{lastBit}
-use Rattle.images.specs.Tally.{talliedByte}
+use Rattle.images.specs.machine.Tally.{talliedByte}
 use Rattle.images.proofs.TallyLaws.{sixteen-at-most}
 use Rattle.images.proofs.count.count_byte.Statement.{statement}
 use Rattle.images.proofs.count.count_byte.Tie as tie
 
-word-of-requires : tie.Need-word-of-requires
-word-of-requires c κs = search needs
+made-word-requires : tie.Need-made-word-requires
+made-word-requires c κs = search needs
 
-cast-t6 : tie.Need-cast-t6
-cast-t6 c =
+cast-ones : tie.Need-cast-ones
+cast-ones c =
     let args = c .before .args in
-    omega (arith, sixteen-at-most (lastBit (args .tally .previous)) (args .byte), ap ones (c .word-of .ensures))
+    omega (arith, sixteen-at-most (lastBit (args .tally .previous)) (args .byte), ap ones (c .made-word .ensures))
 
-add-t7 : tie.Need-add-t7
-add-t7 c =
-    let args = c .before .before .args in
-    omega (
-      arith,
-      sixteen-at-most (lastBit (args .tally .previous)) (args .byte),
-      ap ones (c .before .word-of .ensures),
-    )
+add-t4 : tie.Need-add-t4
+unfolding talliedByte
+add-t4 c = let entry = c .before .before in omega (arith, entry .pre, ap ones (c .before .made-word .ensures))
 
 returns : tie.Need-returns
 unfolding talliedByte
-returns c = rw (c .before .word-of .ensures) (search needs)
+returns c = rw (c .before .made-word .ensures) (search needs)
 
 pub count-byte-spec : {M : Type 1} → statement M
-count-byte-spec = tie.close (tie.spec word-of-requires cast-t6 add-t7 returns)
+count-byte-spec = tie.close (tie.spec made-word-requires cast-ones add-t4 returns)

@@ -1,27 +1,38 @@
 -- `count::count_bytes` is a fold: the tally so far, and then the bytes from k on, make the whole. Rests on no axiom.
-use Prim.Native.Nat.{_+_, _*_, _-_, _≤_}
+use Prim.Native.Nat.{ℕ, _+_, _-_, _≤_, _<_}
 use mathlib.Core.Path.{_≡_, refl, sym, ap, _∙_}
-use mathlib.Core.List.{[]}
+use mathlib.Core.List.{List, []}
 use native.Mathlib.Omega.{arith}
 use denote.Ref.{now}
 use lib.ListN.{length, getD, drop, drop-of-length-le}
-use Rattle.images.specs.Tally.{tallied, talliedByte}
+use Rattle.images.specs.machine.Tally.{tallied, talliedByte}
 use Rattle.images.specs.declared.count.Tally.{Tally}
-use Rattle.images.proofs.TallyLaws.{tallied-from, tallied-none, tally-of-byte}
+use Rattle.images.proofs.TallyLaws.{tallied-from, tallied-none, tally-at-least}
 use Rattle.images.proofs.count.count_bytes.Statement.{statement}
 use Rattle.images.proofs.count.count_bytes.Tie as tie
 
+-- no tally on the way is larger than that of the whole
+small-on-the-way
+    : (start tally : Tally) (bytes : List ℕ) (k : ℕ)
+    → k < length bytes
+    → tallied tally (drop k bytes) ≡ tallied start bytes
+    → tallied start bytes .cells < 65536
+    → talliedByte tally (getD bytes k 0) .cells < 65536
+small-on-the-way start tally bytes k h whole small =
+    let next = talliedByte tally (getD bytes k 0) in
+    let least = tally-at-least next (drop (k + 1) bytes) in
+    let same : tallied next (drop (k + 1) bytes) .cells ≡ tallied start bytes .cells =
+    ap (λ (t : Tally). t .cells) (sym (tallied-from tally bytes k h) ∙ whole) in
+    omega arith
+
 abbrev Inv-loop : tie.InvT-loop
-Inv-loop table bytes tally₀ k₀ tally k =
-    (k ≤ length bytes)
-    × (tally .cells ≤ tally₀ .cells + 16 * k)
-    × (tallied tally (drop k bytes) ≡ tallied tally₀ bytes)
+Inv-loop bytes tally₀ k₀ tally k = (k ≤ length bytes) × (tallied tally (drop k bytes) ≡ tallied tally₀ bytes)
 
 abbrev μ-loop : tie.MeasureT-loop
-μ-loop table bytes tally₀ k₀ tally k = length bytes - k
+μ-loop bytes tally₀ k₀ tally k = length bytes - k
 
 loop-holds : tie.Need-loop-holds Inv-loop μ-loop
-loop-holds c = (omega arith, omega arith, refl)
+loop-holds c = (omega arith, refl)
 
 mul-count-byte : tie.Need-mul-count-byte Inv-loop μ-loop
 mul-count-byte c = omega arith
@@ -31,8 +42,12 @@ shared-slice-read-count-byte c = omega arith
 
 count-byte-requires : tie.Need-count-byte-requires Inv-loop μ-loop
 count-byte-requires c κs =
-    let entry = c .before .before .before .before in
-    (entry .pre .0, omega (arith, entry .pre .1))
+    let turn = c .before in
+    let head = turn .before .loop in
+    let entry = turn .before .before .before in
+    small-on-the-way (entry .args .start) (head .tally) (now (entry .args .bytes)) (head .k) (turn .loop-test .taken)
+    (head .inv .1)
+    (entry .pre)
 
 add-k : tie.Need-add-k Inv-loop μ-loop
 add-k c = omega arith
@@ -42,18 +57,13 @@ loop-less c = omega arith
 
 loop-again : tie.Need-loop-again Inv-loop μ-loop
 loop-again c =
-    let head = c .before .before .before .loop in
-    let bytes = now (c .before .before .before .before .before .args .bytes) in
-    let byte = getD bytes (head .k) 0 in
-    let counted : c .count-byte .result ≡ talliedByte (head .tally) byte = c .count-byte .ensures in
-    let cells : c .count-byte .result .cells ≡ talliedByte (head .tally) byte .cells =
-    ap (λ (t : Tally). t .cells) counted in
-    let most = tally-of-byte (head .tally) byte in (
+    let turn = c .before .before in
+    let head = turn .before .loop in
+    let bytes = now (turn .before .before .before .args .bytes) in (
       omega arith,
-      omega (arith, head .inv .1),
-      ap (λ (t : Tally). tallied t (drop (head .k + 1) bytes)) counted
-          ∙ sym (tallied-from (head .tally) bytes (head .k) (c .before .before .loop-test .taken))
-          ∙ head .inv .2,
+      ap (λ (t : Tally). tallied t (drop (head .k + 1) bytes)) (c .count-byte .ensures)
+          ∙ sym (tallied-from (head .tally) bytes (head .k) (turn .loop-test .taken))
+          ∙ head .inv .1,
     )
 
 returns : tie.Need-returns Inv-loop μ-loop
@@ -61,7 +71,7 @@ returns c =
     let head = c .before .loop in
     let bytes = now (c .before .before .before .args .bytes) in
     let none : drop (head .k) bytes ≡ [] = drop-of-length-le bytes (c .loop-test .left) in
-    sym (ap (tallied (head .tally)) none ∙ tallied-none (head .tally)) ∙ head .inv .2
+    sym (ap (tallied (head .tally)) none ∙ tallied-none (head .tally)) ∙ head .inv .1
 
 pub count-bytes-spec : {M : Type 1} → statement M
 count-bytes-spec =

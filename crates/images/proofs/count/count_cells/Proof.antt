@@ -1,10 +1,10 @@
 -- `count::count_cells` answers the number of cells: the ones of the words, and what the closing 0s end. Rests on no
 -- axiom.
-use Prim.Native.Nat.{ℕ, _+_, _%_, _≤_}
+use Prim.Native.Nat.{ℕ, _+_, _%_}
 use mathlib.Core.Path.{_≡_, ap, _∙_}
 use mathlib.Core.Bool.{cond}
 use mathlib.Core.List.{List}
-use native.Mathlib.Omega.{arith}
+use borrow.Author.Needs.{needs}
 use borrow.Author.Tests.{eq-eqb, ne-eqb}
 use denote.Ref.{now}
 use lib.Dec.{eqb}
@@ -12,24 +12,16 @@ use lib.ListN.{length}
 use Rattle.items.specs.Rule.{listRule}
 use Rattle.items.specs.Written.{written}
 use Rattle.items.proofs.RuleLaws.{listed}
-use Rattle.items.proofs.WrittenLaws.{length-of-written, written-are-bytes}
+use Rattle.items.proofs.WrittenLaws.{written-are-bytes}
 use Rattle.symbols.specs.Cells.{writtenCells}
-use Rattle.images.specs.Tally.{noTally, tallied}
+use Rattle.images.specs.machine.Tally.{noTally, tallied}
 use Rattle.images.specs.declared.count.Tally.{Tally}
-use Rattle.images.proofs.TallyLaws.{tally-at-most, tally-is-count}
+use Rattle.images.proofs.TallyLaws.{tally-is-count}
 use Rattle.images.proofs.count.count_cells.Statement.{statement}
 use Rattle.images.proofs.count.count_cells.Tie as tie
 
 module _ (items : List ℕ) (accepted : listRule items .number ≡ 0) (tally : Tally)
     (counted : tally ≡ tallied noTally (written items)) where
-  small : tally .cells ≤ 200000
-  small =
-      let most = tally-at-most noTally (written items) in
-      let few = listed items accepted .few-bytes in
-      let bytes = length-of-written items in
-      let same : tally .cells ≡ tallied noTally (written items) .cells = ap (λ (t : Tally). t .cells) counted in
-      omega arith
-
   whole : tally .cells + cond (eqb (tally .previous % 2) 1) 1 2 ≡ length (writtenCells (written items))
   whole =
       ap (λ (t : Tally). t .cells + cond (eqb (t .previous % 2) 1) 1 2) counted
@@ -42,32 +34,29 @@ module _ (items : List ℕ) (accepted : listRule items .number ≡ 0) (tally : T
   after-zero e = rw (ne-eqb (tally .previous % 2) 1 e) at whole
 
 count-items-requires : tie.Need-count-items-requires
-count-items-requires c κs = listed _ (c .before .pre) .few-bytes
+count-items-requires c κs = search needs
+
+cast-cells : tie.Need-cast-cells
+cast-cells c = search needs
 
 add-result : tie.Need-add-result
-add-result c =
-    let counted = c .before .before .before in
-    let entry = counted .before .before in
-    omega (arith, small (now (entry .args .items)) (entry .pre) _ (counted .count-items .ensures))
+add-result c = search needs
 
 returns : tie.Need-returns
 returns c =
     let counted = c .before .before .before in
     let entry = counted .before .before in
-    after-one (now (entry .args .items)) (entry .pre) _ (counted .count-items .ensures) (c .before .if1 .taken)
+    after-one (now (entry .args .items)) (entry .pre .0) _ (counted .count-items .ensures) (c .if1 .taken)
 
 add-result-2 : tie.Need-add-result-2
-add-result-2 c =
-    let counted = c .before .before .before in
-    let entry = counted .before .before in
-    omega (arith, small (now (entry .args .items)) (entry .pre) _ (counted .count-items .ensures))
+add-result-2 c = search needs
 
 returns-2 : tie.Need-returns-2
 returns-2 c =
     let counted = c .before .before .before in
     let entry = counted .before .before in
-    after-zero (now (entry .args .items)) (entry .pre) _ (counted .count-items .ensures) (c .before .if1 .left)
+    after-zero (now (entry .args .items)) (entry .pre .0) _ (counted .count-items .ensures) (c .if1 .left)
 
 pub count-cells-spec : {M : Type 1} → statement M
 count-cells-spec =
-    tie.close (tie.spec count-items-requires add-result returns add-result-2 returns-2)
+    tie.close (tie.spec count-items-requires cast-cells add-result returns add-result-2 returns-2)

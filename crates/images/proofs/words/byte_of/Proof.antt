@@ -2,7 +2,7 @@
 use mathlib.Core.Path.{refl}
 use borrow.Author.Tests.{ne-eqb}
 use borrow.Author.Needs.{needs}
-use Rattle.images.specs.Candidate.{candidate}
+use Rattle.images.specs.machine.Candidate.{candidate}
 use Rattle.images.proofs.words.byte_of.Statement.{statement}
 use Rattle.images.proofs.words.byte_of.Tie as tie
 

@@ -1,6 +1,6 @@
 -- `words::data_bits` is the definition, step by step. Rests on no axiom.
 use mathlib.Core.Path.{refl}
-use Rattle.images.specs.Candidate.{dataBits}
+use Rattle.images.specs.machine.Candidate.{dataBits}
 use Rattle.images.proofs.words.data_bits.Statement.{statement}
 use Rattle.images.proofs.words.data_bits.Tie as tie
 

@@ -1,62 +1,107 @@
--- Why `Reading::close` gives `closed`: both ask whether the byte had a gap, whether it was in place, and whether one
--- was out of place before.
-use Rattle.symbols.specs.Machine.{misfits, closed}
+-- Why `Reading::close` gives `closed`: both ask whether the word has a gap, whether it is a mark, and whether a gap was
+-- out of place before.
 use borrow.Author.Tests.{eq-eqb, ne-eqb}
 use mathlib.Core.Path.{sym, _∙_}
+use native.Mathlib.Omega.{arith}
 use borrow.Author.Needs.{needs}
+use Rattle.symbols.specs.machine.Word.{dataByte, misfits, wordItem}
+use Rattle.symbols.specs.machine.Step.{surplus, wordOf, closed}
 use Rattle.symbols.proofs.Reading.close.Statement.{statement}
 use Rattle.symbols.proofs.Reading.close.Tie as tie
+
+sub-surplus : tie.Need-sub-surplus
+sub-surplus c = search needs
+
+shr-x : tie.Need-shr-x
+shr-x c = search needs
+
+data-byte-requires : tie.Need-data-byte-requires
+data-byte-requires c κs = search needs
+
+missing-requires : tie.Need-missing-requires
+missing-requires c κs = search needs
+
+sub-self : tie.Need-sub-self
+sub-self c = search needs
 
 wrapping-add-u32-requires : tie.Need-wrapping-add-u32-requires
 wrapping-add-u32-requires c κs = search needs
 
 returns : tie.Need-returns
-unfolding misfits closed
-returns c = rw (eq-eqb _ _ (c .if1 .taken), c .before .wrapping-add-u32 .ensures)
+unfolding misfits wordItem surplus wordOf closed
+returns c =
+    rw (
+      ← c .before .before .before .before .data-byte .ensures,
+      ← c .before .before .before .missing .ensures,
+      eq-eqb _ _ (c .if1 .taken),
+      c .before .wrapping-add-u32 .ensures,
+    )
 
 add-self : tie.Need-add-self
-add-self c = search needs
+unfolding dataByte
+add-self c = record { fits = omega (arith, c .before .before .before .before .data-byte .ensures) }
 
-gap-in-place-requires : tie.Need-gap-in-place-requires
-gap-in-place-requires c κs = search needs
+is-mark-requires : tie.Need-is-mark-requires
+is-mark-requires c κs = search needs
 
 returns-2 : tie.Need-returns-2
-unfolding misfits closed
+unfolding misfits wordItem surplus wordOf closed
 returns-2 c =
     rw (
+      ← c .before .before .before .before .before .before .data-byte .ensures,
+      ← c .before .before .before .before .before .missing .ensures,
       ne-eqb _ _ (c .before .before .if1 .left),
-      sym (c .before .gap-in-place .ensures) ∙ c .if2 .taken,
+      sym (c .before .is-mark .ensures) ∙ c .if2 .taken,
       c .before .before .before .wrapping-add-u32 .ensures,
     )
 
 returns-3 : tie.Need-returns-3
-unfolding misfits closed
+unfolding misfits wordItem surplus wordOf closed
 returns-3 c =
     rw (
-      ne-eqb _ _ (c .before .before .before .before .if1 .left),
-      sym (c .before .before .before .gap-in-place .ensures) ∙ c .before .before .if2 .left,
-      eq-eqb _ _ (c .if3 .taken),
-      c .before .before .before .before .before .wrapping-add-u32 .ensures,
+      ← c .before .before .before .before .before .before .before .data-byte .ensures,
+      ← c .before .before .before .before .before .before .missing .ensures,
+      ne-eqb _ _ (c .before .before .before .if1 .left),
+      sym (c .before .before .is-mark .ensures) ∙ c .before .if2 .left,
+      c .if3 .taken,
+      c .before .before .before .before .wrapping-add-u32 .ensures,
     )
 
+cells-since-requires : tie.Need-cells-since-requires
+cells-since-requires c κs = search needs
+
+first-of-cells-requires : tie.Need-first-of-cells-requires
+first-of-cells-requires c κs = search needs
+
 returns-4 : tie.Need-returns-4
-unfolding misfits closed
+unfolding misfits wordItem surplus wordOf closed
 returns-4 c =
     rw (
-      ne-eqb _ _ (c .before .before .before .before .if1 .left),
-      sym (c .before .before .before .gap-in-place .ensures) ∙ c .before .before .if2 .left,
-      ne-eqb _ _ (c .if3 .left),
-      c .before .before .before .before .before .wrapping-add-u32 .ensures,
+      ← c .before .before .before .before .before .before .before .before .before .data-byte .ensures,
+      ← c .before .before .before .before .before .before .before .before .missing .ensures,
+      ne-eqb _ _ (c .before .before .before .before .before .if1 .left),
+      sym (c .before .before .before .before .is-mark .ensures) ∙ c .before .before .before .if2 .left,
+      c .before .before .if3 .left,
+      ← c .before .cells-since .ensures,
+      ← c .first-of-cells .ensures,
+      c .before .before .before .before .before .before .wrapping-add-u32 .ensures,
     )
 
 pub close-spec : {M : Type 1} → statement M
 close-spec =
     tie.close
     (tie.spec
+    sub-surplus
+    shr-x
+    data-byte-requires
+    missing-requires
+    sub-self
     wrapping-add-u32-requires
     returns
     add-self
-    gap-in-place-requires
+    is-mark-requires
     returns-2
     returns-3
+    cells-since-requires
+    first-of-cells-requires
     returns-4)

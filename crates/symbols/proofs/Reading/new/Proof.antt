@@ -1,6 +1,6 @@
 -- `Reading::new` is the record `freshReading` itself.
 use mathlib.Core.Path.{refl}
-use Rattle.symbols.specs.Machine.{freshReading}
+use Rattle.symbols.specs.machine.Step.{freshReading}
 use Rattle.symbols.proofs.Reading.new.Statement.{statement}
 use Rattle.symbols.proofs.Reading.new.Tie as tie
 

@@ -1,0 +1,126 @@
+-- Why `codec::writer::write_each` draws all words of a list: each turn those of one item more. Rests on no axiom.
+use Prim.Native.Nat.{ℕ, _+_, _-_, _*_, _≤_, _<_}
+use mathlib.Core.Path.{_≡_, refl, sym, ap, ap₂, _∙_}
+use mathlib.Core.List.{List, []}
+use native.Mathlib.Omega.{arith}
+use borrow.Author.Needs.{needs}
+use denote.Ref.{now}
+use lib.ListN.{length, getD, drop}
+use Rattle.items.specs.Written.{afterItem, itemBytes, writtenFrom, written}
+use Rattle.items.specs.declared.Check.{Check}
+use Rattle.items.proofs.ItemLaws.{bytes-of-bounds}
+use Rattle.items.proofs.WrittenLaws.{written-from-place, written-from-end, length-of-item-bytes}
+use Rattle.codec.specs.machine.Pen.{Room}
+use Rattle.codec.specs.machine.Track.{Writing, writing, freshTrack, wrote}
+use Rattle.codec.proofs.TrackLaws.{wrote-of-append, wrote-none, same-length-of-whole, room-after-bytes}
+use Rattle.codec.proofs.TrackLaws.{room-carries}
+use Rattle.codec.proofs.writer.write_each.Statement.{statement}
+use Rattle.codec.proofs.writer.write_each.Tie as tie
+
+-- at place k: room for two words for each item from there on, and one more, and they make the whole
+abbrev Writing-on : List ℕ → List ℕ → List ℕ → Writing → Check → ℕ → Type 0
+Writing-on table items old s check k =
+    (k ≤ length items)
+    × Room (s .track .pen) (2 * (length items - k) + 1)
+    × (wrote table s (writtenFrom check (drop k items)) ≡ wrote table (writing freshTrack old) (written items))
+
+an-item-more
+    : (table items old : List ℕ) (s s′ : Writing) (check check′ : Check) (k : ℕ)
+    → k < length items
+    → Writing-on table items old s check k
+    → check′ ≡ afterItem check (getD items k 0)
+    → s′ ≡ wrote table s (itemBytes check (getD items k 0))
+    → Writing-on table items old s′ check′ (k + 1)
+an-item-more table items old s s′ check check′ k h on checks writes =
+    let bytes = itemBytes check (getD items k 0) in
+    let room = on .1 in
+    let left = 2 * (length items - (k + 1)) + 1 in
+    let size : length bytes ≤ 2 =
+    rw (length-of-item-bytes check (getD items k 0)) (bytes-of-bounds (getD items k 0) .1) in (
+      omega arith,
+      room-carries table left left (omega arith) writes
+          (room-after-bytes table s bytes left (room .0, omega arith, omega arith)),
+      ap₂ (λ (x : Writing) (c : Check). wrote table x (writtenFrom c (drop (k + 1) items))) writes checks
+          ∙ sym (wrote-of-append table s bytes _)
+          ∙ ap (wrote table s) (sym (written-from-place check items k h))
+          ∙ on .2,
+    )
+
+abbrev Inv-loop : tie.InvT-loop
+Inv-loop table items out₀ part₀ k₀ out part k =
+    Writing-on table items out₀ (writing (part .track) out) (part .check) k
+
+abbrev μ-loop : tie.MeasureT-loop
+μ-loop table items out₀ part₀ k₀ out part k = length items - k
+
+fresh-track-requires : tie.Need-fresh-track-requires Inv-loop μ-loop
+fresh-track-requires c κs = search needs
+
+fresh-requires : tie.Need-fresh-requires Inv-loop μ-loop
+fresh-requires c κs = search needs
+
+loop-holds : tie.Need-loop-holds Inv-loop μ-loop
+unfolding written
+loop-holds c =
+    let few = c .before .before .before .before .pre in
+    rw (c .fresh .ensures, c .before .fresh-track .ensures)
+    (omega arith, (omega arith, omega arith, omega arith), refl)
+
+mul-write-item : tie.Need-mul-write-item Inv-loop μ-loop
+mul-write-item c = omega arith
+
+shared-slice-read-write-item : tie.Need-shared-slice-read-write-item Inv-loop μ-loop
+shared-slice-read-write-item c = omega arith
+
+write-item-requires : tie.Need-write-item-requires Inv-loop μ-loop
+write-item-requires c κs =
+    let room = c .before .before .before .loop .inv .1 in
+    let inside = c .before .before .loop-test .taken in
+    (room .0, omega arith, omega arith)
+
+add-k : tie.Need-add-k Inv-loop μ-loop
+add-k c = omega arith
+
+loop-less : tie.Need-loop-less Inv-loop μ-loop
+loop-less c = omega arith
+
+loop-again : tie.Need-loop-again Inv-loop μ-loop
+loop-again c =
+    let turn = c .before .before .before .before .before in
+    let head = turn .before .loop in
+    let wrote-item = c .before .before .write-item .ensures in
+    an-item-more _ _ _ _ _ _ _ (head .k) (turn .loop-test .taken) (head .inv) (wrote-item .0) (wrote-item .1)
+
+same-length : tie.Need-same-length Inv-loop μ-loop
+same-length c =
+    let head = c .before .before .loop in
+    same-length-of-whole _ _ _ _ _ (head .inv .2)
+
+returns : tie.Need-returns Inv-loop μ-loop
+returns c =
+    let head = c .before .before .loop in
+    let args = c .before .before .before .before .before .before .before .args in
+    let room = head .inv .1 in
+    let s = writing (head .part .track) (head .out) in
+    let none = written-from-end (head .part .check) (now (args .items)) (head .k) (c .before .loop-test .left) in (
+      (room .0, omega arith, omega arith),
+      sym (wrote-none (now (args .table)) s) ∙ ap (wrote (now (args .table)) s) (sym none) ∙ head .inv .2,
+    )
+
+pub write-each-spec : {M : Type 1} → statement M
+write-each-spec =
+    tie.close
+    (tie.spec
+    Inv-loop
+    μ-loop
+    fresh-track-requires
+    fresh-requires
+    loop-holds
+    mul-write-item
+    shared-slice-read-write-item
+    write-item-requires
+    add-k
+    loop-less
+    loop-again
+    same-length
+    returns)

@@ -1,0 +1,51 @@
+-- Machine, not meaning: laws tie it to `lengthsBetween` (`proofs/PenLaws`). No lemmas here.
+-- The writer's pen over half cells, with the output that it leaves.
+use Prim.Native.Nat.{ℕ, zero, suc, _+_, _*_, _%_, _≤_}
+use mathlib.Core.Bool.{cond}
+use mathlib.Core.List.{List, [], _∷_}
+use lib.ListN.{getD, set}
+use Rattle.symbols.specs.Bits.{Bit, isOne}
+use Rattle.codec.specs.declared.pen.Pen.{Pen}
+
+-- a pen and the output
+pub record Drawing : Type 0 where
+  pub pen : Pen
+  pub out : List ℕ
+
+abbrev pub drawing : Pen → List ℕ → Drawing
+drawing pen out = record { pen = pen; out = out }
+
+-- the window after a cell: the units of the last three cells, modulo 64, as the table of lengths has them
+unfoldable pub turned : ℕ → ℕ → ℕ
+turned window cell = (window % 16 * 4 + cell) % 64
+
+-- the output with the length of the cell before the last of so many
+unfoldable pub storedBefore : List ℕ → ℕ → ℕ → List ℕ
+storedBefore old zero n = old
+storedBefore old (suc k) n = set old k n
+
+-- a one ends a cell
+unfoldable pub ended : List ℕ → Drawing → Drawing
+ended table d =
+    record {
+      pen =
+          record { since = 1; window = turned (d .pen .window) (d .pen .since); cells = d .pen .cells + 1 };
+      out = storedBefore (d .out) (d .pen .cells) (getD table (turned (d .pen .window) (d .pen .since)) 0);
+    }
+
+-- a zero does not
+unfoldable pub passed : Drawing → Drawing
+passed d =
+    record {
+      pen = record { since = suc (d .pen .since); window = d .pen .window; cells = d .pen .cells };
+      out = d .out;
+    }
+
+unfoldable pub drawn : List ℕ → Drawing → List Bit → Drawing
+drawn table d [] = d
+drawn table d (b ∷ bs) = drawn table (cond (isOne b) (ended table d) (passed d)) bs
+
+-- no number on the way of so many words more is too large
+abbrev pub Room : Pen → ℕ → Type 0
+Room pen words =
+    (1 ≤ pen .since) × (pen .since + 16 * words ≤ 300000) × (pen .cells + 16 * words ≤ 300000)

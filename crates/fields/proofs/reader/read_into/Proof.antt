@@ -1,0 +1,79 @@
+-- Why `fields::reader::read_into` answers `checkedReading` and leaves `checkedOutput`: what was gathered in the buffer
+-- is what is delivered. Rests on no axiom.
+use mathlib.Core.Path.{sym, ap, _∙_}
+use native.Mathlib.Omega.{arith}
+use lib.Seq.{length-take-le}
+use Rattle.refusal.specs.Answer.{countedAnswer}
+use Rattle.fields.proofs.RuleLaws.{gather-refuses, gather-delivers}
+use borrow.Author.Needs.{needs}
+use Rattle.fields.proofs.reader.read_into.Statement.{statement}
+use Rattle.fields.proofs.reader.read_into.Tie as tie
+
+cast-gather : tie.Need-cast-gather
+cast-gather c = search needs
+
+gather-requires : tie.Need-gather-requires
+gather-requires c κs = search needs
+
+enum-known-refusal : tie.Need-enum-known-refusal
+enum-known-refusal c = search needs
+
+enum-known-used : tie.Need-enum-known-used
+enum-known-used c = search needs
+
+slice-reshare-prefix-deliver : tie.Need-slice-reshare-prefix-deliver
+slice-reshare-prefix-deliver c = search needs
+
+slice-aggregate-deliver : tie.Need-slice-aggregate-deliver
+slice-aggregate-deliver c =
+    let gathered = c .before .before .before .before .before .before in
+    let pre = gathered .before .before .before .before .before .pre in
+    sym (length-take-le _ _ (omega (arith, pre .1 .2, gathered .gather .kept .1 .1 .1 .0)))
+
+deliver-requires : tie.Need-deliver-requires
+deliver-requires c κs = search needs
+
+same-length : tie.Need-same-length
+same-length c = search needs
+
+returns : tie.Need-returns
+returns c =
+    let gathered = c .before .before .before .before .before in
+    let args = gathered .before .before .before .before .before .args in
+    gather-refuses _ _ (c .before .refusal .given .0 .0) (args .out .now)
+    (sym (ap countedAnswer (c .before .refusal .given .1)) ∙ gathered .gather .ensures .0)
+
+same-length-2 : tie.Need-same-length-2
+same-length-2 c = search needs
+
+same-length-3 : tie.Need-same-length-3
+same-length-3 c = search needs
+
+returns-2 : tie.Need-returns-2
+returns-2 c =
+    let used = c .before .before .before .before .before .before in
+    let gathered = used .before .before .before .before in
+    let entry = gathered .before .before .before .before .before in
+    let delivers =
+    gather-delivers _ (entry .args .n) (used .used .given .0 .0) (entry .args .buffer .now) _ (entry .args .out .now)
+    (entry .pre .1 .2)
+    (sym (ap countedAnswer (used .used .given .1)) ∙ gathered .gather .ensures .0)
+    (gathered .gather .ensures .1) in
+    (c .before .before .deliver .ensures .0 ∙ delivers .0, c .before .before .deliver .ensures .1 ∙ delivers .1)
+
+pub read-into-spec : {M : Type 1} → statement M
+read-into-spec =
+    tie.close
+    (tie.spec
+    cast-gather
+    gather-requires
+    enum-known-refusal
+    enum-known-used
+    slice-reshare-prefix-deliver
+    slice-aggregate-deliver
+    deliver-requires
+    same-length
+    returns
+    same-length-2
+    same-length-3
+    returns-2)

@@ -1,0 +1,4 @@
+pub mod Candidate
+pub mod Spread
+pub mod TopBits
+pub mod Tally

@@ -1,0 +1,3 @@
+-- Machines, not meaning.
+-- The pass that both readers share
+pub mod Pass

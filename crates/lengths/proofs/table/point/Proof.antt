@@ -1,0 +1,39 @@
+-- Why `lengths::table::point` answers `point`: after a 1 the symbol that follows decides between Normal and Early,
+-- after a 0 between Late and Normal. Rests on no axiom.
+use mathlib.Core.Path.{_≡_, refl, ap, _∙_}
+use mathlib.Core.Bool.{Bool, true, false, cond}
+use Rattle.timing.specs.declared.Clocks.{Clocks}
+use Rattle.timing.specs.declared.Profile.{Profile}
+use Rattle.lengths.specs.Lengths.{point}
+use borrow.Author.Needs.{needs}
+use Rattle.lengths.proofs.table.point.Statement.{statement}
+use Rattle.lengths.proofs.table.point.Tie as tie
+
+after-one : (p : Profile) (after : Bool) → cond after (p .normal) (p .early) .0 ≡ point p true after
+unfolding point
+after-one p true = refl
+after-one p false = refl
+
+after-zero : (p : Profile) (after : Bool) → cond after (p .late) (p .normal) .0 ≡ point p false after
+unfolding point
+after-zero p true = refl
+after-zero p false = refl
+
+either-requires : tie.Need-either-requires
+either-requires c κs = search needs
+
+either-requires-2 : tie.Need-either-requires-2
+either-requires-2 c κs = search needs
+
+returns : tie.Need-returns
+returns c =
+    let args = c .before .before .args in
+    rw (c .before .if1 .taken) (ap (λ (e : Clocks). e .0) (c .either .ensures) ∙ after-one (args .p) (args .after))
+
+returns-2 : tie.Need-returns-2
+returns-2 c =
+    let args = c .before .before .args in
+    rw (c .before .if1 .left) (ap (λ (e : Clocks). e .0) (c .either2 .ensures) ∙ after-zero (args .p) (args .after))
+
+pub point-spec : {M : Type 1} → statement M
+point-spec = tie.close (tie.spec either-requires either-requires-2 returns returns-2)

@@ -1,0 +1,43 @@
+-- Why `lengths::table::shifted` adds the shift: in an accepted profile the sum is neither below zero nor too large for
+-- 16 bits, so the integers of the code are the numbers of the definition. Rests on no axiom.
+use mathlib.Core.Path.{ap, subst⁻¹}
+use native.Mathlib.Omega.{arith}
+use lib.Dec.{T}
+use lib.IntN.{ℤ, natAbs}
+use lib.Signed.{nonNeg}
+use mir.Syntax.{w16}
+use mir.Val.{Fits}
+use Rattle.lengths.proofs.ShiftLaws.{shift-fits, shifted-fits, shifted-reads-back}
+use borrow.Author.Needs.{needs}
+use Rattle.lengths.proofs.table.shifted.Statement.{statement}
+use Rattle.lengths.proofs.table.shifted.Tie as tie
+use Rattle.lengths.proofs.table.shifted.Reads as reads
+use Rattle.lengths.proofs.table.shifted.Lts as lts
+
+cast-shift : tie.Need-cast-shift
+cast-shift c = search needs
+
+cast-shift-2 : tie.Need-cast-shift-2
+cast-shift-2 c = search needs
+
+sub-shift : tie.Need-sub-shift
+sub-shift c = shift-fits _ _ _ (c .before .before .pre .0) (c .before .before .pre .1)
+
+cast-t5 : tie.Need-cast-t5
+cast-t5 c = search needs
+
+add-t6 : tie.Need-add-t6
+add-t6 c = shifted-fits _ _ _ (c .before .before .before .pre .0) (c .before .before .before .pre .1)
+
+cast-t7 : tie.Need-cast-t7
+cast-t7 c =
+    subst⁻¹ (λ (z : ℤ). T (nonNeg z) × Fits w16 (natAbs z))
+    (shifted-reads-back _ _ _ (c .before .before .before .pre .0) (c .before .before .before .pre .1)) (tt, omega arith)
+
+returns : tie.Need-returns
+returns c =
+    ap natAbs (shifted-reads-back _ _ _ (c .before .before .before .pre .0) (c .before .before .before .pre .1))
+
+pub shifted-spec : {M : Type 1} → statement M
+shifted-spec =
+    tie.close (tie.spec cast-shift cast-shift-2 sub-shift cast-t5 add-t6 cast-t7 returns)

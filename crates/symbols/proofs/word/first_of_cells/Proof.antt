@@ -1,0 +1,28 @@
+-- Why `word::first_of_cells` gives `firstOfCells`: both count back from the place after the last.
+use Prim.Native.Nat.{ℕ, _+_, _-_, _%_, _^_, _<_}
+use mathlib.Core.Path.{_≡_}
+use native.Mathlib.Omega.{arith}
+use borrow.Author.Needs.{needs}
+use Rattle.symbols.specs.machine.Word.{firstOfCells}
+use Rattle.symbols.proofs.word.first_of_cells.Statement.{statement}
+use Rattle.symbols.proofs.word.first_of_cells.Tie as tie
+
+counted-back :
+    (r at next cells : ℕ) → (r + cells) % 2 ^ 32 ≡ next → next ≡ (at + 1) % 2 ^ 32 → r < 2 ^ 32 → cells < 2 ^ 32
+    → r ≡ (at + 1 + (2 ^ 32 - cells)) % 2 ^ 32
+counted-back r at next cells e n small few = omega arith
+
+wrapping-add-u32-requires : tie.Need-wrapping-add-u32-requires
+wrapping-add-u32-requires c κs = search needs
+
+wrapping-sub-u32-requires : tie.Need-wrapping-sub-u32-requires
+wrapping-sub-u32-requires c κs = search needs
+
+returns : tie.Need-returns
+unfolding firstOfCells
+returns c =
+    counted-back _ _ _ _ (c .wrapping-sub-u32 .ensures) (c .before .wrapping-add-u32 .ensures)
+    (c .wrapping-sub-u32 .ok) (c .before .before .fits .cells .fits)
+
+pub first-of-cells-spec : {M : Type 1} → statement M
+first-of-cells-spec = tie.close (tie.spec wrapping-add-u32-requires wrapping-sub-u32-requires returns)

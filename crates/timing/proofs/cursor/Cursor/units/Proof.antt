@@ -1,0 +1,40 @@
+-- Why `Cursor::units` is the number of a cell's class: it has 2 and one more for each edge that the interval reaches.
+-- Rests on no axiom.
+use Prim.Native.Nat.{_≤_}
+use mathlib.Core.Bool.{Bool, true, false}
+use native.Mathlib.Omega.{arith}
+use mir.Val.{boolByte}
+use lib.Dec.{leb}
+use Rattle.timing.proofs.EdgeLaws.{by-edges}
+use borrow.Author.Needs.{needs}
+use Rattle.timing.proofs.cursor.Cursor.units.Statement.{statement}
+use Rattle.timing.proofs.cursor.Cursor.units.Tie as tie
+
+one-at-most : (t : Bool) → boolByte t ≤ 1
+one-at-most true = omega arith
+one-at-most false = omega arith
+
+cast-result : tie.Need-cast-result
+cast-result c = search needs
+
+add-result : tie.Need-add-result
+add-result c =
+    let args = c .before .args in omega (arith, one-at-most (leb (args .self .b23 .0) (args .interval)))
+
+cast-result-2 : tie.Need-cast-result-2
+cast-result-2 c = search needs
+
+add-result-2 : tie.Need-add-result-2
+add-result-2 c =
+    let args = c .before .before .args in
+    omega (
+      arith,
+      one-at-most (leb (args .self .b23 .0) (args .interval)),
+      one-at-most (leb (args .self .b34 .0) (args .interval)),
+    )
+
+returns : tie.Need-returns
+returns c = by-edges _ _ (c .before .before .pre .0) .1 (c .before .before .pre .1)
+
+pub units-spec : {M : Type 1} → statement M
+units-spec = tie.close (tie.spec cast-result add-result cast-result-2 add-result-2 returns)
