@@ -14,12 +14,12 @@
 /* ------------------------------------------------------------------------------------------------------- answers */
 
 SHARED ism_answer refused(uint32_t number, size_t place) {
-    ism_answer answer = {number, (uint32_t)place, 0, 0, 0};
+    ism_answer answer = {number, (uint32_t)place, 0, 0, 0, 0};
     return answer;
 }
 
 SHARED ism_answer counted(uint64_t count) {
-    ism_answer answer = {ISM_ACCEPTED, 0, count, 0, 0};
+    ism_answer answer = {ISM_ACCEPTED, 0, count, 0, 0, 0};
     return answer;
 }
 
@@ -64,6 +64,42 @@ static inline unsigned classify(const ism_profile *p, uint16_t interval) {
     return ISM_CLASS_NARROW + (interval >= p->min) + (interval >= p->b23) + (interval >= p->b34) + (interval >= p->rpt);
 }
 
+/* ------------------------------------------------------------------------------------------------------ clearance */
+
+static inline int16_t lesser16(int16_t a, int16_t b) { return a < b ? a : b; }
+
+static inline int16_t greater16(int16_t a, int16_t b) { return a > b ? a : b; }
+
+/*
+ * The least clearance of some intervals, none of them narrow or wide: how near they come to an edge. At Min that is the
+ * shortest, at Rpt the longest. At an edge between two windows the differences are seen such that those of intervals
+ * below the edge come last: then the first is the nearest from the edge up, the last the nearest below.
+ */
+SHARED uint32_t least_clearance(const ism_profile *p, const uint16_t *intervals, size_t n) {
+    const uint16_t b23 = (uint16_t)(p->b23 + INT16_MIN), b34 = (uint16_t)(p->b34 + INT16_MIN);
+    int16_t shortest = INT16_MAX, from_b23 = INT16_MAX, from_b34 = INT16_MAX;
+    int16_t longest = INT16_MIN, below_b23 = INT16_MIN, below_b34 = INT16_MIN;
+    for (size_t i = 0; i < n; i++) {
+        int16_t interval = (int16_t)intervals[i];
+        int16_t to_b23 = (int16_t)(intervals[i] - b23), to_b34 = (int16_t)(intervals[i] - b34);
+        shortest = lesser16(shortest, interval);
+        longest = greater16(longest, interval);
+        from_b23 = lesser16(from_b23, to_b23);
+        below_b23 = greater16(below_b23, to_b23);
+        from_b34 = lesser16(from_b34, to_b34);
+        below_b34 = greater16(below_b34, to_b34);
+    }
+    int32_t outer = lesser(shortest - p->min, p->rpt - 1 - longest);
+    int32_t two = lesser(from_b23 - INT16_MIN, INT16_MAX - below_b23);
+    int32_t three = lesser(from_b34 - INT16_MIN, INT16_MAX - below_b34);
+    return (uint32_t)lesser(outer, lesser(two, three));
+}
+
+SHARED ism_answer cleared(ism_answer answer, uint32_t clearance) {
+    answer.clearance = clearance;
+    return answer;
+}
+
 /* ---------------------------------------------------------------------------------------------------------- items */
 
 #define ALL_ONES 0xFFFFu /* the register at the start of a list */
@@ -85,6 +121,12 @@ SHARED size_t lowest_foreign(const uint16_t *items) {
 
 /* The place of the first lock from a place on, under a true profile, or NOWHERE. */
 size_t NAME(find_lock)(const ism_profile *p, const uint16_t *intervals, size_t n, uint64_t start);
+
+/* --------------------------------------------------------------------------------------------------------- fields */
+
+/* A field under a true profile, its clearance aside. */
+ism_answer NAME(read_items)(const ism_profile *p, const uint16_t *intervals, size_t n, uint64_t bytes, uint16_t *out,
+                            size_t room);
 
 /* ----------------------------------------------------------------------------------------------------- half cells */
 

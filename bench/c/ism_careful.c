@@ -44,8 +44,8 @@ static void set_lengths(uint16_t *lengths, const ism_profile *p) {
     for (int before = 0; before < 3; before++)
         for (int zeros = 0; zeros < 3; zeros++)
             for (int behind = 0; behind < 3; behind++)
-                lengths[16 * before + 4 * zeros + behind] = (uint16_t)(
-                    p->t1 + zeros * p->t0 + point[zeros > 0][behind > 0] - point[before > 0][zeros > 0]);
+                lengths[16 * before + 4 * zeros + behind] =
+                    (uint16_t)(p->t1 + zeros * p->t0 + point[zeros > 0][behind > 0] - point[before > 0][zeros > 0]);
 }
 
 /* Where the writing stands. A length is stored when the cell behind its cell is known. */
@@ -194,7 +194,7 @@ struct half_cells {
 };
 
 #define WORD 16
-#define CLOSED (4 - 1 - WORD) /* behind the last word of a strip: its last data half cell, closing clock, 0 and clock */
+#define CLOSED (4 - 1 - WORD) /* behind the last word of a strip: its last data, closing clock, 0 and clock */
 
 static const struct half_cells lead = {1, -1 - WORD};
 
@@ -239,8 +239,9 @@ struct strip {
     size_t bytes, stray;
 };
 
-/* The first pass stores nothing; the answer refuses narrow and wide intervals. */
-static ism_answer check_strip(struct windows w, const uint16_t *intervals, size_t n, struct strip *strip) {
+/* The first pass stores nothing; the answer refuses narrow and wide intervals. Alone it has registers enough. */
+__attribute__((noinline)) static ism_answer check_strip(struct windows w, const uint16_t *intervals, size_t n,
+                                                        struct strip *strip) {
     struct half_cells h = lead;
     size_t bytes = 0, stray = NO_STRAY;
     for (size_t i = 0; i < n; i++) {
@@ -282,7 +283,7 @@ ism_answer NAME(read)(ism_profile profile, const uint16_t *intervals, size_t n, 
     if (strip.stray != NO_STRAY) return refused(ISM_STRAY, strip.stray);
     if (room < strip.bytes) return refused(ISM_FULL, 0);
     store_strip(w, intervals, n, out);
-    return counted(strip.bytes);
+    return cleared(counted(strip.bytes), least_clearance(&profile, intervals, n));
 }
 
 /* The bytes of a field to a buffer; the answer counts the intervals, or refuses. */
@@ -314,18 +315,16 @@ static uint16_t register_after(const uint16_t *items, size_t n) {
     return crc;
 }
 
-ism_answer NAME(read_field)(ism_profile profile, const uint16_t *intervals, size_t n, uint64_t bytes, uint16_t *out,
+ism_answer NAME(read_items)(const ism_profile *p, const uint16_t *intervals, size_t n, uint64_t bytes, uint16_t *out,
                             size_t room) {
     uint16_t items[ISM_MAX_FIELD_BYTES];
-    ism_answer verdict = check_profile(&profile);
-    if (verdict.number != ISM_ACCEPTED) return verdict;
     if (bytes < 1 || bytes > ISM_MAX_FIELD_BYTES) return refused(ISM_MISCOUNT, 0);
     size_t count = (size_t)bytes;
-    verdict = read_bytes(windows_of(&profile), intervals, n, count, items);
+    ism_answer verdict = read_bytes(windows_of(p), intervals, n, count, items);
     if (verdict.number != ISM_ACCEPTED) return verdict;
     if (room < count) return refused(ISM_FULL, 0);
     memcpy(out, items, count * sizeof *items);
-    ism_answer answer = {ISM_ACCEPTED, 0, bytes, verdict.count, register_after(items, count) == 0};
+    ism_answer answer = {ISM_ACCEPTED, 0, bytes, verdict.count, register_after(items, count) == 0, 0};
     return answer;
 }
 
@@ -341,17 +340,16 @@ static bool has_mark(const ism_profile *p, const uint16_t *intervals, size_t n) 
     return has_classes(p, intervals, n, "34343") || has_classes(p, intervals, n, "3234342343");
 }
 
-/* Until 64 intervals of class 2 have been seen, another one only sets the place at which they would be. */
+/* `first` is where a run of class 2 begins. As far as it may be full, another interval only moves that place. */
 size_t NAME(find_lock)(const ism_profile *p, const uint16_t *intervals, size_t n, uint64_t start) {
     uint16_t min = p->min, width = (uint16_t)(p->b23 - min);
-    if (n < SYNC || start > n - SYNC) return NOWHERE;
-    for (size_t k = (size_t)start, full = k + SYNC; k < n;) {
-        bool two = (uint16_t)(intervals[k++] - min) < width;
-        full = two ? full : k + SYNC;
-        if (k != full) continue;
+    if (start > n) return NOWHERE;
+    for (size_t first = (size_t)start, k = first; first + SYNC <= n;) {
+        for (size_t full = first + SYNC; k < full; k++) first = (uint16_t)(intervals[k] - min) < width ? first : k + 1;
+        if (k < first + SYNC) continue;
         while (k < n && (uint16_t)(intervals[k] - min) < width) k++;
         if (has_mark(p, intervals + k, n - k)) return k;
-        full = k + SYNC;
+        first = k;
     }
     return NOWHERE;
 }

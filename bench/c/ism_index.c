@@ -1,5 +1,21 @@
-/* Finder and index in C, over the search for a lock and the field reader of the version whose PREFIX it gets. */
+/*
+ * Profile, finder, field reader and index in C, over the search for a lock and the reading of items of the version
+ * whose PREFIX it gets.
+ */
 #include "common.h"
+
+ism_answer NAME(margin)(ism_profile profile) {
+    ism_answer verdict = check_profile(&profile);
+    if (verdict.number != ISM_ACCEPTED) return verdict;
+    return counted((uint64_t)least_distance(&profile));
+}
+
+ism_answer NAME(class)(ism_profile profile, uint16_t interval) {
+    ism_answer verdict = check_profile(&profile);
+    if (verdict.number != ISM_ACCEPTED) return verdict;
+    bool inside = interval >= profile.min && interval < profile.rpt;
+    return cleared(counted(classify(&profile, interval)), inside ? least_clearance(&profile, &interval, 1) : 0);
+}
 
 ism_answer NAME(find)(ism_profile profile, const uint16_t *intervals, size_t n, uint64_t start) {
     ism_answer verdict = check_profile(&profile);
@@ -9,7 +25,13 @@ ism_answer NAME(find)(ism_profile profile, const uint16_t *intervals, size_t n, 
 }
 
 ism_answer NAME(read_field)(ism_profile profile, const uint16_t *intervals, size_t n, uint64_t bytes, uint16_t *out,
-                            size_t room);
+                            size_t room) {
+    ism_answer verdict = check_profile(&profile);
+    if (verdict.number != ISM_ACCEPTED) return verdict;
+    ism_answer answer = NAME(read_items)(&profile, intervals, n, bytes, out, room);
+    if (answer.number != ISM_ACCEPTED) return answer;
+    return cleared(answer, least_clearance(&profile, intervals, (size_t)answer.used));
+}
 
 #define ID_BYTES 10u
 
@@ -26,7 +48,7 @@ static bool has_three_marks(const ism_profile *p, const uint16_t *intervals, siz
 static ism_answer sector_field(const ism_profile *p, const uint16_t *intervals, size_t n, size_t bytes, uint16_t name,
                                uint16_t *items) {
     if (!has_three_marks(p, intervals, n)) return counted(0);
-    ism_answer field = NAME(read_field)(*p, intervals, n, bytes, items, bytes);
+    ism_answer field = NAME(read_items)(p, intervals, n, bytes, items, bytes);
     return field.number == ISM_ACCEPTED && items[3] == name ? field : counted(0);
 }
 

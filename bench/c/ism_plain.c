@@ -11,20 +11,6 @@
 
 #include "common.h"
 
-/* ------------------------------------------------------------------------------------------------------- profile */
-
-ism_answer NAME(margin)(ism_profile profile) {
-    ism_answer verdict = check_profile(&profile);
-    if (verdict.number != ISM_ACCEPTED) return verdict;
-    return counted((uint64_t)least_distance(&profile));
-}
-
-ism_answer NAME(class)(ism_profile profile, uint16_t interval) {
-    ism_answer verdict = check_profile(&profile);
-    if (verdict.number != ISM_ACCEPTED) return verdict;
-    return counted(classify(&profile, interval));
-}
-
 /* -------------------------------------------------------------------------------------------------------- register */
 
 /*
@@ -479,7 +465,7 @@ ism_answer NAME(read)(ism_profile profile, const uint16_t *intervals, size_t n, 
     if (any_stray(words, bytes + 1)) return refused(ISM_STRAY, lowest_stray(words));
     if (room < bytes) return refused(ISM_FULL, 0);
     items_of(words, bytes, out);
-    return counted(bytes);
+    return cleared(counted(bytes), least_clearance(&profile, intervals, n));
 }
 
 /* Cells until a field is known or the block ends; how many. Eight cells are less than two words and a half cell. */
@@ -511,31 +497,33 @@ static ism_answer field_words(const ism_profile *p, const uint16_t *intervals, s
  * A field of n bytes is known with 16 n + 1 half cells: the lead 0's data and the words. Only a gap that begins with
  * the last bit ends three later.
  */
-ism_answer NAME(read_field)(ism_profile profile, const uint16_t *intervals, size_t n, uint64_t bytes, uint16_t *out,
+ism_answer NAME(read_items)(const ism_profile *p, const uint16_t *intervals, size_t n, uint64_t bytes, uint16_t *out,
                             size_t room) {
-    ism_answer verdict = check_profile(&profile);
-    if (verdict.number != ISM_ACCEPTED) return verdict;
     if (bytes < 1 || bytes > ISM_MAX_FIELD_BYTES) return refused(ISM_MISCOUNT, 0);
     uint16_t words[ISM_MAX_FIELD_BYTES + 4];
     struct word_reader r = reader_into(words);
     size_t count = (size_t)bytes;
-    verdict = field_words(&profile, intervals, n, count, &r);
+    ism_answer verdict = field_words(p, intervals, n, count, &r);
     if (verdict.number != ISM_ACCEPTED) return verdict;
     size_t used = (size_t)verdict.count;
     if (any_stray(words, count)) return refused(ISM_STRAY, lowest_stray(words));
     if (known(&r) == 16 * count + 4) return refused(ISM_STRAY, used - 1);
     if (room < bytes) return refused(ISM_FULL, 0);
     items_of(words, count, out);
-    ism_answer answer = {ISM_ACCEPTED, 0, bytes, used, register_after(ALL_ONES, out, 0, count) == 0};
+    ism_answer answer = {ISM_ACCEPTED, 0, bytes, used, register_after(ALL_ONES, out, 0, count) == 0, 0};
     return answer;
 }
 
-/* The field reader's last step alone, for items that are ready: the items, and whether the register ends as zero. */
-ism_answer NAME(register)(const uint16_t *items, size_t n, uint64_t used, uint16_t *out, size_t room) {
+/*
+ * The field reader's last step alone, for items that are ready: the items, whether the register ends as zero, and the
+ * least clearance of the used intervals.
+ */
+ism_answer NAME(register)(ism_profile profile, const uint16_t *intervals, uint64_t used, const uint16_t *items,
+                          size_t n, uint16_t *out, size_t room) {
     if (room < n) return refused(ISM_FULL, 0);
     memcpy(out, items, n * sizeof *items);
-    ism_answer answer = {ISM_ACCEPTED, 0, n, used, register_after(ALL_ONES, items, 0, n) == 0};
-    return answer;
+    ism_answer answer = {ISM_ACCEPTED, 0, n, used, register_after(ALL_ONES, items, 0, n) == 0, 0};
+    return cleared(answer, least_clearance(&profile, intervals, (size_t)used));
 }
 
 /* --------------------------------------------------------------------------------------------------------- finder */
@@ -847,7 +835,7 @@ static ism_answer choose_copies(const struct sector_set *a, const struct sector_
             bytes += sector_bytes(copy);
         }
     }
-    ism_answer answer = {ISM_ACCEPTED, 0, count, bytes, 0};
+    ism_answer answer = {ISM_ACCEPTED, 0, count, bytes, 0, 0};
     return answer;
 }
 

@@ -55,6 +55,6 @@ __attribute__((noinline)) size_t bench_stack_depth(void) {
 __attribute__((noinline)) ism_answer plain_c_nothing(ism_profile profile, const uint16_t *items, size_t n,
                                                      uint16_t *out, size_t room) {
     (void)profile, (void)items, (void)n, (void)out, (void)room;
-    ism_answer answer = {0, 0, 0, 0, 0};
+    ism_answer answer = {0, 0, 0, 0, 0, 0};
     return answer;
 }

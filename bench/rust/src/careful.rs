@@ -21,8 +21,8 @@ impl Fields for Careful {
         finder::find_lock(p, intervals, start)
     }
 
-    fn read_field(p: &Profile, intervals: &[u16], out: &mut [u16]) -> Answer {
-        careful_rust_read_field(*p, intervals, out.len() as u64, out)
+    fn read_items(p: &Profile, intervals: &[u16], out: &mut [u16]) -> Result<Answer, Answer> {
+        reader::read_items(p, intervals, out.len() as u64, out)
     }
 }
 

@@ -56,8 +56,8 @@ pub struct Implementation {
     pub add_reports: fn(Report, Report) -> Report,
     /// A FIFO operation by its number, in the order of `ism.h`.
     pub fifo: fn(u8, Fifo, u16) -> FifoAnswer,
-    /// The field reader's last step: the register over the items, and the items to the output. The library has no entry
-    /// for that alone, so there it is the whole reading of the field.
+    /// The field reader's last step: the register over the items, the items to the output, and the least clearance of
+    /// the used intervals. The library has no entry for that alone, so there it is the whole reading of the field.
     pub register: fn(&Field, &mut [u16]) -> Answer,
     /// What of that is not the last step: for the library, the field refused because the output is one too short.
     pub before_register: fn(&Field, &mut [u16]) -> Answer,
@@ -74,7 +74,13 @@ pub struct Field {
     pub items: Vec<u16>,
 }
 
-const NOTHING: Answer = Answer { number: 0, place: 0, count: 0, used: 0, holds: 0 };
+impl Field {
+    fn used(&self) -> &[u16] {
+        &self.intervals[..self.used as usize]
+    }
+}
+
+const NOTHING: Answer = Answer { number: 0, place: 0, count: 0, used: 0, holds: 0, clearance: 0 };
 
 fn made(next: Fifo) -> FifoAnswer {
     FifoAnswer { number: 0, place: 0, item: 0, next }
@@ -203,11 +209,22 @@ macro_rules! c_register {
     ($name:ident, $symbol:ident) => {
         fn $name(field: &Field, out: &mut [u16]) -> Answer {
             extern "C" {
-                fn $symbol(items: *const u16, n: usize, used: u64, out: *mut u16, room: usize) -> Answer;
+                fn $symbol(
+                    p: Profile,
+                    used: *const u16,
+                    n: u64,
+                    items: *const u16,
+                    count: usize,
+                    out: *mut u16,
+                    room: usize,
+                ) -> Answer;
             }
-            let items = &field.items;
+            let (used, items) = (field.used(), &field.items);
+            let n = used.len() as u64;
             // SAFETY: each pointer comes with the length of its slice
-            unsafe { $symbol(items.as_ptr(), items.len(), field.used, out.as_mut_ptr(), out.len()) }
+            unsafe {
+                $symbol(field.profile, used.as_ptr(), n, items.as_ptr(), items.len(), out.as_mut_ptr(), out.len())
+            }
         }
     };
 }
@@ -257,7 +274,7 @@ const RUST: Implementation = Implementation {
     drive_report: plain_rust_drive_report,
     add_reports: |a, b| plain_rust_add_reports(&a, &b),
     fifo: rust_fifo,
-    register: |field, out| plain_rust_register(&field.items, field.used, out),
+    register: |field, out| plain_rust_register(field.profile, field.used(), &field.items, out),
     before_register: nothing,
 };
 
@@ -268,6 +285,10 @@ macro_rules! careful {
             use super::{Answer, Implementation, Index, Kind, Profile, RUST};
 
             extern "C" {
+                #[link_name = concat!($prefix, "margin")]
+                fn margin(p: Profile) -> Answer;
+                #[link_name = concat!($prefix, "class")]
+                fn class(p: Profile, interval: u16) -> Answer;
                 #[link_name = concat!($prefix, "write")]
                 fn write(p: Profile, items: *const u16, n: usize, out: *mut u16, room: usize) -> Answer;
                 #[link_name = concat!($prefix, "read")]
@@ -285,6 +306,8 @@ macro_rules! careful {
             pub const IMPLEMENTATION: Implementation = Implementation {
                 kind: Kind::CarefulC,
                 name: $name,
+                margin: |p| unsafe { margin(p) },
+                class: |p, interval| unsafe { class(p, interval) },
                 write: |p, list, out| unsafe { write(p, list.as_ptr(), list.len(), out.as_mut_ptr(), out.len()) },
                 read: |p, list, out| unsafe { read(p, list.as_ptr(), list.len(), out.as_mut_ptr(), out.len()) },
                 find: |p, list, start| unsafe { find(p, list.as_ptr(), list.len(), start) },

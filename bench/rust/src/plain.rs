@@ -28,11 +28,11 @@ pub(crate) const MAX_INTERVALS: usize = 51_202;
 pub(crate) const MAX_FIELD_BYTES: u64 = 1_030;
 
 pub(crate) fn refused(number: u32, place: usize) -> Answer {
-    Answer { number, place: place as u32, count: 0, used: 0, holds: 0 }
+    Answer { number, place: place as u32, count: 0, used: 0, holds: 0, clearance: 0 }
 }
 
 pub(crate) fn counted(count: u64) -> Answer {
-    Answer { number: 0, place: 0, count, used: 0, holds: 0 }
+    Answer { number: 0, place: 0, count, used: 0, holds: 0, clearance: 0 }
 }
 
 /// Classes 1 narrow, 2, 3, 4, 5 wide. The edges of a true profile ascend, so the class is one more than the number of
@@ -40,6 +40,27 @@ pub(crate) fn counted(count: u64) -> Answer {
 #[inline]
 pub(crate) fn classify(p: &Profile, interval: u16) -> u8 {
     [p.min, p.b23, p.b34, p.rpt].iter().fold(1, |class, edge| class + u8::from(interval >= *edge))
+}
+
+/// The least clearance of some intervals, none of them narrow or wide: how near they come to an edge. At Min that is
+/// the shortest, at Rpt the longest. At an edge between two windows the differences are seen such that those of
+/// intervals below the edge come last: then the first is the nearest from the edge up, the last the nearest below.
+pub(crate) fn least_clearance(p: &Profile, intervals: &[u16]) -> u32 {
+    let edges = [0, p.b23 ^ 0x8000, p.b34 ^ 0x8000];
+    let (mut first, mut last) = ([i16::MAX; 3], [i16::MIN; 3]);
+    for interval in intervals {
+        for (edge, (first, last)) in edges.iter().zip(first.iter_mut().zip(&mut last)) {
+            let difference = interval.wrapping_sub(*edge) as i16;
+            *first = difference.min(*first);
+            *last = difference.max(*last);
+        }
+    }
+    let [shortest, from_b23, from_b34] = first.map(i32::from);
+    let [longest, below_b23, below_b34] = last.map(i32::from);
+    let outer = (shortest - i32::from(p.min)).min(i32::from(p.rpt) - 1 - longest);
+    let two = (from_b23 + 0x8000).min(0x7FFF - below_b23);
+    let three = (from_b34 + 0x8000).min(0x7FFF - below_b34);
+    outer.min(two).min(three) as u32
 }
 
 /// The margin, below 0 if the windows miss the cell lengths.
@@ -76,6 +97,11 @@ pub(crate) fn check_profile(p: &Profile) -> Result<(), Answer> {
     Ok(())
 }
 
+/// A field's answer with the least clearance of the intervals that it used.
+pub(crate) fn cleared(p: &Profile, intervals: &[u16], field: Answer) -> Answer {
+    Answer { clearance: least_clearance(p, &intervals[..field.used as usize]), ..field }
+}
+
 /// One answer from either way out of a function.
 pub(crate) fn either(result: Result<Answer, Answer>) -> Answer {
     result.unwrap_or_else(|refusal| refusal)
@@ -86,5 +112,9 @@ pub fn plain_rust_margin(profile: Profile) -> Answer {
 }
 
 pub fn plain_rust_class(profile: Profile, interval: u16) -> Answer {
-    either(check_profile(&profile).map(|()| counted(u64::from(classify(&profile, interval)))))
+    let inside = (profile.min..profile.rpt).contains(&interval);
+    either(check_profile(&profile).map(|()| Answer {
+        clearance: if inside { least_clearance(&profile, &[interval]) } else { 0 },
+        ..counted(u64::from(classify(&profile, interval)))
+    }))
 }

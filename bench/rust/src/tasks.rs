@@ -237,7 +237,7 @@ fn read_field(size: usize) -> Task {
     Task::new(units, "interval", size, run)
 }
 
-/// The check register over the items of a field, and the items to the output.
+/// The check register over the items of a field, the items to the output, and the least clearance of its intervals.
 fn register(size: usize) -> Task {
     let (intervals, mut items) = (field(size), vec![0; size]);
     let used = plain_rust_read_field(PROFILE, &intervals, size as u64, &mut items).used;
@@ -292,7 +292,7 @@ fn put_report(report: &Report, out: &mut [u16]) -> Answer {
     for (parts, number) in out.chunks_exact_mut(4).zip(numbers) {
         parts.copy_from_slice(&[number as u16, (number >> 16) as u16, (number >> 32) as u16, (number >> 48) as u16]);
     }
-    Answer { number: report.number, place: report.place, count: 0, used: 0, holds: 0 }
+    Answer { number: report.number, place: report.place, count: 0, used: 0, holds: 0, clearance: 0 }
 }
 
 fn drive_report(intervals: usize) -> Task {
@@ -311,7 +311,7 @@ fn put_index(index: &Index, out: &mut [u16]) -> Answer {
         parts[..4].copy_from_slice(places.as_flattened());
         parts[4..].copy_from_slice(&bytes);
     }
-    Answer { number: index.number, place: index.place, count: index.count, used: 0, holds: 0 }
+    Answer { number: index.number, place: index.place, count: index.count, used: 0, holds: 0, clearance: 0 }
 }
 
 fn index(track: Vec<u16>) -> Task {

@@ -15,25 +15,27 @@ fn has_mark(p: &Profile, intervals: &[u16]) -> bool {
     LOCKS.into_iter().any(begins)
 }
 
-/// The first lock from `start` on, under a true profile. Until 64 intervals of class 2 have been seen, another one only
-/// sets the place at which they would be.
+/// The first lock from `start` on, under a true profile. `first` is where a run of class 2 begins; as far as it may be
+/// full, another interval only moves that place.
 pub fn find_lock(p: &Profile, intervals: &[u16], start: u64) -> Option<usize> {
     let (min, width) = (p.min, p.b23 - p.min);
     let is_two = |interval: u16| interval.wrapping_sub(min) < width;
-    let mut k = usize::try_from(start).ok()?;
-    let mut full = k.checked_add(SYNC)?;
-    while let Some(interval) = intervals.get(k) {
-        k += 1;
-        full = if is_two(*interval) { full } else { k + SYNC };
-        if k == full {
+    let mut first = usize::try_from(start).ok()?;
+    let mut k = first;
+    loop {
+        let full = first.checked_add(SYNC)?;
+        for interval in intervals.get(k..full)? {
+            k += 1;
+            first = if is_two(*interval) { first } else { k };
+        }
+        if k == first + SYNC {
             k += intervals[k..].iter().take_while(|interval| is_two(**interval)).count();
             if has_mark(p, &intervals[k..]) {
                 return Some(k);
             }
-            full = k + SYNC;
+            first = k;
         }
     }
-    None
 }
 
 #[inline(never)]

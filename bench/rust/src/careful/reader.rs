@@ -5,7 +5,9 @@ use ism::sys::{Answer, Profile};
 use super::passed;
 use crate::plain::register::ALL_ONES;
 use crate::plain::words::{is_mark_word, item_of};
-use crate::plain::{check_profile, counted, either, refused, MAX_BYTES, MAX_FIELD_BYTES, MAX_INTERVALS};
+use crate::plain::{
+    check_profile, cleared, counted, either, least_clearance, refused, MAX_BYTES, MAX_FIELD_BYTES, MAX_INTERVALS,
+};
 
 const DATA: u32 = 0x5555;
 const WORD: i32 = 16;
@@ -118,7 +120,7 @@ fn read(p: &Profile, intervals: &[u16], out: &mut [u16]) -> Result<Answer, Answe
     }
     let bytes = check_strip(p, intervals)?;
     store_strip(p, intervals, out.get_mut(..bytes).ok_or(refused(9, 0))?);
-    Ok(counted(bytes as u64))
+    Ok(Answer { clearance: least_clearance(p, intervals), ..counted(bytes as u64) })
 }
 
 #[inline(never)]
@@ -153,14 +155,15 @@ fn register_after(items: &[u16]) -> u16 {
     items.iter().fold((ALL_ONES, 0), pass).0
 }
 
-/// A field of 1 to 1,030 bytes under a true profile. An ID field goes through a small buffer, since clearing a large
+/// A field under a true profile, its clearance aside. An ID field goes through a small buffer, since clearing a large
 /// one costs more than the reading.
-fn read_items(p: &Profile, intervals: &[u16], bytes: usize, out: &mut [u16]) -> Result<Answer, Answer> {
+pub fn read_items(p: &Profile, intervals: &[u16], bytes: u64, out: &mut [u16]) -> Result<Answer, Answer> {
     const SHORT: usize = 32;
-    if bytes <= SHORT {
-        read_through(p, intervals, &mut [0; SHORT][..bytes], out)
-    } else {
-        read_through(p, intervals, &mut [0; MAX_FIELD_BYTES as usize][..bytes], out)
+    let count = bytes as usize;
+    match bytes {
+        1..=MAX_FIELD_BYTES if count <= SHORT => read_through(p, intervals, &mut [0; SHORT][..count], out),
+        1..=MAX_FIELD_BYTES => read_through(p, intervals, &mut [0; MAX_FIELD_BYTES as usize][..count], out),
+        _ => Err(refused(12, 0)),
     }
 }
 
@@ -173,8 +176,6 @@ fn read_through(p: &Profile, intervals: &[u16], items: &mut [u16], out: &mut [u1
 
 #[inline(never)]
 pub fn careful_rust_read_field(profile: Profile, intervals: &[u16], bytes: u64, out: &mut [u16]) -> Answer {
-    either(check_profile(&profile).and_then(|()| match bytes {
-        1..=MAX_FIELD_BYTES => read_items(&profile, intervals, bytes as usize, out),
-        _ => Err(refused(12, 0)),
-    }))
+    let field = check_profile(&profile).and_then(|()| read_items(&profile, intervals, bytes, out));
+    either(field.map(|field| cleared(&profile, intervals, field)))
 }

@@ -3,7 +3,7 @@
 use ism::sys::{Answer, Index, IndexEntry, Profile};
 
 use super::finder::find_lock;
-use super::plain_rust_read_field;
+use super::reader::read_items;
 use super::{check_profile, classify, MAX_FIELD_BYTES};
 
 /// What an index stands on.
@@ -11,8 +11,8 @@ pub trait Fields {
     /// The first lock from a place on.
     fn find_lock(p: &Profile, intervals: &[u16], start: u64) -> Option<usize>;
 
-    /// A field of as many bytes as the output has.
-    fn read_field(p: &Profile, intervals: &[u16], out: &mut [u16]) -> Answer;
+    /// A field of as many bytes as the output has, its clearance aside.
+    fn read_items(p: &Profile, intervals: &[u16], out: &mut [u16]) -> Result<Answer, Answer>;
 }
 
 struct Plain;
@@ -22,8 +22,8 @@ impl Fields for Plain {
         find_lock(p, intervals, start)
     }
 
-    fn read_field(p: &Profile, intervals: &[u16], out: &mut [u16]) -> Answer {
-        plain_rust_read_field(*p, intervals, out.len() as u64, out)
+    fn read_items(p: &Profile, intervals: &[u16], out: &mut [u16]) -> Result<Answer, Answer> {
+        read_items(p, intervals, out.len() as u64, out)
     }
 }
 
@@ -52,8 +52,8 @@ fn sector_field<F: Fields>(p: &Profile, intervals: &[u16], name: u16, items: &mu
     if marks.iter().zip(&THREE_MARKS).any(|(interval, class)| classify(p, *interval) != *class) {
         return None;
     }
-    let field = F::read_field(p, intervals, items);
-    (field.number == 0 && items[3] == name).then_some(field)
+    let field = F::read_items(p, intervals, items).ok()?;
+    (items[3] == name).then_some(field)
 }
 
 /// The entry whose ID field begins at a place, if one does, and the place after that field.

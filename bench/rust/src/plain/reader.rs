@@ -4,7 +4,9 @@ use ism::sys::{Answer, Profile};
 
 use super::register::{register_after, ALL_ONES};
 use super::words::{any_stray, items_of, lowest_stray, zeros_of_block, WordReader, BLOCK, SLACK};
-use super::{check_profile, counted, either, refused, MAX_BYTES, MAX_FIELD_BYTES, MAX_INTERVALS};
+use super::{
+    check_profile, cleared, counted, either, least_clearance, refused, MAX_BYTES, MAX_FIELD_BYTES, MAX_INTERVALS,
+};
 
 /// How many intervals come before the first that is narrow or wide.
 fn inside(p: &Profile, intervals: &[u16]) -> usize {
@@ -70,7 +72,7 @@ fn read<const WORDS: usize>(p: &Profile, intervals: &[u16], out: &mut [u16]) -> 
     }
     let out = out.get_mut(..bytes).ok_or(refused(9, 0))?;
     items_of(&words[..bytes + 1], out);
-    Ok(counted(bytes as u64))
+    Ok(Answer { clearance: least_clearance(p, intervals), ..counted(bytes as u64) })
 }
 
 /// Cells until a field is known or the block ends; how many. Eight cells are less than two words and a half cell.
@@ -116,24 +118,29 @@ fn field_words(p: &Profile, intervals: &[u16], bytes: usize, reader: &mut WordRe
 
 #[inline(never)]
 pub fn plain_rust_read_field(profile: Profile, intervals: &[u16], bytes: u64, out: &mut [u16]) -> Answer {
+    let field = check_profile(&profile).and_then(|()| read_items(&profile, intervals, bytes, out));
+    either(field.map(|field| cleared(&profile, intervals, field)))
+}
+
+/// A field under a true profile, its clearance aside.
+pub(super) fn read_items(p: &Profile, intervals: &[u16], bytes: u64, out: &mut [u16]) -> Result<Answer, Answer> {
     // an ID field goes through a small buffer, since clearing a large one costs more than the reading
     const SHORT: u64 = 32;
     if bytes <= SHORT {
-        either(read_field::<{ SHORT as usize + 4 }>(&profile, intervals, bytes, out))
+        read_through::<{ SHORT as usize + 4 }>(p, intervals, bytes, out)
     } else {
-        either(read_field::<{ MAX_FIELD_BYTES as usize + 4 }>(&profile, intervals, bytes, out))
+        read_through::<{ MAX_FIELD_BYTES as usize + 4 }>(p, intervals, bytes, out)
     }
 }
 
 /// A field of n bytes is known with 16 n + 1 half cells: the lead 0's data and the words. Only a gap that begins with
 /// the last bit ends three later.
-fn read_field<const WORDS: usize>(
+fn read_through<const WORDS: usize>(
     p: &Profile,
     intervals: &[u16],
     bytes: u64,
     out: &mut [u16],
 ) -> Result<Answer, Answer> {
-    check_profile(p)?;
     if !(1..=MAX_FIELD_BYTES).contains(&bytes) {
         return Err(refused(12, 0));
     }
@@ -155,11 +162,12 @@ fn read_field<const WORDS: usize>(
     Ok(Answer { used: used as u64, holds, ..counted(bytes) })
 }
 
-/// The field reader's last step alone, for items that are ready: the items and whether the register is zero after them.
+/// The field reader's last step alone, for items that are ready: the items, whether the register is zero after them,
+/// and the least clearance of the used intervals.
 #[inline(never)]
-pub fn plain_rust_register(items: &[u16], used: u64, out: &mut [u16]) -> Answer {
+pub fn plain_rust_register(profile: Profile, used: &[u16], items: &[u16], out: &mut [u16]) -> Answer {
     let Some(out) = out.get_mut(..items.len()) else { return refused(9, 0) };
     out.copy_from_slice(items);
     let holds = u32::from(register_after(ALL_ONES, items) == 0);
-    Answer { used, holds, ..counted(items.len() as u64) }
+    cleared(&profile, used, Answer { used: used.len() as u64, holds, ..counted(items.len() as u64) })
 }
