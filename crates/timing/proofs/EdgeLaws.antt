@@ -1,21 +1,27 @@
--- What a reader asks of the next interval, by the edges: where they ascend, one that is reached has all before it
--- reached, so that two compares tell a cell and two more add up to its units. Every profile that is accepted has
--- ascending edges. Rests on no axiom.
-use Prim.Native.Nat.{ℕ, _+_, _≤_, _<_}
+-- What a loop asks of the next interval, by the edges: where they ascend, one that is reached has all before it
+-- reached, so that two compares tell a cell, two more add up to its units, and one tells class 2. Every profile that is
+-- accepted has ascending edges. Rests on no axiom.
+use Prim.Native.Nat.{ℕ, _+_, _-_, _%_, _^_, _≤_, _<_}
 use mathlib.Core.Path.{_≡_, refl}
-use mathlib.Core.Bool.{true, _&&_, false≢true}
+use mathlib.Core.Bool.{Bool, true, false, cond, _&&_, false≢true}
 use native.Mathlib.Omega.{arith}
 use native.Mathlib.Decide.{decLt}
 use mir.Val.{boolByte}
 use lib.Dec.{leb, ltb}
 use borrow.Author.Tests.{lt-ltb, le-ltb, lt-leb, le-leb}
 use Rattle.timing.specs.Profile.{profileRule}
-use Rattle.timing.specs.Class.{atStart, classIn, isCell, classNumber, cursorPast, Ascending}
+use Rattle.timing.specs.Class.{atStart, classIn, isCell, isTwo, classNumber, cursorPast, Ascending}
 use Rattle.timing.specs.declared.Profile.{Profile}
 use Rattle.timing.specs.declared.cursor.Cursor.{Cursor}
+use Rattle.timing.specs.declared.Class.the-variants.{Three, Four, Wide}
 use Rattle.timing.proofs.ClassLaws.{below-min-is-narrow, below-b23-is-two}
 use Rattle.timing.proofs.ClassLaws.{below-b34-is-three, below-rpt-is-four, from-rpt-is-wide}
 use Rattle.timing.proofs.ProfileLaws.{kept}
+
+above-two : (t u : Bool) → isTwo (cond t Three (cond u Four Wide)) ≡ false
+above-two true u = refl
+above-two false true = refl
+above-two false false = refl
 
 module _ (c : Cursor) (d : ℕ) where
   -- a cell, and where it is one its units
@@ -74,6 +80,28 @@ module _ (c : Cursor) (d : ℕ) where
             rw (below-min-is-narrow c d below, lt-leb (c .min .0) d below) (refl, λ q. absurd (false≢true q))
         | no over ↦ from-min up (omega arith)
       ]
+
+  from-b23-is-not-two : c .min .0 ≤ d → c .b23 .0 ≤ d → isTwo (classIn c d) ≡ false
+  unfolding classIn
+  from-b23-is-not-two h₂ h₃ =
+      rw (le-ltb d (c .min .0) h₂, le-ltb d (c .b23 .0) h₃) (above-two (ltb d (c .b34 .0)) (ltb d (c .rpt .0)))
+
+  -- class 2, by the difference from Min, which wraps below it
+  module _ (r : ℕ) (up : Ascending c) (wraps : (r + c .min .0) % 2 ^ 16 ≡ d) (fits : c .b23 .0 < 2 ^ 16) where
+    abbrev width : ℕ
+    width = c .b23 .0 - c .min .0
+
+    pub two-by-difference : r < 2 ^ 16 → ltb r width ≡ isTwo (classIn c d)
+    two-by-difference small =
+        let two = up .two in
+        elim (decLt d (c .min .0)) [
+          | yes below ↦ rw (below-min-is-narrow c d below, le-ltb r width (omega arith))
+          | no over ↦
+              elim (decLt d (c .b23 .0)) [
+                | yes below ↦ rw (below-b23-is-two c d (omega arith) below, lt-ltb r width (omega arith))
+                | no above ↦ rw (from-b23-is-not-two (omega arith) (omega arith), le-ltb r width (omega arith))
+              ]
+        ]
 
   pub ascending-past : Ascending c → Ascending (cursorPast c d)
   unfolding cursorPast

@@ -34,6 +34,14 @@ isCell Three = true
 isCell Four = true
 isCell Wide = false
 
+-- class 2
+abbrev pub isTwo : Class → Bool
+isTwo Narrow = false
+isTwo Two = true
+isTwo Three = false
+isTwo Four = false
+isTwo Wide = false
+
 -- no edge is below the one before it, as in every profile that is true
 pub record Ascending (c : Cursor) : Type 0 where
   pub two : c .min .0 ≤ c .b23 .0

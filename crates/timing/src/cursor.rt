@@ -1,7 +1,8 @@
 // The one way to class intervals: a cursor that goes over a list from its first interval on.
 ghost use mathlib.Core.Path.{_≡_};
 ghost use mathlib.Core.Bool.{true};
-ghost use Rattle.timing.specs.Class.{atStart, classIn, isCell, classNumber, cursorPast, classed, Ascending};
+ghost use Rattle.timing.specs.Class.{atStart, classIn, cursorPast, classed};
+ghost use Rattle.timing.specs.Class.{isCell, isTwo, classNumber, Ascending};
 use crate::Class;
 use crate::HalfClocks;
 use crate::Profile;
@@ -61,7 +62,7 @@ impl Cursor {
         }
     }
 
-    // The next three are a reader's: no case for each class, so that a loop over intervals has no jump for one.
+    // The next four are for a loop over intervals: no case for each class, so that it has no jump for one.
 
     // Whether the next interval is of class 2, 3 or 4.
     pub fn meets_cell(self, interval: u16) -> bool
@@ -71,7 +72,15 @@ impl Cursor {
         (self.min.0 <= interval) & (interval < self.rpt.0)
     }
 
-    // Which of them it is: the units of its cell, one more for each edge that it reaches.
+    // Whether it is of class 2, by one compare: below Min the difference wraps to above all others.
+    pub fn meets_two(self, interval: u16) -> bool
+        requires { ⌜ Ascending self ⌝ }
+        ensures { λ r. ⌜ r ≡ isTwo (classIn self interval) ⌝ }
+    {
+        std::num::wrapping_sub_u16(interval, self.min.0) < self.b23.0 - self.min.0
+    }
+
+    // Which of the three a cell is: its units, one more for each edge that the interval reaches.
     pub fn units(self, interval: u16) -> u32
         requires { ⌜ Ascending self ⌝ }
         requires { ⌜ isCell (classIn self interval) ≡ true ⌝ }
