@@ -14,11 +14,8 @@ use Rattle.refusal.specs.Answer.{accepted, refused}
 use Rattle.timing.specs.declared.Class.{Class}
 use Rattle.timing.specs.declared.Class.the-variants.{Narrow, Two}
 use Rattle.fields.specs.Lock.{markAhead, lockAt, firstLock, lockFrom}
+use Rattle.fields.specs.Scan.{Twos}
 use Rattle.fields.proofs.LockLaws.{run-ahead, run-broken, no-mark-of-none, two-begins-no-mark}
-
--- the intervals from a place up to another are of class 2
-abbrev pub Twos : List Class → ℕ → ℕ → Type 0
-Twos cs low high = (j : ℕ) → low ≤ j → j < high → getD cs j Narrow ≡ Two
 
 module _ (cs : List Class) (k : ℕ) where
   -- ---- where a lock stands

@@ -17,13 +17,6 @@ use Rattle.fields.specs.Lock.{beginsWith, lockPatterns, markAhead}
 
 -- ---- a run of class 2
 
-pub number-2-is-two : (c : Class) → classNumber c ≡ 2 → c ≡ Two
-number-2-is-two Narrow e = absurd (omega arith)
-number-2-is-two Two e = refl
-number-2-is-two Three e = absurd (omega arith)
-number-2-is-two Four e = absurd (omega arith)
-number-2-is-two Wide e = absurd (omega arith)
-
 two-or-not : (c : Class) → (c ≡ Two → ⊥) → eqb (classNumber c) 2 ≡ false
 two-or-not Narrow n = refl
 two-or-not Two n = absurd (n refl)

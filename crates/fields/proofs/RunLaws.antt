@@ -1,80 +1,72 @@
--- Laws of a run that is passed over: an interval of class 2 makes it longer by one, and in the list's classes it is
--- what it is from where the classing stood. Rests on no axiom.
-use Prim.Native.Nat.{ℕ, zero, suc, _+_, _-_, _<_, _≤_}
+-- Laws of a run of class 2 up to where the classing stands: an interval of class 2 makes it longer by one, and after
+-- any other it begins anew. Rests on no axiom.
+use Prim.Native.Nat.{ℕ, suc, _+_, _<_}
 use mathlib.Core.Path.{_≡_, refl, sym, ap, _∙_}
-use mathlib.Core.List.{List, _∷_, _++_}
+use mathlib.Core.Bool.{true, false, true≢false}
+use mathlib.Core.List.{List, _∷_}
+use mathlib.Core.Logic.{⊎-elim}
 use native.Mathlib.Numerals.{add-one}
+use native.Mathlib.Nat.{eq-or-lt-of-le}
 use native.Mathlib.Omega.{arith}
-use lib.ListN.{length, getD, drop, replicate, length-replicate, getD-replicate, List·getD-append}
-use lib.Seq.{getD-drop, drop-drop, drop-at}
-use Rattle.timing.specs.Class.{classIn, classed, classNumber, classesFrom}
+use lib.ListN.{length, getD, drop}
+use lib.Seq.{getD-drop, drop-drop}
+use Rattle.timing.specs.Class.{classIn, isTwo, cursorPast, classesFrom}
 use Rattle.timing.specs.declared.Class.{Class}
-use Rattle.timing.specs.declared.Class.the-variants.{Narrow, Two}
+use Rattle.timing.specs.declared.Class.the-variants.{Narrow, Two, Three, Four, Wide}
 use Rattle.timing.specs.declared.cursor.Cursor.{Cursor}
-use Rattle.timing.specs.declared.cursor.Classed.{Classed}
 use Rattle.timing.proofs.ClassLaws.{classes-here}
-use Rattle.fields.specs.Scan.{PassesTwos}
-use Rattle.fields.proofs.LockLaws.{number-2-is-two}
-use Rattle.fields.proofs.FinderLaws.{Twos}
+use Rattle.fields.specs.Scan.{RunTo}
 
-two-after-twos : (n : ℕ) (cs : List Class) → replicate n Two ++ (Two ∷ cs) ≡ replicate (suc n) Two ++ cs
-two-after-twos zero cs = refl
-two-after-twos (suc n) cs = ap (λ (xs : List Class). Two ∷ xs) (two-after-twos n cs)
-
-pub passes-none
-    : {before : Cursor} {from end : ℕ} (ds : List ℕ) → from ≤ length ds → end ≡ from → PassesTwos before ds from before end
-passes-none {from = from} ds h end-is =
-    let none : from - from ≡ 0 = omega arith in
-    rw end-is (record { low = omega arith; high = h; classes = rw none })
-
--- one interval more, as a step of the cursor gives it
-pub passes-one-more
-    : {before after : Cursor} {ds : List ℕ} {from k next : ℕ} (r : Classed)
-    → PassesTwos before ds from after k
-    → k < length ds
-    → r ≡ classed after (getD ds k 0)
-    → classNumber (r .class) ≡ 2
-    → next ≡ k + 1
-    → PassesTwos before ds from (r .next) next
-passes-one-more {after = after} {ds = ds} {from = from} {k = k} r run inside step two next-is =
-    let low = run .low in
-    let more : k + 1 - from ≡ suc (k - from) = omega arith in
-    let here : classIn after (getD ds k 0) ≡ Two =
-    ap (λ (s : Classed). s .class) (sym step) ∙ number-2-is-two (r .class) two in
-    rw (step, next-is)
-    (record {
-      low = omega arith;
-      high = omega arith;
-      classes = run .classes ∙ rw (classes-here after ds k inside, here, two-after-twos, more, add-one k);
-    })
-
--- ---- in the classes of the list, where the classing stands at the run
+is-two : (c : Class) → isTwo c ≡ true → c ≡ Two
+is-two Narrow e = absurd (true≢false (sym e))
+is-two Two e = refl
+is-two Three e = absurd (true≢false (sym e))
+is-two Four e = absurd (true≢false (sym e))
+is-two Wide e = absurd (true≢false (sym e))
 
 module _
-    {before after : Cursor}
+    {start : Cursor}
     {ds : List ℕ}
-    {k end : ℕ}
-    (cs : List Class)
-    (run : PassesTwos before ds k after end)
-    (stands : drop k cs ≡ classesFrom before (drop k ds))
+    {first : ℕ}
+    {cursor : Cursor}
+    {next : ℕ}
+    (run : RunTo start ds first cursor next)
+    (inside : next < length ds)
   where
-    parted : drop k cs ≡ replicate (end - k) Two ++ classesFrom after (drop end ds)
-    parted = stands ∙ run .classes
+    abbrev cs : List Class
+    cs = classesFrom start ds
 
-    pub passed-are-twos : Twos cs k end
-    passed-are-twos j low high =
-        let long = length-replicate (end - k) Two in
+    abbrev d : ℕ
+    d = getD ds next 0
+
+    from-here : drop next cs ≡ classIn cursor d ∷ classesFrom (cursorPast cursor d) (drop (suc next) ds)
+    from-here = run .stands ∙ classes-here cursor ds next inside
+
+    class-here : getD cs next Narrow ≡ classIn cursor d
+    class-here =
         ap (λ (i : ℕ). getD cs i Narrow) (omega arith)
-        ∙ sym (getD-drop k cs (j - k) Narrow)
-        ∙ ap (λ (xs : List Class). getD xs (j - k) Narrow) parted
-        ∙ List·getD-append (replicate (end - k) Two) _ Narrow (j - k) (omega arith)
-        ∙ getD-replicate (end - k) (j - k) Two Narrow (omega arith)
+        ∙ sym (getD-drop next cs 0 Narrow)
+        ∙ ap (λ (xs : List Class). getD xs 0 Narrow) from-here
 
-    pub stands-after-passed : drop end cs ≡ classesFrom after (drop end ds)
-    stands-after-passed =
-        let low = run .low in
-        let there : end ≡ k + (end - k) = omega arith in
-        ap (λ (i : ℕ). drop i cs) there
-        ∙ sym (drop-drop (end - k) k cs)
-        ∙ ap (drop (end - k)) parted
-        ∙ drop-at (replicate (end - k) Two) _ (end - k) (length-replicate (end - k) Two)
+    stands-after : drop (next + 1) cs ≡ classesFrom (cursorPast cursor d) (drop (next + 1) ds)
+    stands-after =
+        sym (drop-drop 1 next cs)
+        ∙ ap (drop 1) from-here
+        ∙ ap (λ (i : ℕ). classesFrom (cursorPast cursor d) (drop i ds)) (sym (add-one next))
+
+    pub run-goes-on : isTwo (classIn cursor d) ≡ true → RunTo start ds first (cursorPast cursor d) (next + 1)
+    run-goes-on two =
+        record {
+          twos = λ j low high.
+              ⊎-elim
+              (λ here. ap (λ (i : ℕ). getD cs i Narrow) here ∙ class-here ∙ is-two (classIn cursor d) two)
+              (λ before. run .twos j low before)
+              (eq-or-lt-of-le (omega arith));
+          stands = stands-after;
+        }
+
+    pub run-begins-anew : RunTo start ds (next + 1) (cursorPast cursor d) (next + 1)
+    run-begins-anew = record { twos = λ j low high. absurd (omega arith); stands = stands-after }
+
+    pub broken-here : isTwo (classIn cursor d) ≡ false → getD cs next Narrow ≡ Two → ⊥
+    broken-here other two = true≢false (ap isTwo (sym two ∙ class-here) ∙ other)

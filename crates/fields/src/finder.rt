@@ -1,9 +1,11 @@
 // Document 01, "Finding and reading a field": the lock finder.
-ghost use Prim.Native.Nat.{_≤_};
+ghost use Prim.Native.Nat.{_<_, _≤_};
 ghost use mathlib.Core.Path.{_≡_};
-ghost use lib.ListN.{length};
+ghost use mathlib.Core.Bool.{cond};
+ghost use lib.ListN.{length, drop};
 ghost use Rattle.refusal.specs.Answer.{countedAnswer};
-ghost use Rattle.timing.specs.Class.{classesFrom};
+ghost use Rattle.timing.specs.Profile.{profileRule};
+ghost use Rattle.timing.specs.Class.{classesFrom, Ascending};
 ghost use Rattle.fields.specs.Lock.{beginsWith, markAhead, lockFrom, searchRule, findRule};
 ghost use Rattle.fields.specs.Scan.{PassesRun};
 use refusal::Counted;
@@ -17,17 +19,18 @@ const MARK_A1: [usize; 5] = [3, 4, 3, 4, 3];
 
 const MARK_C2: [usize; 10] = [3, 2, 3, 4, 3, 4, 2, 3, 4, 3];
 
-// Whether the intervals have the classes of a pattern at their front.
-fn begins_with(start: Cursor, intervals: &[u16], pattern: &[usize]) -> bool
-    ensures { λ r. ⌜ r ≡ beginsWith (now (pattern .entry)) (classesFrom start (now (intervals .entry))) ⌝ }
+// Whether the intervals from a place on have the classes of a pattern at their front.
+fn begins_with(start: Cursor, intervals: &[u16], at: usize, pattern: &[usize]) -> bool
+    requires { ⌜ at ≤ length (now intervals) ⌝ }
+    ensures { λ r. ⌜ r ≡ beginsWith (now (pattern .entry)) (classesFrom start (drop at (now (intervals .entry)))) ⌝ }
 {
     let mut cursor = start;
     let mut i: usize = 0;
     while i < pattern.len() {
-        if intervals.len() <= i {
+        if intervals.len() <= at + i {
             return false;
         }
-        let classed = cursor.step(intervals[i]);
+        let classed = cursor.step(intervals[at + i]);
         let class = classed.class;
         if class.number() == pattern[i] {
             cursor = classed.next;
@@ -39,16 +42,17 @@ fn begins_with(start: Cursor, intervals: &[u16], pattern: &[usize]) -> bool
     true
 }
 
-// Whether a lock's mark stands at the front of the intervals.
-fn mark_ahead(cursor: Cursor, intervals: &[u16]) -> bool
-    ensures { λ r. ⌜ r ≡ markAhead (classesFrom cursor (now (intervals .entry))) ⌝ }
+// Whether a lock's mark stands at a place.
+fn mark_ahead(cursor: Cursor, intervals: &[u16], at: usize) -> bool
+    requires { ⌜ at ≤ length (now intervals) ⌝ }
+    ensures { λ r. ⌜ r ≡ markAhead (classesFrom cursor (drop at (now (intervals .entry)))) ⌝ }
 {
     let a1 = MARK_A1;
-    if begins_with(cursor, intervals, &a1) {
+    if begins_with(cursor, intervals, at, &a1) {
         return true;
     }
     let c2 = MARK_C2;
-    begins_with(cursor, intervals, &c2)
+    begins_with(cursor, intervals, at, &c2)
 }
 
 // Up to where a run of class 2 was passed over, and where the classing stands there.
@@ -57,72 +61,73 @@ struct Run {
     cursor: Cursor,
 }
 
-// Passes over a run, two intervals at a turn, so that the end of the list is asked for once in two. An interval that is
-// the last of the list may be left.
+// Passes over a run. The last interval of the list may be left.
 fn pass_run(start: Cursor, intervals: &[u16], from: usize) -> Run
-    requires { ⌜ from ≤ length (now intervals) ⌝ }
+    requires { ⌜ Ascending start ⌝ }
+    requires { ⌜ from < length (now intervals) ⌝ }
     ensures { λ r. ⌜ PassesRun start (now (intervals .entry)) from (r .cursor) (r .end) ⌝ }
 {
+    let last = intervals.len() - 1;
     let mut cursor = start;
     let mut k = from;
-    while k + 1 < intervals.len() {
-        let first = cursor.step(intervals[k]);
-        let class = first.class;
-        if class.number() != 2 {
+    while k < last {
+        let interval = intervals[k];
+        if cursor.meets_two(interval) {
+            cursor = cursor.past(interval);
+            k += 1;
+        } else {
             return Run { end: k, cursor };
         }
-        let next = first.next;
-        let second = next.step(intervals[k + 1]);
-        let class = second.class;
-        if class.number() != 2 {
-            return Run {
-                end: k + 1,
-                cursor: next,
-            };
-        }
-        cursor = second.next;
-        k += 2;
     }
     Run { end: k, cursor }
 }
 
-// Invariant: no lock stands before k, and the classing stands at the first of the 64 before k. They are looked at in
-// their order. One of another class rules out every place that has it among its 64, so k goes to 65 after it. Where all
-// 64 are of class 2, k goes on to the end of their run, since no mark begins with class 2; with no mark there, the
-// interval at the run's end is the first of the next 64.
+// Where the present run of class 2 begins after one interval more: a choice of two numbers, and no jump for a class.
+fn run_first(two: bool, first: usize, next: usize) -> usize
+    ensures { λ r. ⌜ r ≡ cond two first next ⌝ }
+{
+    if two { first } else { next }
+}
+
+// Invariant: the intervals from `first` up to `next` are of class 2, and no lock stands before k, 64 after `first`. Those
+// up to k are looked at in their order, each once. One of another class rules out every place that has it among its 64,
+// so the run begins anew after it. Where all 64 are of class 2, `next` goes on to the end of their run, since no mark
+// begins with class 2; with no mark there, the interval at the run's end is the first of the next 64.
 fn scan(start: Cursor, intervals: &[u16]) -> Counted
+    requires { ⌜ Ascending start ⌝ }
     ensures { λ r. ⌜ countedAnswer r ≡ lockFrom (classesFrom start (now (intervals .entry))) 0 ⌝ }
 {
     let mut cursor = start;
-    let mut k: usize = 64;
+    let mut first: usize = 0;
+    let mut next: usize = 0;
     let place = 'scan: loop {
+        let k = first + 64;
         if intervals.len() <= k {
             break 'scan Counted::Refused(Refusal::NoLock);
         }
-        let mut i: usize = 0;
-        while i < 64 {
-            let classed = cursor.step(intervals[k - 64 + i]);
-            let class = classed.class;
-            cursor = classed.next;
-            if class.number() != 2 {
-                k += i + 1;
-                continue 'scan;
-            }
-            i += 1;
+        while next < k {
+            let interval = intervals[next];
+            next += 1;
+            first = run_first(cursor.meets_two(interval), first, next);
+            cursor = cursor.past(interval);
         }
-        let run = pass_run(cursor, intervals, k);
+        if k < first + 64 {
+            continue 'scan;
+        }
+        let run = pass_run(cursor, intervals, next);
         cursor = run.cursor;
-        k = run.end;
-        if mark_ahead(cursor, &intervals[k..]) {
-            break 'scan Counted::Count(k);
+        next = run.end;
+        if mark_ahead(cursor, intervals, next) {
+            break 'scan Counted::Count(next);
         }
-        k += 64;
+        first = next;
     };
     place
 }
 
 // The intervals from `start` on are searched, and the place is counted from there.
 fn search(p: Profile, intervals: &[u16], start: usize) -> Counted
+    requires { ⌜ profileRule p .number ≡ 0 ⌝ }
     ensures { λ r. ⌜ countedAnswer r ≡ searchRule p (now (intervals .entry)) start ⌝ }
 {
     if intervals.len() <= start {

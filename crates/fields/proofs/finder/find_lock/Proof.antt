@@ -1,7 +1,7 @@
 -- Why `fields::finder::find_lock` answers `findRule`: a refusal of the profile decides, and an acceptance leaves the
 -- search. Rests on no axiom.
 use mathlib.Core.Path.{_∙_}
-use Rattle.refusal.proofs.AnswerLaws.{verdict-refuses, verdict-passes}
+use Rattle.refusal.proofs.AnswerLaws.{verdict-refuses, verdict-passes, verdict-accepts}
 use Rattle.fields.specs.Lock.{findRule}
 use borrow.Author.Needs.{needs}
 use Rattle.fields.proofs.finder.find_lock.Statement.{statement}
@@ -17,7 +17,7 @@ enum-told : tie.Need-enum-told
 enum-told c = search needs
 
 search-requires : tie.Need-search-requires
-search-requires c κs = search needs
+search-requires c κs = verdict-accepts _ _ (c .before .before .check .ensures) (c .enum-told .given .1)
 
 returns : tie.Need-returns
 unfolding findRule

@@ -1,90 +1,45 @@
--- Why `fields::finder::pass_run` passes over a run up to its end: each turn makes it longer by two of class 2, and the
+-- Why `fields::finder::pass_run` passes over a run up to its end: each turn makes it longer by one of class 2, and the
 -- ways out are an interval of another class and the end of the list. Rests on no axiom.
-use Prim.Native.Nat.{_+_, _-_}
-use mathlib.Core.Path.{refl, sym, ap, _∙_}
+use Prim.Native.Nat.{ℕ, _-_, _<_, _≤_}
+use mathlib.Core.Path.{sym, _∙_}
 use native.Mathlib.Omega.{arith}
 use borrow.Author.Needs.{needs}
 use lib.ListN.{length}
-use Rattle.timing.specs.Class.{classNumber}
-use Rattle.timing.specs.declared.cursor.Classed.{Classed}
-use Rattle.fields.specs.Scan.{PassesTwos}
-use Rattle.fields.proofs.RunLaws.{passes-none, passes-one-more}
+use Rattle.timing.specs.Class.{Ascending}
+use Rattle.timing.specs.declared.cursor.Cursor.{Cursor}
+use Rattle.timing.proofs.EdgeLaws.{ascending-past}
+use Rattle.fields.specs.Scan.{RunTo}
+use Rattle.fields.proofs.RunLaws.{run-goes-on}
 use Rattle.fields.proofs.finder.pass_run.Statement.{statement}
 use Rattle.fields.proofs.finder.pass_run.Tie as tie
 
 abbrev Inv-loop : tie.InvT-loop
-Inv-loop intervals from cursor₀ k₀ cursor k = PassesTwos cursor₀ intervals from cursor k
+Inv-loop intervals from last cursor₀ k₀ cursor k =
+    (from ≤ k)
+    × (k < length intervals)
+    × Ascending cursor
+    × ((start : Cursor) (first : ℕ) → RunTo start intervals first cursor₀ from → RunTo start intervals first cursor k)
 
 abbrev μ-loop : tie.MeasureT-loop
-μ-loop intervals from cursor₀ k₀ cursor k = length intervals - k
+μ-loop intervals from last cursor₀ k₀ cursor k = last - k
+
+sub-last : tie.Need-sub-last Inv-loop μ-loop
+sub-last c = omega arith
 
 loop-holds : tie.Need-loop-holds Inv-loop μ-loop
-loop-holds c = passes-none _ (c .before .pre) refl
+loop-holds c = let pre = c .before .pre in (omega arith, pre .1, pre .0, λ start first run. run)
 
-add-loop : tie.Need-add-loop Inv-loop μ-loop
-add-loop c = omega arith
+mul-interval : tie.Need-mul-interval Inv-loop μ-loop
+mul-interval c = omega arith
 
-mul-step : tie.Need-mul-step Inv-loop μ-loop
-mul-step c = omega arith
+shared-slice-read-interval : tie.Need-shared-slice-read-interval Inv-loop μ-loop
+shared-slice-read-interval c = omega arith
 
-shared-slice-read-step : tie.Need-shared-slice-read-step Inv-loop μ-loop
-shared-slice-read-step c = omega arith
+meets-two-requires : tie.Need-meets-two-requires Inv-loop μ-loop
+meets-two-requires c κs = c .before .before .loop .inv .2
 
-step-requires : tie.Need-step-requires Inv-loop μ-loop
-step-requires c κs = search needs
-
-number-requires : tie.Need-number-requires Inv-loop μ-loop
-number-requires c κs = search needs
-
-returns : tie.Need-returns Inv-loop μ-loop
-returns c =
-    let stepped = c .before .before in
-    let class = ap (λ (r : Classed). classNumber (r .class)) (stepped .step .ensures) in
-    record {
-      twos = stepped .before .before .before .loop .inv;
-      ends = λ inside two. c .if1 .taken (c .before .number .ensures ∙ class ∙ two);
-    }
-
--- the first of two, where it is of class 2
-first-passes
-    : (c : tie.After-next Inv-loop μ-loop)
-    → let turn = c .before .before .before .before .before in
-    let args = turn .before .before .before .args in
-    PassesTwos (args .start) (args .intervals .now) (args .from) (c .before .before .before .step .result .next)
-    (turn .before .loop .k + 1)
-first-passes c =
-    let stepped = c .before .before .before in
-    let turn = stepped .before .before in
-    passes-one-more (stepped .step .result) (turn .before .loop .inv) (omega arith) (stepped .step .ensures)
-    (sym (c .before .before .number .ensures) ∙ c .before .if1 .left)
-    refl
-
-add-step : tie.Need-add-step Inv-loop μ-loop
-add-step c = omega arith
-
-mul-step-2 : tie.Need-mul-step-2 Inv-loop μ-loop
-mul-step-2 c = omega arith
-
-shared-slice-read-step-2 : tie.Need-shared-slice-read-step-2 Inv-loop μ-loop
-shared-slice-read-step-2 c = omega arith
-
-step-requires-2 : tie.Need-step-requires-2 Inv-loop μ-loop
-step-requires-2 c κs = search needs
-
-number-requires-2 : tie.Need-number-requires-2 Inv-loop μ-loop
-number-requires-2 c κs = search needs
-
-add-t17 : tie.Need-add-t17 Inv-loop μ-loop
-add-t17 c = omega arith
-
-returns-2 : tie.Need-returns-2 Inv-loop μ-loop
-returns-2 c =
-    let stepped = c .before .before in
-    let class = ap (λ (r : Classed). classNumber (r .class)) (stepped .step2 .ensures) in
-    record {
-      twos = first-passes (stepped .before .before);
-      ends = λ inside two. c .if2 .taken (c .before .number2 .ensures ∙ class ∙ two);
-    }
+past-requires : tie.Need-past-requires Inv-loop μ-loop
+past-requires c κs = search needs
 
 add-k : tie.Need-add-k Inv-loop μ-loop
 add-k c = omega arith
@@ -94,14 +49,31 @@ loop-less c = omega arith
 
 loop-again : tie.Need-loop-again Inv-loop μ-loop
 loop-again c =
-    let stepped = c .before .before .before in
-    passes-one-more (stepped .step2 .result) (first-passes (stepped .before .before)) (omega arith)
-    (stepped .step2 .ensures)
-    (sym (c .before .before .number2 .ensures) ∙ c .before .if2 .left)
-    (omega arith)
+    let met = c .before .before in
+    let inv = met .before .before .before .loop .inv in (
+      omega arith,
+      omega arith,
+      rw (c .past .ensures) (ascending-past _ _ (inv .2)),
+      λ start first run.
+          rw (c .past .ensures)
+          (run-goes-on (inv .3 start first run) (omega arith) (sym (met .meets-two .ensures) ∙ c .before .if1 .taken)),
+    )
 
-returns-3 : tie.Need-returns-3 Inv-loop μ-loop
-returns-3 c = record { twos = c .before .loop .inv; ends = λ inside two. absurd (omega arith) }
+returns : tie.Need-returns Inv-loop μ-loop
+returns c =
+    let inv = c .before .before .before .before .loop .inv in
+    record {
+      low = inv .0;
+      high = omega arith;
+      up = inv .2;
+      run = inv .3;
+      ends = λ inside. sym (c .before .meets-two .ensures) ∙ c .if1 .left;
+    }
+
+returns-2 : tie.Need-returns-2 Inv-loop μ-loop
+returns-2 c =
+    let inv = c .before .loop .inv in
+    record { low = inv .0; high = omega arith; up = inv .2; run = inv .3; ends = λ inside. absurd (omega arith) }
 
 pub pass-run-spec : {M : Type 1} → statement M
 pass-run-spec =
@@ -109,21 +81,14 @@ pass-run-spec =
     (tie.spec
     Inv-loop
     μ-loop
+    sub-last
     loop-holds
-    add-loop
-    mul-step
-    shared-slice-read-step
-    step-requires
-    number-requires
-    returns
-    add-step
-    mul-step-2
-    shared-slice-read-step-2
-    step-requires-2
-    number-requires-2
-    add-t17
-    returns-2
+    mul-interval
+    shared-slice-read-interval
+    meets-two-requires
+    past-requires
     add-k
     loop-less
     loop-again
-    returns-3)
+    returns
+    returns-2)

@@ -1,153 +1,140 @@
 -- Why `fields::finder::scan` answers `lockFrom`: each turn keeps the run and passes over no lock, and the ways out are
 -- a lock and the end of the list. Rests on no axiom.
 mod Turn
-use Prim.Native.Nat.{ℕ, _+_, _-_, _≤_}
-use mathlib.Core.Path.{_≡_, refl, sym, ap, _∙_}
-use mathlib.Core.List.{List}
+use Prim.Native.Nat.{_+_, _-_, _<_, _≤_}
+use mathlib.Core.Path.{sym, _∙_}
 use native.Mathlib.Omega.{arith}
 use borrow.Author.Needs.{needs}
-use lib.ListN.{length, drop}
-use Rattle.timing.specs.Class.{classesFrom}
-use Rattle.fields.specs.Lock.{markAhead}
-use Rattle.fields.specs.Scan.{PassesTwos}
-use Rattle.fields.proofs.LockLaws.{part-to-end}
-use Rattle.fields.proofs.RunLaws.{passes-none, passes-one-more}
-use Turn.{Scan, AtMark, scan-starts, scan-at, scan-breaks, scan-runs-on, scan-ends-adrift, mark-is-missed, mark-is-found}
+use lib.ListN.{length}
+use Rattle.timing.specs.Class.{Ascending}
+use Rattle.timing.specs.declared.cursor.Cursor.{Cursor}
+use Rattle.timing.proofs.EdgeLaws.{ascending-past}
+use Turn.{Searched, search-starts, chosen-between, search-is-adrift, looked-at, searched-past}
+use Turn.{mark-is-found, mark-is-missed}
 use Rattle.fields.proofs.finder.scan.Statement.{statement}
 use Rattle.fields.proofs.finder.scan.Tie as tie
 
--- of the 64 before k, those that were looked at
+-- the intervals up to k are looked at
 abbrev Inv-loop : tie.InvT-loop
-Inv-loop intervals cursor₀ k₀ i₀ cursor k i =
-    (k ≡ k₀) × (i ≤ 64) × PassesTwos cursor₀ intervals (k - 64) cursor (k - 64 + i)
+Inv-loop intervals cursor₀ first₀ next₀ k cursor first next =
+    (first ≤ next)
+    × (next ≤ k)
+    × (k ≤ first + 64)
+    × Ascending cursor
+    × ((start : Cursor) → Searched start intervals first₀ cursor₀ next₀ → Searched start intervals first cursor next)
 
 abbrev μ-loop : tie.MeasureT-loop
-μ-loop intervals cursor₀ k₀ i₀ cursor k i = 64 - i
+μ-loop intervals cursor₀ first₀ next₀ k cursor first next = k - next
 
 abbrev Inv-scan : tie.InvT-scan
-Inv-scan intervals cursor₀ k₀ cursor k = Scan cursor₀ intervals cursor k
+Inv-scan intervals cursor₀ first₀ next₀ cursor first next =
+    (first ≤ next)
+    × (next < first + 64)
+    × (next ≤ length intervals)
+    × Ascending cursor
+    × Searched cursor₀ intervals first cursor next
 
 abbrev μ-scan : tie.MeasureT-scan
-μ-scan intervals cursor₀ k₀ cursor k = length intervals + 65 - k
+μ-scan intervals cursor₀ first₀ next₀ cursor first next = length intervals - next
 
 scan-holds : tie.Need-scan-holds Inv-loop μ-loop Inv-scan μ-scan
-scan-holds c = scan-starts _ _ (omega arith)
-
-loop-holds : tie.Need-loop-holds Inv-loop μ-loop Inv-scan μ-scan
-loop-holds c = (refl, omega arith, passes-none _ (omega arith) (omega arith))
-
-sub-step : tie.Need-sub-step Inv-loop μ-loop Inv-scan μ-scan
-sub-step c = omega arith
-
-add-step : tie.Need-add-step Inv-loop μ-loop Inv-scan μ-scan
-add-step c = omega arith
-
-mul-step : tie.Need-mul-step Inv-loop μ-loop Inv-scan μ-scan
-mul-step c = omega arith
-
-shared-slice-read-step : tie.Need-shared-slice-read-step Inv-loop μ-loop Inv-scan μ-scan
-shared-slice-read-step c = omega arith
-
-step-requires : tie.Need-step-requires Inv-loop μ-loop Inv-scan μ-scan
-step-requires c κs = search needs
-
-number-requires : tie.Need-number-requires Inv-loop μ-loop Inv-scan μ-scan
-number-requires c κs = search needs
+scan-holds c = (omega arith, omega arith, omega arith, c .before .pre, search-starts _ _)
 
 add-k : tie.Need-add-k Inv-loop μ-loop Inv-scan μ-scan
 add-k c = omega arith
 
-add-k-2 : tie.Need-add-k-2 Inv-loop μ-loop Inv-scan μ-scan
-add-k-2 c = omega arith
+loop-holds : tie.Need-loop-holds Inv-loop μ-loop Inv-scan μ-scan
+loop-holds c = (omega arith, omega arith, omega arith, c .before .scan .inv .3, λ start searched. searched)
 
-scan-less : tie.Need-scan-less Inv-loop μ-loop Inv-scan μ-scan
-scan-less c = omega arith
+mul-interval : tie.Need-mul-interval Inv-loop μ-loop Inv-scan μ-scan
+mul-interval c = omega arith
 
-scan-again : tie.Need-scan-again Inv-loop μ-loop Inv-scan μ-scan
-scan-again c =
-    let step = c .before .before .before .step in
-    let turn = c .before .before .before .before .before .before in
-    let inv = turn .loop .inv in
-    scan-breaks (scan-at (turn .before .before .scan .inv) (inv .0)) (step .result) (inv .2) (omega arith) (omega arith)
-    (step .ensures)
-    (λ two. c .if2 .taken (c .before .number .ensures ∙ two))
-    (omega arith)
+shared-slice-read-interval : tie.Need-shared-slice-read-interval Inv-loop μ-loop Inv-scan μ-scan
+shared-slice-read-interval c = omega arith
 
-add-i : tie.Need-add-i Inv-loop μ-loop Inv-scan μ-scan
-add-i c = omega arith
+add-next : tie.Need-add-next Inv-loop μ-loop Inv-scan μ-scan
+add-next c = omega arith
 
-loop-less : tie.Need-loop-less Inv-loop μ-loop Inv-scan μ-scan
-loop-less c = omega arith
+meets-two-requires : tie.Need-meets-two-requires Inv-loop μ-loop Inv-scan μ-scan
+meets-two-requires c κs = c .before .before .loop .inv .3
+
+run-first-requires : tie.Need-run-first-requires Inv-loop μ-loop Inv-scan μ-scan
+run-first-requires c κs = search needs
+
+past-requires : tie.Need-past-requires Inv-loop μ-loop Inv-scan μ-scan
+past-requires c κs = search needs
 
 loop-again : tie.Need-loop-again Inv-loop μ-loop Inv-scan μ-scan
 loop-again c =
-    let step = c .before .before .before .step in
-    let inv = c .before .before .before .before .before .before .loop .inv in
-    let two = sym (c .before .number .ensures) ∙ c .if2 .left in (
-      inv .0,
+    let met = c .before .before .meets-two in
+    let turn = c .before .before .before .before .before .loop in
+    let inv = turn .inv in
+    let within = chosen-between (met .result) (turn .first) (turn .next + 1) (omega arith) in
+    rw (c .past .ensures, c .before .run-first .ensures) (
+      within .1,
       omega arith,
-      passes-one-more (step .result) (inv .2) (omega arith) (step .ensures) two (omega arith),
+      omega arith,
+      ascending-past _ _ (inv .3),
+      λ start searched.
+          looked-at (inv .4 start searched) (omega arith) (inv .0) (omega arith) (met .result) (met .ensures),
     )
 
+add-if2 : tie.Need-add-if2 Inv-loop μ-loop Inv-scan μ-scan
+add-if2 c = omega arith
+
+scan-again : tie.Need-scan-again Inv-loop μ-loop Inv-scan μ-scan
+scan-again c =
+    let inv = c .before .before .loop .inv in
+    (inv .0, omega arith, omega arith, inv .3, inv .4 _ (c .before .before .before .before .scan .inv .4))
+
 pass-run-requires : tie.Need-pass-run-requires Inv-loop μ-loop Inv-scan μ-scan
-pass-run-requires c κs = omega arith
-
-mul-mark-ahead : tie.Need-mul-mark-ahead Inv-loop μ-loop Inv-scan μ-scan
-mul-mark-ahead c = omega arith
-
-sub-mark-ahead : tie.Need-sub-mark-ahead Inv-loop μ-loop Inv-scan μ-scan
-sub-mark-ahead c = omega arith
-
-part-mark-ahead-start : tie.Need-part-mark-ahead-start Inv-loop μ-loop Inv-scan μ-scan
-part-mark-ahead-start c = omega arith
-
-part-mark-ahead-end : tie.Need-part-mark-ahead-end Inv-loop μ-loop Inv-scan μ-scan
-part-mark-ahead-end c = omega arith
+pass-run-requires c κs = (c .before .before .loop .inv .3, omega arith)
 
 mark-ahead-requires : tie.Need-mark-ahead-requires Inv-loop μ-loop Inv-scan μ-scan
-mark-ahead-requires c κs = search needs
-
-add-k-3 : tie.Need-add-k-3 Inv-loop μ-loop Inv-scan μ-scan
-add-k-3 c = omega arith
-
-scan-less-2 : tie.Need-scan-less-2 Inv-loop μ-loop Inv-scan μ-scan
-scan-less-2 c = omega arith
+mark-ahead-requires c κs = c .before .pass-run .ensures .high
 
 -- the run is passed over up to the place where the mark is looked for
 at-mark
     : (c : tie.After-mark-ahead Inv-loop μ-loop Inv-scan μ-scan)
-    → let run = c .before .before .before .pass-run .result in
+    → let passed = c .before .before .pass-run .result in
+    let turn = c .before .before .before .before .before .loop in
     let args = c .before .before .before .before .before .before .before .before .before .args in
-    AtMark (args .start) (args .intervals .now) (run .cursor) (run .end)
+    Searched (args .start) (args .intervals .now) (turn .first) (passed .cursor) (passed .end)
 at-mark c =
-    let ended = c .before .before .before .before in
-    let inv = ended .before .loop .inv in
-    scan-runs-on (scan-at (ended .before .before .before .scan .inv) (inv .0)) (inv .2) (omega arith)
-    (c .before .before .before .pass-run .ensures .twos)
-
--- and the mark is looked for in all that follows
-mark-is
-    : (c : tie.After-mark-ahead Inv-loop μ-loop Inv-scan μ-scan)
-    → let run = c .before .before .before .pass-run .result in
-    let args = c .before .before .before .before .before .before .before .before .before .args in
-    c .mark-ahead .result ≡ markAhead (classesFrom (run .cursor) (drop (run .end) (args .intervals .now)))
-mark-is c =
-    let run = c .before .before .before .pass-run .result in
-    let args = c .before .before .before .before .before .before .before .before .before .args in
-    c .mark-ahead .ensures
-    ∙ ap (λ (ds : List ℕ). markAhead (classesFrom (run .cursor) ds)) (part-to-end (args .intervals .now) (run .end))
+    let looped = c .before .before .before .before .before in
+    searched-past (looped .loop .inv .4 _ (looped .before .before .scan .inv .4)) (c .before .before .pass-run .ensures)
 
 scan-again-2 : tie.Need-scan-again-2 Inv-loop μ-loop Inv-scan μ-scan
 scan-again-2 c =
-    mark-is-missed (at-mark (c .before)) (sym (mark-is (c .before)) ∙ c .if3 .left)
-    (c .before .before .before .before .pass-run .ensures .ends)
-    (omega arith)
+    let passed = c .before .before .before .pass-run .ensures in (
+      omega arith,
+      omega arith,
+      passed .high,
+      passed .up,
+      mark-is-missed (at-mark (c .before)) (omega (arith, passed .low)) (passed .high)
+          (sym (c .before .mark-ahead .ensures) ∙ c .if3 .left)
+          (passed .ends),
+    )
 
 returns : tie.Need-returns Inv-loop μ-loop Inv-scan μ-scan
-returns c = scan-ends-adrift (c .before .scan .inv) (omega arith)
+returns c = search-is-adrift (c .before .scan .inv .4) (omega arith)
 
 returns-2 : tie.Need-returns-2 Inv-loop μ-loop Inv-scan μ-scan
-returns-2 c = mark-is-found (at-mark (c .before)) (sym (mark-is (c .before)) ∙ c .if3 .taken)
+returns-2 c =
+    let passed = c .before .before .before .pass-run .ensures in
+    mark-is-found (at-mark (c .before)) (omega (arith, passed .low)) (passed .high)
+    (sym (c .before .mark-ahead .ensures) ∙ c .if3 .taken)
+
+-- ---- each turn leaves fewer intervals
+
+loop-less : tie.Need-loop-less Inv-loop μ-loop Inv-scan μ-scan
+loop-less c = omega arith
+
+scan-less : tie.Need-scan-less Inv-loop μ-loop Inv-scan μ-scan
+scan-less c = omega arith
+
+scan-less-2 : tie.Need-scan-less-2 Inv-loop μ-loop Inv-scan μ-scan
+scan-less-2 c = omega (arith, c .before .before .before .pass-run .ensures .low)
 
 pub scan-spec : {M : Type 1} → statement M
 scan-spec =
@@ -158,27 +145,21 @@ scan-spec =
     Inv-scan
     μ-scan
     scan-holds
-    loop-holds
-    sub-step
-    add-step
-    mul-step
-    shared-slice-read-step
-    step-requires
-    number-requires
     add-k
-    add-k-2
-    scan-less
-    scan-again
-    add-i
+    loop-holds
+    mul-interval
+    shared-slice-read-interval
+    add-next
+    meets-two-requires
+    run-first-requires
+    past-requires
     loop-less
     loop-again
+    add-if2
+    scan-less
+    scan-again
     pass-run-requires
-    mul-mark-ahead
-    sub-mark-ahead
-    part-mark-ahead-start
-    part-mark-ahead-end
     mark-ahead-requires
-    add-k-3
     scan-less-2
     scan-again-2
     returns

@@ -15,6 +15,7 @@ use Rattle.timing.specs.declared.Profile.{Profile}
 use Rattle.timing.specs.declared.Class.{Class}
 use Rattle.timing.specs.declared.cursor.Cursor.{Cursor}
 use Rattle.timing.proofs.ClassLaws.{classes-length, classes-from-start}
+use Rattle.timing.proofs.EdgeLaws.{accepted-ascends}
 use Rattle.fields.specs.Lock.{lockFrom, searchRule}
 use Rattle.fields.proofs.LockLaws.{part-to-end}
 use Rattle.fields.proofs.FinderLaws.{search-ends-adrift, lock-is-within}
@@ -95,7 +96,9 @@ part-scan-end : tie.Need-part-scan-end
 part-scan-end c = search needs
 
 scan-requires : tie.Need-scan-requires
-scan-requires c κs = search needs
+scan-requires c κs =
+    let begin = c .before .before .before .before in
+    rw (c .before .start .ensures) (accepted-ascends (begin .args .p) (begin .pre))
 
 enum-known-refusal : tie.Need-enum-known-refusal
 enum-known-refusal c = search needs
