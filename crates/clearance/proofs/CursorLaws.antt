@@ -5,22 +5,24 @@ use mathlib.Core.Path.{_≡_}
 use mathlib.Core.List.{List}
 use native.Mathlib.Omega.{arith}
 use Rattle.timing.specs.Profile.{profileRule}
-use Rattle.timing.specs.Class.{atStart, cursorPast, cursorAfter}
+use Rattle.timing.specs.Class.{atStart, cursorAfter}
 use Rattle.timing.specs.declared.Profile.{Profile}
 use Rattle.timing.specs.declared.cursor.Cursor.{Cursor}
 use Rattle.timing.proofs.ProfileLaws.{kept}
 use Rattle.timing.proofs.ClassLaws.{cursor-stays}
-use Rattle.clearance.specs.Clearance.{Ascending}
+use Rattle.clearance.specs.Nearest.{Ascending}
 
 pub ascending-at-start : (p : Profile) → profileRule p .number ≡ 0 → Ascending (atStart p)
 unfolding atStart
 ascending-at-start p accepts =
     let k = kept p accepts in
-    record { first = omega (arith, k); two = omega (arith, k); three = omega (arith, k); four = omega (arith, k) }
-
-pub ascending-past : {c : Cursor} (d : ℕ) → Ascending c → Ascending (cursorPast c d)
-unfolding cursorPast
-ascending-past d h = h
+    record {
+      first = omega (arith, k);
+      two = omega (arith, k);
+      three = omega (arith, k);
+      four = omega (arith, k);
+      last = omega (arith, k);
+    }
 
 pub ascending-after : {c : Cursor} (ds : List ℕ) → Ascending c → Ascending (cursorAfter c ds)
 ascending-after {c} ds h = rw (cursor-stays c ds) h

@@ -8,8 +8,9 @@ use lib.ListN.{length, getD, take, drop}
 use lib.Seq.{drop-cons}
 use Rattle.timing.specs.Class.{cursorPast, cursorAfter}
 use Rattle.timing.specs.declared.cursor.Cursor.{Cursor}
+use Rattle.timing.proofs.ClassLaws.{cursor-stays}
 use Rattle.report.specs.Row.{least}
-use Rattle.report.proofs.SpanLaws.{least-of-none, spanned}
+use Rattle.report.proofs.SpanLaws.{least-of-none, least-of-one, spanned}
 use Rattle.clearance.specs.Clearance.{clearanceIn, clearancesFrom, leastFrom}
 
 pub clearances-none : (c : Cursor) → clearancesFrom c [] ≡ []
@@ -17,17 +18,15 @@ unfolding clearancesFrom
 clearances-none c = refl
 
 clearances-cons
-    : (c : Cursor) (d : ℕ) (ds : List ℕ)
-    → clearancesFrom c (d ∷ ds) ≡ clearanceIn c d ∷ clearancesFrom (cursorPast c d) ds
-unfolding clearancesFrom
-clearances-cons c d ds = refl
+    : (c : Cursor) (d : ℕ) (ds : List ℕ) → clearancesFrom c (d ∷ ds) ≡ clearanceIn c d ∷ clearancesFrom c ds
+unfolding clearancesFrom cursorAfter
+clearances-cons c d ds = ap (λ (e : Cursor). clearanceIn c d ∷ clearancesFrom e ds) (cursor-stays c (d ∷ []))
 
 -- the turn of a loop over a list: the interval at a place, and those after it
 pub clearances-here
     : (c : Cursor) (ds : List ℕ) (k : ℕ)
     → k < length ds
-    → clearancesFrom c (drop k ds)
-    ≡ clearanceIn c (getD ds k 0) ∷ clearancesFrom (cursorPast c (getD ds k 0)) (drop (suc k) ds)
+    → clearancesFrom c (drop k ds) ≡ clearanceIn c (getD ds k 0) ∷ clearancesFrom c (drop (suc k) ds)
 clearances-here c ds k h =
     ap (clearancesFrom c) (drop-cons ds k 0 h) ∙ clearances-cons c (getD ds k 0) (drop (suc k) ds)
 
@@ -51,6 +50,10 @@ pub least-from-none : (c : Cursor) (ds : List ℕ) → length ds ≡ 0 → least
 unfolding leastFrom
 least-from-none c [] h = ap least (clearances-none c) ∙ least-of-none
 least-from-none c (d ∷ ds) h = absurd (omega arith)
+
+pub least-from-one : (c : Cursor) (d : ℕ) → leastFrom c (d ∷ []) ≡ clearanceIn c d
+unfolding leastFrom clearancesFrom
+least-from-one c d = least-of-one (clearanceIn c d)
 
 module _ (c : Cursor) (ds : List ℕ) where
   pub least-is-no-more

@@ -10,8 +10,9 @@ use Rattle.timing.specs.declared.Class.the-variants.{Narrow, Two, Three, Four, 
 use Rattle.timing.specs.declared.cursor.Cursor.{Cursor}
 use Rattle.timing.proofs.ClassLaws.{below-b23-is-two, below-b34-is-three, below-rpt-is-four}
 use Rattle.clearance.specs.Clearance.{KeepsWithin, MostKept, ClearanceBy, IsClearance, inWindow, clearanceBy}
-use Rattle.clearance.specs.Clearance.{clearanceIn, Ascending}
-use Rattle.clearance.proofs.WindowLaws.{Stands, two, three, four, stands}
+use Rattle.clearance.specs.Clearance.{clearanceIn}
+use Rattle.clearance.specs.Nearest.{Ascending}
+use Rattle.clearance.proofs.StandLaws.{Stands, two, three, four, stands}
 
 -- the intervals of a class are those from one edge up to the next
 record ClassSpans (c : Cursor) (x : Class) (from to : ℕ) : Type 0 where

@@ -51,13 +51,6 @@ clearanceBy Wide c d = 0
 unfoldable pub clearanceIn : Cursor → ℕ → ℕ
 clearanceIn c d = clearanceBy (classIn c d) c d
 
--- no edge is below the one before it, and the first is above 0: so they are under every accepted profile
-pub record Ascending (c : Cursor) : Type 0 where
-  pub first : 1 ≤ c .min .0
-  pub two : c .min .0 ≤ c .b23 .0
-  pub three : c .b23 .0 ≤ c .b34 .0
-  pub four : c .b34 .0 ≤ c .rpt .0
-
 -- ---- intervals of a list
 
 -- of each interval of a list, from where the classing stands on

@@ -1,2 +1,3 @@
 pub mod Clearance
+pub mod Nearest
 pub mod Claims

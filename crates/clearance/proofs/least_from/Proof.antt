@@ -1,25 +1,26 @@
 -- Why `least_from` answers `leastFrom`: each turn takes the lesser of the least so far and an interval's clearance.
 -- Rests on no axiom.
 mod Turn
-use Prim.Native.Nat.{_-_}
+use Prim.Native.Nat.{ℕ, _-_, min}
+use mathlib.Core.Path.{ap₂, _∙_}
 use native.Mathlib.Omega.{arith}
 use lib.ListN.{length}
+use Rattle.clearance.specs.Nearest.{turned, room, leastMet}
+use Rattle.clearance.proofs.NearestLaws.{met-with}
 use borrow.Author.Needs.{needs}
 use Rattle.clearance.proofs.least_from.Proof.Turn.{Met, none-met, one-more-met, all-met}
 use Rattle.clearance.proofs.least_from.Statement.{statement}
 use Rattle.clearance.proofs.least_from.Tie as tie
 
 abbrev Inv-loop : tie.InvT-loop
-Inv-loop intervals start least₀ k₀ cursor least k = Met start intervals cursor least k
+Inv-loop start intervals shortest₀ longest₀ from₀ below₀ k₀ shortest longest from below k =
+    Met start intervals (leastMet start shortest longest from below) k
 
 abbrev μ-loop : tie.MeasureT-loop
-μ-loop intervals start least₀ k₀ cursor least k = length intervals - k
+μ-loop start intervals shortest₀ longest₀ from₀ below₀ k₀ shortest longest from below k = length intervals - k
 
 loop-holds : tie.Need-loop-holds Inv-loop μ-loop
-loop-holds c =
-    let start = c .before in
-    let first = c .shared-slice-known .given 0 in
-    none-met _ _ 65535 (start .pre .0) (start .pre .1) (omega arith)
+loop-holds c = none-met _ _ (c .before .pre .0) (c .before .pre .1)
 
 mul-interval : tie.Need-mul-interval Inv-loop μ-loop
 mul-interval c = search needs
@@ -27,14 +28,29 @@ mul-interval c = search needs
 shared-slice-read-interval : tie.Need-shared-slice-read-interval Inv-loop μ-loop
 shared-slice-read-interval c = search needs
 
-of-next-requires : tie.Need-of-next-requires Inv-loop μ-loop
-of-next-requires c κs = c .before .before .loop .inv .ascending
+past-requires : tie.Need-past-requires Inv-loop μ-loop
+past-requires c κs = search needs
 
-lesser-requires : tie.Need-lesser-requires Inv-loop μ-loop
-lesser-requires c κs = search needs
+past-requires-2 : tie.Need-past-requires-2 Inv-loop μ-loop
+past-requires-2 c κs = search needs
 
-step-requires : tie.Need-step-requires Inv-loop μ-loop
-step-requires c κs = search needs
+first-requires : tie.Need-first-requires Inv-loop μ-loop
+first-requires c κs = search needs
+
+last-requires : tie.Need-last-requires Inv-loop μ-loop
+last-requires c κs = search needs
+
+first-requires-2 : tie.Need-first-requires-2 Inv-loop μ-loop
+first-requires-2 c κs = search needs
+
+first-requires-3 : tie.Need-first-requires-3 Inv-loop μ-loop
+first-requires-3 c κs = search needs
+
+last-requires-2 : tie.Need-last-requires-2 Inv-loop μ-loop
+last-requires-2 c κs = search needs
+
+last-requires-3 : tie.Need-last-requires-3 Inv-loop μ-loop
+last-requires-3 c κs = search needs
 
 add-k : tie.Need-add-k Inv-loop μ-loop
 add-k c = search needs
@@ -44,26 +60,50 @@ loop-less c = search needs
 
 loop-again : tie.Need-loop-again Inv-loop μ-loop
 loop-again c =
-    let turn = c .before .before .before .before .before .before in
-    one-more-met (turn .loop .inv) (c .before .before .before .before .before .loop-test .taken)
-    (c .before .before .before .of-next .ensures) (c .before .before .lesser .ensures) (c .before .step .ensures)
+    let at-first2 = c .before .before .before in
+    let at-past2 = at-first2 .before .before .before in
+    let turn = at-past2 .before .before .before .before in
+    let start = turn .before .before in
+    let fits = turn .before .shared-slice-known .given (turn .loop .k) in
+    one-more-met _ _ _ _ _ (turn .loop .inv) (at-past2 .before .before .before .loop-test .taken)
+    (met-with (start .args .start) (start .pre .0) _ _ _ (at-past2 .before .past .ensures) (at-past2 .past2 .ensures)
+    _ _ _ _ _ _ _ _ _ _ (omega (arith, fits)) (at-first2 .before .before .first .ensures)
+    (at-first2 .before .last .ensures) (at-first2 .first2 .ensures) (c .before .before .first3 .ensures)
+    (c .before .last2 .ensures) (c .last3 .ensures))
+
+turned-requires : tie.Need-turned-requires Inv-loop μ-loop
+turned-requires c κs = search needs
+
+sub-turned : tie.Need-sub-turned Inv-loop μ-loop
+sub-turned c = search needs
+
+turned-requires-2 : tie.Need-turned-requires-2 Inv-loop μ-loop
+turned-requires-2 c κs = search needs
+
+room-requires : tie.Need-room-requires Inv-loop μ-loop
+room-requires c κs = search needs
+
+room-requires-2 : tie.Need-room-requires-2 Inv-loop μ-loop
+room-requires-2 c κs = search needs
+
+lesser-requires : tie.Need-lesser-requires Inv-loop μ-loop
+lesser-requires c κs = search needs
 
 returns : tie.Need-returns Inv-loop μ-loop
-returns c = all-met (c .before .loop .inv) (c .loop-test .left)
+unfolding leastMet
+returns c =
+    let at-room = c .before .before in
+    let at-end = at-room .before .before .before .before in
+    let met = at-end .before .loop in
+    let bounds = ap₂ (λ (low high : ℕ). room low high (turned (met .shortest)) (turned (met .longest)))
+    (at-room .before .before .before .turned .ensures) (at-room .before .turned2 .ensures) in
+    c .lesser .ensures
+    ∙ ap₂ min (at-room .room .ensures ∙ bounds) (c .before .room2 .ensures)
+    ∙ all-met _ _ _ _ (met .inv) (at-end .loop-test .left)
 
 pub least-from-spec : {M : Type 1} → statement M
 least-from-spec =
     tie.close
-    (tie.spec
-    Inv-loop
-    μ-loop
-    loop-holds
-    mul-interval
-    shared-slice-read-interval
-    of-next-requires
-    lesser-requires
-    step-requires
-    add-k
-    loop-less
-    loop-again
-    returns)
+    (tie.spec Inv-loop μ-loop loop-holds mul-interval shared-slice-read-interval past-requires past-requires-2
+    first-requires last-requires first-requires-2 first-requires-3 last-requires-2 last-requires-3 add-k loop-less
+    loop-again turned-requires sub-turned turned-requires-2 room-requires room-requires-2 lesser-requires returns)

@@ -4,61 +4,41 @@ use Prim.Native.Nat.{ℕ, _+_, _≤_, _<_, min}
 use mathlib.Core.Path.{_≡_, sym, ap, _∙_}
 use mathlib.Core.List.{List, _∷_}
 use native.Mathlib.Numerals.{add-one}
-use native.Mathlib.Omega.{arith}
 use lib.ListN.{length, getD, drop, drop-of-length-le}
-use Rattle.timing.specs.Class.{classed}
 use Rattle.timing.specs.declared.cursor.Cursor.{Cursor}
-use Rattle.timing.specs.declared.cursor.Classed.{Classed}
 use Rattle.report.specs.Row.{least}
 use Rattle.report.proofs.SpanLaws.{least-of-one, least-of-two}
-use Rattle.clearance.specs.Clearance.{Ascending, clearanceIn, clearancesFrom, leastFrom}
-use Rattle.clearance.proofs.CursorLaws.{ascending-past}
-use Rattle.clearance.proofs.WindowLaws.{clearance-is-within}
+use Rattle.clearance.specs.Clearance.{clearanceIn, clearancesFrom, leastFrom}
+use Rattle.clearance.specs.Nearest.{Ascending, leastMet}
 use Rattle.clearance.proofs.LeastLaws.{clearances-none, clearances-here}
+use Rattle.clearance.proofs.NearestLaws.{first-met}
 
--- after the first k intervals, when the classing stands at the cursor
-pub record Met (start : Cursor) (ds : List ℕ) (cursor : Cursor) (low k : ℕ) : Type 0 where
-  pub ascending : Ascending cursor
-  pub whole : least (low ∷ clearancesFrom cursor (drop k ds)) ≡ leastFrom start ds
+module _ (start : Cursor) (ds : List ℕ) where
+  -- after the first k intervals, whose least is low
+  abbrev pub Met : ℕ → ℕ → Type 0
+  Met low k = least (low ∷ clearancesFrom start (drop k ds)) ≡ leastFrom start ds
 
-no-less-than-first : (low x : ℕ) (xs : List ℕ) → x ≤ low → least (low ∷ x ∷ xs) ≡ least (x ∷ xs)
-no-less-than-first low x xs h = least-of-two low x xs ∙ ap (λ (y : ℕ). least (y ∷ xs)) (omega arith)
+  pub none-met : Ascending start → 0 < length ds → Met (leastMet start 32767 32768 32767 32768) 0
+  unfolding leastFrom
+  none-met a some =
+      rw (clearances-here start ds 0 some)
+      (least-of-two _ _ _
+      ∙ ap (λ (x : ℕ). least (x ∷ clearancesFrom start (drop 1 ds))) (first-met start (getD ds 0 0) a))
 
--- nothing is lost at the start, with a number that is no less than the first interval
-pub none-met
-    : (start : Cursor) (ds : List ℕ) (low : ℕ)
-    → Ascending start
-    → 0 < length ds
-    → getD ds 0 0 ≤ low
-    → Met start ds start low 0
-unfolding leastFrom
-none-met start ds low a some first =
-    let within = clearance-is-within start (getD ds 0 0) in
-    record {
-      ascending = a;
-      whole = rw (clearances-here start ds 0 some) (no-less-than-first low _ _ (omega arith));
-    }
-
-module _ {start : Cursor} {ds : List ℕ} {cursor : Cursor} {low k : ℕ} (m : Met start ds cursor low k) where
   pub one-more-met
-      : {s : Classed} {of-next lesser : ℕ}
+      : (low now k : ℕ)
+      → Met low k
       → k < length ds
-      → of-next ≡ clearanceIn cursor (getD ds k 0)
-      → lesser ≡ min low of-next
-      → s ≡ classed cursor (getD ds k 0)
-      → Met start ds (s .next) lesser (k + 1)
-  one-more-met h next low-now step =
-      record {
-        ascending = rw step (ascending-past (getD ds k 0) (m .ascending));
-        whole =
-            rw (step, low-now, next, add-one k)
-            (sym (least-of-two low (clearanceIn cursor (getD ds k 0)) _)
-            ∙ ap (λ (xs : List ℕ). least (low ∷ xs)) (sym (clearances-here cursor ds k h))
-            ∙ m .whole);
-      }
+      → now ≡ min low (clearanceIn start (getD ds k 0))
+      → Met now (k + 1)
+  one-more-met low now k met h step =
+      rw (step, add-one k)
+      (sym (least-of-two low (clearanceIn start (getD ds k 0)) _)
+      ∙ ap (λ (xs : List ℕ). least (low ∷ xs)) (sym (clearances-here start ds k h))
+      ∙ met)
 
-  pub all-met : length ds ≤ k → low ≡ leastFrom start ds
-  all-met h =
+  pub all-met : (low k : ℕ) → Met low k → length ds ≤ k → low ≡ leastFrom start ds
+  all-met low k met h =
       sym (least-of-one low)
-      ∙ ap (λ (xs : List ℕ). least (low ∷ xs)) (sym (rw (drop-of-length-le ds h, clearances-none cursor)))
-      ∙ m .whole
+      ∙ ap (λ (xs : List ℕ). least (low ∷ xs)) (sym (rw (drop-of-length-le ds h, clearances-none start)))
+      ∙ met
