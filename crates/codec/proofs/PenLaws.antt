@@ -16,7 +16,7 @@ use Rattle.images.specs.Distances.{distancesFrom}
 use Rattle.lengths.specs.Neighbours.{between, nextCell, lengthsBetween}
 use Rattle.lengths.specs.machine.LengthTable.{lengthByZeros, lengthAt, lengthTable}
 use Rattle.lengths.proofs.RunLaws.{ShortCells}
-use Rattle.codec.specs.machine.Pen.{Drawing, turned, storedBefore, ended, passed, drawn}
+use Rattle.codec.specs.machine.Pen.{Drawing, turned, storedBefore, ended, passed, drawn, Fits}
 
 pub stored-before-length : (out : List ℕ) (cells n : ℕ) → length (storedBefore out cells n) ≡ length out
 unfolding storedBefore
@@ -37,15 +37,14 @@ module _ (table : List ℕ) where
       → 1 ≤ d .pen .since
       → (1 ≤ drawn table d hs .pen .since)
       × (drawn table d hs .pen .since ≤ d .pen .since + length hs)
-      × (drawn table d hs .pen .cells ≤ d .pen .cells + length hs)
   unfolding drawn passed ended
-  drawn-stays-small [] d h = (omega arith, omega arith, omega arith)
+  drawn-stays-small [] d h = (omega arith, omega arith)
   drawn-stays-small (O ∷ hs) d h =
-      let rest = drawn-stays-small hs (passed d) (omega arith) in (rest .0, omega arith, omega arith)
+      let rest = drawn-stays-small hs (passed d) (omega arith) in (rest .0, omega arith)
   drawn-stays-small (G ∷ hs) d h =
-      let rest = drawn-stays-small hs (passed d) (omega arith) in (rest .0, omega arith, omega arith)
+      let rest = drawn-stays-small hs (passed d) (omega arith) in (rest .0, omega arith)
   drawn-stays-small (I ∷ hs) d h =
-      let rest = drawn-stays-small hs (ended table d) (omega arith) in (rest .0, omega arith, omega arith)
+      let rest = drawn-stays-small hs (ended table d) (omega arith) in (rest .0, omega arith)
 
   pub drawn-length : (hs : List Bit) (d : Drawing) → length (drawn table d hs .out) ≡ length (d .out)
   unfolding drawn passed ended
@@ -53,6 +52,17 @@ module _ (table : List ℕ) where
   drawn-length (O ∷ hs) d = drawn-length hs (passed d)
   drawn-length (G ∷ hs) d = drawn-length hs (passed d)
   drawn-length (I ∷ hs) d = drawn-length hs (ended table d) ∙ stored-before-length (d .out) (d .pen .cells) _
+
+  -- where the end has places, all that is drawn before has
+  pub fits-before : (hs : List Bit) (d : Drawing) → Fits (drawn table d hs) → Fits d
+  unfolding drawn passed ended
+  fits-before [] d fits = fits
+  fits-before (O ∷ hs) d fits = fits-before hs (passed d) fits
+  fits-before (G ∷ hs) d fits = fits-before hs (passed d) fits
+  fits-before (I ∷ hs) d fits =
+      let rest = fits-before hs (ended table d) fits in
+      let cell = turned (d .pen .window) (d .pen .since) in
+      omega (arith, stored-before-length (d .out) (d .pen .cells) (getD table cell 0))
 
 -- ---- by cells
 

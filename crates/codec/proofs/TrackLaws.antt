@@ -1,40 +1,27 @@
--- Why the words of a list, drawn one after the other and closed, leave its stream: they are its image's half cells, and
--- the distances between the ones of those are its cells. Rests on no axiom.
-use Prim.Native.Nat.{ℕ, zero, suc, _+_, _%_, _≤_, _<_}
+-- Why the words of a list, drawn one after the other, are its image's half cells: each is the word of the image that
+-- stands there. Rests on no axiom.
+use Prim.Native.Nat.{ℕ, zero, suc, _+_, _≤_, _<_}
 use native.Mathlib.Numerals.{add-one}
 use native.Mathlib.Omega.{arith}
-use mathlib.Core.Path.{_≡_, refl, sym, ap, ap₂, _∙_}
-use mathlib.Core.Bool.{true, false, cond}
+use mathlib.Core.Path.{_≡_, refl, sym, ap, _∙_}
+use mathlib.Core.Bool.{true}
 use mathlib.Core.List.{List, [], _∷_, _++_}
-use lib.Dec.{eqb}
-use lib.ListN.{length, getD, drop, length-append}
+use lib.ListN.{length, getD, drop}
 use lib.Seq.{drop-cons}
-use Rattle.lists.specs.Filled.{storedAt}
 use Rattle.lists.specs.Place.{everywhere}
 use Rattle.lists.proofs.PlaceLaws.{everywhere-passes-at-first, everywhere-in-rest}
 use Rattle.items.specs.Item.{isByte}
-use Rattle.symbols.specs.Bits.{Bit, O, I, lastOf}
-use Rattle.symbols.specs.Bytes.{isGap}
-use Rattle.symbols.specs.Cells.{writtenCells}
+use Rattle.symbols.specs.Bits.{Bit, lastOf}
 use Rattle.symbols.proofs.CellLaws.{last-append}
-use Rattle.timing.specs.declared.Profile.{Profile}
-use Rattle.images.specs.Words.{clockBit, wordOf, lastBit}
-use Rattle.images.specs.Image.{imageFrom, imageOf}
-use Rattle.images.specs.Distances.{halfCells, imageCells, distancesFrom}
+use Rattle.images.specs.Words.{wordOf, lastBit}
+use Rattle.images.specs.Image.{imageFrom}
+use Rattle.images.specs.Distances.{halfCells, imageCells}
 use Rattle.images.specs.machine.TopBits.{topBits}
 use Rattle.images.proofs.WordLaws.{word-is-kept, last-bit-is-data}
-use Rattle.images.proofs.DistanceLaws.{distances-and-more, last-of-word}
-use Rattle.lengths.specs.Neighbours.{lengthsBetween}
-use Rattle.lengths.specs.Stream.{byteStream}
-use Rattle.lengths.specs.machine.LengthTable.{lengthTable}
-use Rattle.lengths.proofs.NeighbourLaws.{lengths-by-neighbours}
-use Rattle.lengths.proofs.RunLaws.{written-cells-are-short}
-use Rattle.lengths.proofs.StreamLaws.{stream-is-as-long-as-its-cells}
-use Rattle.codec.specs.machine.Pen.{Drawing, drawing, ended, passed, drawn, Room}
-use Rattle.codec.specs.machine.Track.{Writing, writing, freshTrack, wordDrawn, wroteByte, wrote, closingWord}
-use Rattle.codec.specs.declared.pen.Pen.{Pen}
-use Rattle.codec.proofs.PenLaws.{drawn-of-append, drawn-stays-small, drawn-length, storedLate, lengthsAt}
-use Rattle.codec.proofs.PenLaws.{output-by-cells, cells-by-cells, lengths-one-late}
+use Rattle.images.proofs.DistanceLaws.{last-of-word}
+use Rattle.codec.specs.machine.Pen.{drawing, drawn, Room}
+use Rattle.codec.specs.machine.Track.{Writing, wroteByte, wrote, Holds}
+use Rattle.codec.proofs.PenLaws.{drawn-of-append, drawn-stays-small, drawn-length, fits-before}
 
 length-of-top-bits : (place n : ℕ) → length (topBits place n) ≡ place
 unfolding topBits
@@ -68,28 +55,35 @@ module _ (table : List ℕ) where
       let hs = topBits 16 (wordOf (lastBit (s .track .previous)) w) in
       let small = drawn-stays-small table hs (drawing (s .track .pen) (s .out)) (room .0) in
       let size : length hs ≡ 16 = length-of-top-bits 16 _ in
-      (small .0, omega arith, omega arith)
+      (small .0, omega arith)
 
   pub room-after-bytes
       : (s : Writing) (ws : List ℕ) (k : ℕ)
       → Room (s .track .pen) (length ws + k)
       → Room (wrote table s ws .track .pen) k
   unfolding wrote
-  room-after-bytes s [] k room = (room .0, omega arith, omega arith)
+  room-after-bytes s [] k room = (room .0, omega arith)
   room-after-bytes s (w ∷ ws) k room =
       room-after-bytes (wroteByte table s w) ws k
-      (room-after-byte s w (length ws + k) (room .0, omega arith, omega arith))
+      (room-after-byte s w (length ws + k) (room .0, omega arith))
 
   -- as a caller has it: the state is known by an equation, and less room is asked for
   pub room-carries
       : {s s′ : Writing} (k n : ℕ) → n ≤ k → s′ ≡ s → Room (s .track .pen) k → Room (s′ .track .pen) n
-  room-carries k n h e room = rw e (room .0, omega arith, omega arith)
+  room-carries k n h e room = rw e (room .0, omega arith)
+
+  -- where the end has places, all that is written before has
+  pub holds-before : (s : Writing) (ws : List ℕ) → Holds (wrote table s ws) → Holds s
+  unfolding wrote wroteByte
+  holds-before s [] holds = holds
+  holds-before s (w ∷ ws) holds =
+      fits-before table _ (drawing (s .track .pen) (s .out)) (holds-before (wroteByte table s w) ws holds)
 
   byte-length : (s : Writing) (w : ℕ) → length (wroteByte table s w .out) ≡ length (s .out)
   unfolding wroteByte
   byte-length s w = drawn-length table _ (drawing (s .track .pen) (s .out))
 
-  wrote-length : (s : Writing) (ws : List ℕ) → length (wrote table s ws .out) ≡ length (s .out)
+  pub wrote-length : (s : Writing) (ws : List ℕ) → length (wrote table s ws .out) ≡ length (s .out)
   unfolding wrote
   wrote-length s [] = refl
   wrote-length s (w ∷ ws) = wrote-length (wroteByte table s w) ws ∙ byte-length s w
@@ -102,7 +96,7 @@ module _ (table : List ℕ) where
 
   -- ---- the half cells of an image
 
-  wrote-is-drawn
+  pub wrote-is-drawn
       : (s : Writing) (ws : List ℕ)
       → everywhere isByte ws ≡ true
       → drawing (wrote table s ws .track .pen) (wrote table s ws .out)
@@ -119,7 +113,7 @@ module _ (table : List ℕ) where
       (kept .top-bits)
       ∙ sym (drawn-of-append table start (halfCells (wordOf b w)) (imageCells (imageFrom (lastBit w) ws)))
 
-  last-half-cell-is-last-bit
+  pub last-half-cell-is-last-bit
       : (s : Writing) (ws : List ℕ)
       → everywhere isByte ws ≡ true
       → lastBit (wrote table s ws .track .previous)
@@ -133,91 +127,3 @@ module _ (table : List ℕ) where
       ∙ ap (λ (c : Bit). lastOf c rest)
       (sym (last-of-word b w (last-bit-is-data (s .track .previous)) (everywhere-passes-at-first isByte w ws bytes)))
       ∙ sym (last-append b (halfCells (wordOf b w)) rest)
-
--- ---- the closing word
-
--- behind the last transition: a cell of 2 units, and zeros that end none
-abbrev behindLast : List Bit
-behindLast = O ∷ I ∷ O ∷ O ∷ O ∷ O ∷ O ∷ O ∷ O ∷ O ∷ O ∷ O ∷ O ∷ []
-
-closing-half-cells
-    : (previous : ℕ) → topBits 16 (closingWord previous) ≡ clockBit (lastBit previous) O ∷ O ∷ I ∷ behindLast
-unfolding closingWord topBits clockBit lastBit
-closing-half-cells previous =
-    elim (eqb (previous % 2) 1) as (λ t.
-    topBits 16 (cond t 0x2800 0xa800) ≡ clockBit (cond t I O) O ∷ O ∷ I ∷ behindLast)
-    [ true ↦ refl | false ↦ refl ]
-
-pub closing-ends-a-cell
-    : (table : List ℕ) (d : Drawing) (previous : ℕ)
-    → 1 ≤ drawn table d (topBits 16 (closingWord previous)) .pen .cells
-unfolding closingWord topBits drawn ended passed
-closing-ends-a-cell table d previous =
-    elim (eqb (previous % 2) 1) as (λ t. 1 ≤ drawn table d (topBits 16 (cond t 0x2800 0xa800)) .pen .cells)
-    [ true ↦ omega arith | false ↦ omega arith ]
-
--- ---- a list
-
-module _ (p : Profile) (ws old : List ℕ) (bytes : everywhere isByte ws ≡ true) where
-  abbrev written : Writing
-  written = wrote (lengthTable p) (writing freshTrack old) ws
-
-  -- the pen and the output at the end
-  abbrev closed : Drawing
-  closed = wordDrawn (lengthTable p) written (closingWord (written .track .previous))
-
-  abbrev half-cells : List Bit
-  half-cells = imageCells (imageOf ws) ++ (clockBit (lastOf O (imageCells (imageOf ws))) O ∷ O ∷ I ∷ behindLast)
-
-  closed-is-drawn : closed ≡ drawn (lengthTable p) (drawing (freshTrack .pen) old) half-cells
-  unfolding imageOf lastBit
-  closed-is-drawn =
-      let table = lengthTable p in
-      let last = last-half-cell-is-last-bit table (writing freshTrack old) ws bytes in
-      let end = closing-half-cells (written .track .previous)
-      ∙ ap (λ (b : Bit). clockBit b O ∷ O ∷ I ∷ behindLast) last in
-      ap₂ (drawn table) (wrote-is-drawn table (writing freshTrack old) ws bytes) end
-      ∙ sym (drawn-of-append table (drawing (freshTrack .pen) old) (imageCells (imageOf ws)) _)
-
-  cells-and-two : distancesFrom 2 half-cells ≡ writtenCells ws ++ (2 ∷ [])
-  unfolding distancesFrom
-  cells-and-two = distances-and-more ws behindLast bytes
-
-  stream-is-stored : closed .out ≡ storedAt old 0 (byteStream p ws)
-  unfolding storedLate
-  stream-is-stored =
-      let table = lengthTable p in
-      ap (λ (d : Drawing). d .out) closed-is-drawn
-      ∙ output-by-cells table half-cells (drawing (freshTrack .pen) old)
-      ∙ ap (λ (cs : List ℕ). storedLate old 0 (lengthsAt table 10 cs)) cells-and-two
-      ∙ ap (storedAt old 0)
-      (lengths-one-late p (writtenCells ws) (written-cells-are-short ws) ∙ sym (lengths-by-neighbours p ws))
-
-  cells-are-counted : closed .pen .cells ≡ length (byteStream p ws) + 1
-  cells-are-counted =
-      ap (λ (d : Drawing). d .pen .cells) closed-is-drawn
-      ∙ cells-by-cells (lengthTable p) half-cells (drawing (freshTrack .pen) old)
-      ∙ ap (λ (cs : List ℕ). 0 + length cs) cells-and-two
-      ∙ ap (λ (n : ℕ). 0 + n) (length-append (writtenCells ws) (2 ∷ []))
-      ∙ ap (λ (n : ℕ). 0 + (n + 1)) (sym (stream-is-as-long-as-its-cells p ws))
-      ∙ omega arith
-
-  -- as the writer has it: the table, the state after the bytes, and what the closing word leaves, by equations
-  pub stream-is-written
-      : (table : List ℕ) (s : Writing) (n : ℕ) (out : List ℕ)
-      → table ≡ lengthTable p
-      → s ≡ wrote table (writing freshTrack old) ws
-      → n + 1 ≡ wordDrawn table s (closingWord (s .track .previous)) .pen .cells
-      → out ≡ wordDrawn table s (closingWord (s .track .previous)) .out
-      → (n ≡ length (byteStream p ws)) × (out ≡ storedAt old 0 (byteStream p ws))
-  stream-is-written table s n out tables writes counts leaves =
-      let same : wordDrawn table s (closingWord (s .track .previous)) ≡ closed =
-      ap (λ (x : Writing). wordDrawn table x (closingWord (x .track .previous))) writes
-      ∙ ap
-      (λ (t : List ℕ).
-      wordDrawn t (wrote t (writing freshTrack old) ws)
-      (closingWord (wrote t (writing freshTrack old) ws .track .previous)))
-      tables in
-      let count : n + 1 ≡ length (byteStream p ws) + 1 =
-      counts ∙ ap (λ (d : Drawing). d .pen .cells) same ∙ cells-are-counted in
-      (omega arith, leaves ∙ ap (λ (d : Drawing). d .out) same ∙ stream-is-stored)

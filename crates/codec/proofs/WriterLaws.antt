@@ -1,6 +1,6 @@
 -- The writer's answers by its tests: where profile and list are accepted, the stream of the written bytes and the
 -- room decide. Rests on no axiom.
-use Prim.Native.Nat.{ℕ}
+use Prim.Native.Nat.{ℕ, _≤_}
 use mathlib.Core.Path.{_≡_, refl, sym, ap, _∙_}
 use mathlib.Core.Bool.{true, false}
 use mathlib.Core.List.{List}
@@ -31,6 +31,9 @@ module _ (p : Profile) (ws old : List ℕ) where
       let h = leb-false (length (byteStream p ws)) (length old) (rw (stream-is-as-long-as-its-cells p ws) e) in
       rw (lt-ltb (length old) (length (byteStream p ws)) h) (refl, refl)
 
+  pub stream-fits : leb (length (writtenCells ws)) (length old) ≡ true → length (byteStream p ws) ≤ length old
+  stream-fits e = leb-true (length (byteStream p ws)) (length old) (rw (stream-is-as-long-as-its-cells p ws) e)
+
   pub long-enough
       : leb (length (writtenCells ws)) (length old) ≡ true
       → (count : ℕ) (stored : List ℕ)
@@ -40,7 +43,7 @@ module _ (p : Profile) (ws old : List ℕ) where
       × (stored ≡ settled (streamRule p ws (length old)) (byteStream p ws) old)
   unfolding streamRule
   long-enough e count stored counted stores =
-      let h = leb-true (length (byteStream p ws)) (length old) (rw (stream-is-as-long-as-its-cells p ws) e) in
+      let h = stream-fits e in
       rw (le-ltb (length old) (length (byteStream p ws)) h)
       (ap accepted counted, stores ∙ stored-at-front-fills (byteStream p ws) old h)
 

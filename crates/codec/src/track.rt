@@ -2,8 +2,8 @@
 ghost use Prim.Native.Nat.{_+_};
 ghost use mathlib.Core.Path.{_≡_};
 ghost use lib.ListN.{length};
-ghost use Rattle.codec.specs.machine.Pen.{Room};
-ghost use Rattle.codec.specs.machine.Track.{writing, wordDrawn, wroteByte, wrote, closingWord, freshTrack};
+ghost use Rattle.codec.specs.machine.Pen.{Room, Fits};
+ghost use Rattle.codec.specs.machine.Track.{writing, wordDrawn, wroteByte, wrote, closingWord, freshTrack, Holds};
 use crate::pen::Pen;
 use crate::pen::draw_word;
 
@@ -30,6 +30,7 @@ pub fn fresh_track() -> Track
 
 pub fn write_byte(table: &[u16; 64], start: Track, byte: u16, out: &mut [u16]) -> Track
     requires { ⌜ Room (start .pen) 1 ⌝ }
+    requires { ⌜ Holds (wroteByte (now table) (writing start (now out)) byte) ⌝ }
     ensures { λ r. ⌜
         writing r (now (out .exit)) ≡ wroteByte (now (table .entry)) (writing start (now (out .entry))) byte ⌝ }
 {
@@ -43,6 +44,7 @@ pub fn write_byte(table: &[u16; 64], start: Track, byte: u16, out: &mut [u16]) -
 
 pub fn write_bytes(table: &[u16; 64], start: Track, bytes: &[u16], out: &mut [u16]) -> Track
     requires { ⌜ Room (start .pen) (length (now bytes)) ⌝ }
+    requires { ⌜ Holds (wrote (now table) (writing start (now out)) (now bytes)) ⌝ }
     ensures { λ r. ⌜
         writing r (now (out .exit))
         ≡ wrote (now (table .entry)) (writing start (now (out .entry))) (now (bytes .entry)) ⌝ }
@@ -70,6 +72,7 @@ fn closing_word(previous: u16) -> u16
 // The end of a track. The cell behind the last transition has no length.
 pub fn write_closing(table: &[u16; 64], track: Track, out: &mut [u16]) -> usize
     requires { ⌜ Room (track .pen) 1 ⌝ }
+    requires { ⌜ Fits (wordDrawn (now table) (writing track (now out)) (closingWord (track .previous))) ⌝ }
     ensures cells { λ r. ⌜
         r + 1
         ≡ wordDrawn (now (table .entry)) (writing track (now (out .entry))) (closingWord (track .previous))

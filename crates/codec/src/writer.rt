@@ -12,7 +12,7 @@ ghost use Rattle.timing.specs.Profile.{profileRule};
 ghost use Rattle.items.specs.Rule.{listRule};
 ghost use Rattle.lengths.specs.Stream.{byteStream};
 ghost use Rattle.codec.specs.machine.Pen.{Room};
-ghost use Rattle.codec.specs.machine.Track.{writing, wrote, freshTrack};
+ghost use Rattle.codec.specs.machine.Track.{writing, wrote, freshTrack, Holds};
 ghost use Rattle.codec.specs.Writer.{writeRule, writeOutput};
 use crate::track::Track;
 use crate::track::fresh_track;
@@ -33,6 +33,7 @@ pub struct Part {
 
 fn write_item(table: &[u16; 64], start: Part, item: u16, out: &mut [u16]) -> Part
     requires { ⌜ Room (start .track .pen) 2 ⌝ }
+    requires { ⌜ Holds (wrote (now table) (writing (start .track) (now out)) (itemBytes (start .check) item)) ⌝ }
     ensures check { λ r. ⌜ r .check ≡ afterItem (start .check) item ⌝ }
     ensures track { λ r. ⌜
         writing (r .track) (now (out .exit))
@@ -53,6 +54,7 @@ fn write_item(table: &[u16; 64], start: Part, item: u16, out: &mut [u16]) -> Par
 // Item by item, so that a check order finds the register as it is then.
 fn write_each(table: &[u16; 64], items: &[u16], out: &mut [u16]) -> Track
     requires { ⌜ length (now items) ≤ 6400 ⌝ }
+    requires { ⌜ Holds (wrote (now table) (writing freshTrack (now out)) (written (now items))) ⌝ }
     ensures room { λ r. ⌜ Room (r .pen) 1 ⌝ }
     ensures track { λ r. ⌜
         writing r (now (out .exit))
@@ -74,6 +76,7 @@ fn write_each(table: &[u16; 64], items: &[u16], out: &mut [u16]) -> Track
 // and needs no register.
 fn write_items(table: &[u16; 64], items: &[u16], bytes: usize, out: &mut [u16]) -> Track
     requires { ⌜ (bytes ≡ writtenBytes (now items)) × (length (now items) ≤ 6400) ⌝ }
+    requires { ⌜ Holds (wrote (now table) (writing freshTrack (now out)) (written (now items))) ⌝ }
     ensures room { λ r. ⌜ Room (r .pen) 1 ⌝ }
     ensures track { λ r. ⌜
         writing r (now (out .exit))
@@ -85,11 +88,12 @@ fn write_items(table: &[u16; 64], items: &[u16], bytes: usize, out: &mut [u16]) 
     write_each(table, items, out)
 }
 
-// The stream of a list. Answers its length.
+// The stream of a list, where it has room. Answers its length.
 fn write_stream(p: Profile, items: &[u16], bytes: usize, out: &mut [u16]) -> usize
     requires { ⌜ profileRule p .number ≡ 0 ⌝ }
     requires { ⌜ listRule (now items) .number ≡ 0 ⌝ }
     requires { ⌜ bytes ≡ writtenBytes (now items) ⌝ }
+    requires { ⌜ length (byteStream p (written (now items))) ≤ length (now out) ⌝ }
     ensures length { λ r. ⌜ r ≡ length (byteStream p (written (now (items .entry)))) ⌝ }
     ensures output { λ _. ⌜
         now (out .exit) ≡ storedAt (now (out .entry)) 0 (byteStream p (written (now (items .entry)))) ⌝ }

@@ -1,11 +1,14 @@
 -- Machine, not meaning: laws tie it to `lengthsBetween` (`proofs/PenLaws`). No lemmas here.
 -- The writer's pen over half cells, with the output that it leaves.
-use Prim.Native.Nat.{ℕ, zero, suc, _+_, _*_, _%_, _≤_}
+use Prim.Native.Nat.{ℕ, zero, suc, _+_, _-_, _*_, _%_, _^_, _≤_, _<_}
+use mathlib.Core.Path.{_≡_}
 use mathlib.Core.Bool.{cond}
 use mathlib.Core.List.{List, [], _∷_}
-use lib.ListN.{getD, set}
+use lib.ListN.{length, getD, set}
 use Rattle.symbols.specs.Bits.{Bit, isOne}
+use Rattle.images.specs.machine.TopBits.{topBits}
 use Rattle.codec.specs.declared.pen.Pen.{Pen}
+use Rattle.codec.specs.declared.pen.Rest.{Rest}
 
 -- a pen and the output
 pub record Drawing : Type 0 where
@@ -47,5 +50,42 @@ drawn table d (b ∷ bs) = drawn table (cond (isOne b) (ended table d) (passed d
 
 -- no number on the way of so many words more is too large
 abbrev pub Room : Pen → ℕ → Type 0
-Room pen words =
-    (1 ≤ pen .since) × (pen .since + 16 * words ≤ 300000) × (pen .cells + 16 * words ≤ 300000)
+Room pen words = (1 ≤ pen .since) × (pen .since + 16 * words ≤ 300000)
+
+-- the lengths so far have places: each cell but the last has one
+abbrev pub Fits : Drawing → Type 0
+Fits d = d .pen .cells ≤ length (d .out) + 1
+
+-- ---- within a word
+
+-- the rest of a word, drawn
+abbrev pub restDrawn : List ℕ → List ℕ → Rest → Drawing
+restDrawn table out rest =
+    drawn table (drawing (record { since = 1; window = rest .window; cells = rest .cells }) out)
+    (topBits (rest .last) (rest .ones))
+
+-- the ones stand below the last one, and no place is too large
+pub record Pending (rest : Rest) : Type 0 where
+  pub below : rest .ones < 2 ^ rest .last
+  pub small : rest .ones < 65536
+  pub near : rest .last ≤ 300000
+
+-- the place of the highest one
+abbrev pub Highest : ℕ → ℕ → Type 0
+Highest ones place = (2 ^ place ≤ ones) × (ones < 2 ^ suc place)
+
+-- what is left behind the one at a place
+abbrev pub behind : Rest → ℕ → Rest
+behind rest place =
+    record {
+      last = place;
+      window = turned (rest .window) (rest .last - place);
+      cells = rest .cells + 1;
+      ones = rest .ones - 2 ^ place;
+    }
+
+-- a word is left to draw, and no one but behind the first
+pub record Begun (start : Pen) (word : ℕ) (rest : Rest) : Type 0 where
+  pub pending : Pending rest
+  pub behind-first : rest .ones ≤ 65535 * rest .cells
+  pub same : (table out : List ℕ) → restDrawn table out rest ≡ drawn table (drawing start out) (topBits 16 word)

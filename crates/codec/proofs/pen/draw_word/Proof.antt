@@ -1,114 +1,165 @@
--- Why `codec::pen::draw_word` draws the word's half cells: each turn draws up to the highest one that is left. Rests on
--- no axiom.
-mod Turn
-use Prim.Native.Nat.{ℕ, _+_, _-_, _≤_}
-use native.Mathlib.Nat.{lt-of-lt-of-le}
+-- Why `codec::pen::draw_word` draws the word's half cells: each turn draws up to the highest one that is left, and
+-- stores where it has a place, since all that is to come has. Rests on no axiom.
+use Prim.Native.Nat.{ℕ, zero, suc, _+_, _-_, _*_, _≤_, _<_}
 use native.Mathlib.Omega.{arith}
-use mathlib.Core.Path.{refl, ap, _∙_}
-use borrow.Author.Needs.{needs}
-use lib.Pow.{pow-mono}
-use Rattle.codec.specs.machine.Pen.{turned}
+use mathlib.Core.Path.{_≡_, refl, ap, _∙_}
+use mathlib.Core.List.{List}
+use lib.ListN.{length, getD, set, length-set}
+use Rattle.codec.specs.machine.Pen.{storedBefore, restDrawn, Fits, Pending, Highest, behind}
+use Rattle.codec.specs.declared.pen.Rest.{Rest}
+use Rattle.codec.proofs.PenLaws.{stored-before-length, fits-before}
+use Rattle.codec.proofs.RestLaws.{Stepped, ends, steps}
 use Rattle.codec.proofs.pen.draw_word.Statement.{statement}
 use Rattle.codec.proofs.pen.draw_word.Tie as tie
-use Turn.{Going, begins, turn, ends, few-leading-zeros, place-below, its-weight, at-least}
+
+-- at the head: what is left, with places for it, and the whole
+record Going (table out₀ : List ℕ) (rest₀ : Rest) (out : List ℕ) (rest : Rest) : Type 0 where
+  pub pending : Pending rest
+  pub behind-first : rest .ones ≤ 65535 * rest .cells
+  pub fits : Fits (restDrawn table out rest)
+  pub same-length : length out ≡ length out₀
+  pub whole : restDrawn table out rest ≡ restDrawn table out₀ rest₀
+
+stored : (out : List ℕ) (cells n : ℕ) → 1 ≤ cells → set out (cells - 1) n ≡ storedBefore out cells n
+unfolding storedBefore
+stored out zero n h = absurd (omega arith)
+stored out (suc k) n h = ap (λ (i : ℕ). set out i n) (omega arith)
+
+module _ {table out₀ : List ℕ} {rest₀ : Rest} {out : List ℕ} {rest : Rest} (g : Going table out₀ rest₀ out rest) where
+  cells-fit : rest .cells ≤ length out + 1
+  cells-fit = fits-before table _ _ (g .fits)
+
+  has-first : 0 < rest .ones → 1 ≤ rest .cells
+  has-first positive = let behind-first = g .behind-first in omega arith
+
+  module _ (positive : 0 < rest .ones) (place : ℕ) (high : Highest (rest .ones) place) where
+    abbrev next : Rest
+    next = behind rest place
+
+    abbrev length-before : ℕ
+    length-before = getD table (next .window) 0
+
+    step : Stepped rest next
+    step = steps rest place (g .pending) high
+
+    next-fits : Fits (restDrawn table (storedBefore out (rest .cells) length-before) next)
+    next-fits = rw (step .same table out) (g .fits)
+
+    has-place : rest .cells ≤ length out
+    has-place =
+        let cells = fits-before table _ _ next-fits in
+        let same = stored-before-length out (rest .cells) length-before in
+        omega arith
+
+    turn : Going table out₀ rest₀ (set out (rest .cells - 1) length-before) next
+    turn =
+        let small = step .pending .small in
+        let stores = stored out (rest .cells) length-before (has-first positive) in
+        record {
+          pending = step .pending;
+          behind-first = omega arith;
+          fits = rw stores next-fits;
+          same-length = length-set out _ _ ∙ g .same-length;
+          whole = ap (λ (o : List ℕ). restDrawn table o next) stores ∙ step .same table out ∙ g .whole;
+        }
 
 abbrev Inv-loop : tie.InvT-loop
-Inv-loop table word out₀ last₀ window₀ cells₀ rest₀ out last window cells rest =
-    Going table out₀ last₀ window₀ cells₀ rest₀ out last window cells rest
+Inv-loop table word out₀ rest₀ out rest = Going table out₀ rest₀ out rest
 
 abbrev μ-loop : tie.MeasureT-loop
-μ-loop table word out₀ last₀ window₀ cells₀ rest₀ out last window cells rest = last
+μ-loop table word out₀ rest₀ out rest = rest .ones
 
-add-last : tie.Need-add-last Inv-loop μ-loop
-add-last c = omega (arith, c .before .before .pre)
+begin-word-requires : tie.Need-begin-word-requires Inv-loop μ-loop
+begin-word-requires c κs = c .before .pre .0
 
 loop-holds : tie.Need-loop-holds Inv-loop μ-loop
 loop-holds c =
     let entry = c .before .before in
-    let word = entry .fits .word .fits in
-    let high : 16 ≤ entry .args .start .since + 15 = omega (arith, entry .pre) in
+    let begun = c .begin-word .ensures in
     record {
-      below = lt-of-lt-of-le word (pow-mono high);
-      small = word;
-      downward = omega arith;
-      bounded = omega arith;
+      pending = begun .pending;
+      behind-first = begun .behind-first;
+      fits = rw (begun .same _ _) (entry .pre .1);
       same-length = refl;
       whole = refl;
     }
 
-sub-place : tie.Need-sub-place Inv-loop μ-loop
-sub-place c = few-leading-zeros _ (c .loop-test .taken) (c .before .loop .inv .small)
+highest-one-requires : tie.Need-highest-one-requires Inv-loop μ-loop
+highest-one-requires c κs = (c .if1 .taken, c .before .before .loop .inv .pending .small)
 
-mul-window : tie.Need-mul-window Inv-loop μ-loop
-mul-window c = omega arith
+window-at-requires : tie.Need-window-at-requires Inv-loop μ-loop
+window-at-requires c κs = (c .before .before .before .loop .inv .pending, c .highest-one .ensures)
 
-sub-window : tie.Need-sub-window Inv-loop μ-loop
-sub-window c =
-    let g = c .before .loop .inv in
-    let inside = place-below _ (c .loop-test .taken) (g .small) _ (g .below) in
+small-window : (c : tie.After-window-at Inv-loop μ-loop) → c .window-at .result < 64
+small-window c =
+    let found = c .before in
+    let g = found .before .before .before .loop .inv in
+    rw (c .window-at .ensures) (step g (found .before .if1 .taken) _ (found .highest-one .ensures) .in-table)
+
+cast-out : tie.Need-cast-out Inv-loop μ-loop
+cast-out c = omega (arith, small-window c)
+
+mul-out : tie.Need-mul-out Inv-loop μ-loop
+mul-out c = omega (arith, small-window c)
+
+element-copy-out-out : tie.Need-element-copy-out-out Inv-loop μ-loop
+element-copy-out-out c = small-window c
+
+sub-out : tie.Need-sub-out Inv-loop μ-loop
+sub-out c =
+    let tested = c .before .before .before .before in has-first (tested .before .before .loop .inv) (tested .if1 .taken)
+
+mul-out-2 : tie.Need-mul-out-2 Inv-loop μ-loop
+mul-out-2 c =
+    let found = c .before .before .before in
+    let head = found .before .before .before in
+    let place = has-place (head .loop .inv) (found .before .if1 .taken) _ (found .highest-one .ensures) in
+    let same = head .loop .inv .same-length in
+    let good = head .before .before .before .good .1 .1 .1 in
     omega arith
 
-add-window : tie.Need-add-window Inv-loop μ-loop
-add-window c = omega (arith, c .before .loop .inv .downward, c .before .before .before .before .pre)
-
-cast-put-before : tie.Need-cast-put-before Inv-loop μ-loop
-cast-put-before c = omega arith
-
-mul-put-before : tie.Need-mul-put-before Inv-loop μ-loop
-mul-put-before c = omega arith
-
-element-copy-out-put-before : tie.Need-element-copy-out-put-before Inv-loop μ-loop
-element-copy-out-put-before c = omega arith
-
-put-before-requires : tie.Need-put-before-requires Inv-loop μ-loop
-put-before-requires c κs = search needs
-
-add-cells : tie.Need-add-cells Inv-loop μ-loop
-add-cells c =
-    let taken = c .before .before .before .before .before in
-    omega (arith, taken .before .loop .inv .bounded, taken .before .before .before .before .pre)
-
-shl-rest : tie.Need-shl-rest Inv-loop μ-loop
-shl-rest c =
-    let taken = c .before .before .before .before .before in
-    let g = taken .before .loop .inv in
+slice-write-out : tie.Need-slice-write-out Inv-loop μ-loop
+slice-write-out c =
+    let found = c .before .before .before in
+    let g = found .before .before .before .loop .inv in
+    let first = has-first g (found .before .if1 .taken) in
+    let place = has-place g (found .before .if1 .taken) _ (found .highest-one .ensures) in
     omega arith
 
-sub-rest : tie.Need-sub-rest Inv-loop μ-loop
-sub-rest c =
-    let taken = c .before .before .before .before .before in
-    let g = taken .before .loop .inv in
-    rw (its-weight _ (taken .loop-test .taken) (g .small)) (at-least _ (taken .loop-test .taken) (g .small))
+pass-one-requires : tie.Need-pass-one-requires Inv-loop μ-loop
+pass-one-requires c κs =
+    let found = c .before .before .before in
+    let head = found .before .before .before in
+    let g = head .loop .inv in
+    let cells = cells-fit g in
+    let same = g .same-length in
+    let good = head .before .before .before .good .1 .1 .1 in
+    ((g .pending, found .highest-one .ensures), (omega arith, c .before .before .window-at .ensures))
 
 loop-less : tie.Need-loop-less Inv-loop μ-loop
 loop-less c =
-    let taken = c .before .before .before .before .before in
-    let g = taken .before .loop .inv in
-    place-below _ (taken .loop-test .taken) (g .small) _ (g .below)
+    let found = c .before .before .before .before in
+    let g = found .before .before .before .loop .inv in
+    rw (c .pass-one .ensures) (step g (found .before .if1 .taken) _ (found .highest-one .ensures) .fewer)
 
 loop-again : tie.Need-loop-again Inv-loop μ-loop
-unfolding turned
 loop-again c =
-    let taken = c .before .before .before .before .before in
-    let g = taken .before .loop .inv in
-    turn g (taken .loop-test .taken) _ _ (c .before .before .put-before .ensures)
-    (ap (λ (n : ℕ). taken .before .loop .rest - n) (its-weight _ (taken .loop-test .taken) (g .small)))
+    let found = c .before .before .before .before in
+    let g = found .before .before .before .loop .inv in
+    rw (c .pass-one .ensures, c .before .before .before .window-at .ensures)
+    (turn g (found .before .if1 .taken) _ (found .highest-one .ensures))
 
-add-t23 : tie.Need-add-t23 Inv-loop μ-loop
-add-t23 c = omega (arith, c .before .loop .inv .downward, c .before .before .before .before .pre)
+add-t17 : tie.Need-add-t17 Inv-loop μ-loop
+add-t17 c = let near = c .before .before .before .loop .inv .pending .near in omega arith
 
 same-length : tie.Need-same-length Inv-loop μ-loop
-same-length c = c .before .loop .inv .same-length
+same-length c = c .before .before .before .loop .inv .same-length
 
 returns : tie.Need-returns Inv-loop μ-loop
 returns c =
-    let head = c .before .loop in
-    let entry = c .before .before .before .before in
-    let start = entry .args .start in
-    ends _ (head .out) (head .last) (head .window) (head .cells) (head .rest) (c .loop-test .left)
-    ∙ head .inv .whole
-    ∙ begins _ _ (start .since) (start .window) (start .cells) (entry .args .word) (entry .pre .0)
-    (entry .fits .word .fits)
+    let head = c .before .before .before .loop in
+    let begun = c .before .before .before .before .begin-word .ensures in
+    ends _ (head .out) (head .rest) (c .before .if1 .left) ∙ head .inv .whole ∙ begun .same _ _
 
 pub draw-word-spec : {M : Type 1} → statement M
 draw-word-spec =
@@ -116,21 +167,19 @@ draw-word-spec =
     (tie.spec
     Inv-loop
     μ-loop
-    add-last
+    begin-word-requires
     loop-holds
-    sub-place
-    mul-window
-    sub-window
-    add-window
-    cast-put-before
-    mul-put-before
-    element-copy-out-put-before
-    put-before-requires
-    add-cells
-    shl-rest
-    sub-rest
+    highest-one-requires
+    window-at-requires
+    cast-out
+    mul-out
+    element-copy-out-out
+    sub-out
+    mul-out-2
+    slice-write-out
+    pass-one-requires
     loop-less
     loop-again
-    add-t23
+    add-t17
     same-length
     returns)

@@ -5,7 +5,7 @@ use borrow.Author.Needs.{needs}
 use denote.Ref.{now}
 use Rattle.images.specs.machine.TopBits.{topBits}
 use Rattle.codec.specs.machine.Pen.{Drawing, drawing, drawn}
-use Rattle.codec.specs.machine.Track.{Writing, writing, wroteByte}
+use Rattle.codec.specs.machine.Track.{writing, wroteByte}
 use Rattle.codec.proofs.track.write_byte.Statement.{statement}
 use Rattle.codec.proofs.track.write_byte.Tie as tie
 
@@ -13,7 +13,9 @@ made-word-requires : tie.Need-made-word-requires
 made-word-requires c κs = search needs
 
 draw-word-requires : tie.Need-draw-word-requires
-draw-word-requires c κs = search needs
+unfolding wroteByte
+draw-word-requires c κs =
+    let pre = c .before .before .before .pre in (pre .0, rw (c .before .made-word .ensures) (pre .1))
 
 same-length : tie.Need-same-length
 same-length c = search needs

@@ -6,8 +6,8 @@ use native.Mathlib.Omega.{arith}
 use denote.Ref.{now}
 use lib.ListN.{length, drop, getD, drop-of-length-le}
 use Rattle.codec.specs.machine.Pen.{Room}
-use Rattle.codec.specs.machine.Track.{Writing, writing, wroteByte, wrote}
-use Rattle.codec.proofs.TrackLaws.{wrote-from, wrote-none, room-after-byte, same-length-of-whole}
+use Rattle.codec.specs.machine.Track.{Writing, writing, wroteByte, wrote, Holds}
+use Rattle.codec.proofs.TrackLaws.{wrote-from, wrote-none, room-after-byte, holds-before, same-length-of-whole}
 use Rattle.codec.proofs.track.write_bytes.Statement.{statement}
 use Rattle.codec.proofs.track.write_bytes.Tie as tie
 
@@ -29,9 +29,19 @@ a-byte-more table bytes s₀ s s′ k h on e =
     let room = on .1 in
     rw e (
       omega arith,
-      room-after-byte table s byte (length bytes - (k + 1)) (room .0, omega arith, omega arith),
+      room-after-byte table s byte (length bytes - (k + 1)) (room .0, omega arith),
       sym (wrote-from table s bytes k h) ∙ on .2,
     )
+
+holds-at-place
+    : (table bytes : List ℕ) (s₀ s : Writing) (k : ℕ)
+    → k < length bytes
+    → Drawing-on table bytes s₀ s k
+    → Holds (wrote table s₀ bytes)
+    → Holds (wroteByte table s (getD bytes k 0))
+holds-at-place table bytes s₀ s k h on holds =
+    holds-before table (wroteByte table s (getD bytes k 0)) (drop (k + 1) bytes)
+    (rw (sym (wrote-from table s bytes k h) ∙ on .2) holds)
 
 abbrev Inv-loop : tie.InvT-loop
 Inv-loop table bytes out₀ track₀ k₀ out track k =
@@ -41,7 +51,7 @@ abbrev μ-loop : tie.MeasureT-loop
 μ-loop table bytes out₀ track₀ k₀ out track k = length bytes - k
 
 loop-holds : tie.Need-loop-holds Inv-loop μ-loop
-loop-holds c = let room = c .before .before .pre in (omega arith, (room .0, omega arith, omega arith), refl)
+loop-holds c = let room = c .before .before .pre .0 in (omega arith, (room .0, omega arith), refl)
 
 mul-write-byte : tie.Need-mul-write-byte Inv-loop μ-loop
 mul-write-byte c = omega arith
@@ -51,9 +61,11 @@ shared-slice-read-write-byte c = omega arith
 
 write-byte-requires : tie.Need-write-byte-requires Inv-loop μ-loop
 write-byte-requires c κs =
-    let room = c .before .before .before .loop .inv .1 in
+    let on = c .before .before .before .loop .inv in
+    let room = on .1 in
     let inside = c .before .before .loop-test .taken in
-    (room .0, omega arith, omega arith)
+    let pre = c .before .before .before .before .before .before .pre in
+    ((room .0, omega arith), holds-at-place _ _ _ _ _ inside on (pre .1))
 
 add-k : tie.Need-add-k Inv-loop μ-loop
 add-k c = omega arith

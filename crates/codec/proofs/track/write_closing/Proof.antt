@@ -7,7 +7,7 @@ use borrow.Author.Needs.{needs}
 use denote.Ref.{now}
 use Rattle.images.specs.machine.TopBits.{topBits}
 use Rattle.codec.specs.machine.Pen.{Drawing, drawing, drawn}
-use Rattle.codec.proofs.TrackLaws.{closing-ends-a-cell}
+use Rattle.codec.proofs.StreamLaws.{closing-ends-a-cell}
 use Rattle.codec.proofs.track.write_closing.Statement.{statement}
 use Rattle.codec.proofs.track.write_closing.Tie as tie
 
@@ -18,7 +18,8 @@ closing-word-requires : tie.Need-closing-word-requires
 closing-word-requires c κs = search needs
 
 draw-word-requires : tie.Need-draw-word-requires
-draw-word-requires c κs = search needs
+draw-word-requires c κs =
+    let pre = c .before .before .before .pre in (pre .0, rw (c .before .closing-word .ensures) (pre .1))
 
 sub-result : tie.Need-sub-result
 sub-result c =

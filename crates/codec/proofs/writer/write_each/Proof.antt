@@ -1,7 +1,7 @@
 -- Why `codec::writer::write_each` draws all words of a list: each turn those of one item more. Rests on no axiom.
 use Prim.Native.Nat.{ℕ, _+_, _-_, _*_, _≤_, _<_}
 use mathlib.Core.Path.{_≡_, refl, sym, ap, ap₂, _∙_}
-use mathlib.Core.List.{List, []}
+use mathlib.Core.List.{List}
 use native.Mathlib.Omega.{arith}
 use borrow.Author.Needs.{needs}
 use denote.Ref.{now}
@@ -11,9 +11,9 @@ use Rattle.items.specs.declared.Check.{Check}
 use Rattle.items.proofs.ItemLaws.{bytes-of-bounds}
 use Rattle.items.proofs.WrittenLaws.{written-from-place, written-from-end, length-of-item-bytes}
 use Rattle.codec.specs.machine.Pen.{Room}
-use Rattle.codec.specs.machine.Track.{Writing, writing, freshTrack, wrote}
+use Rattle.codec.specs.machine.Track.{Writing, writing, freshTrack, wrote, Holds}
 use Rattle.codec.proofs.TrackLaws.{wrote-of-append, wrote-none, same-length-of-whole, room-after-bytes}
-use Rattle.codec.proofs.TrackLaws.{room-carries}
+use Rattle.codec.proofs.TrackLaws.{room-carries, holds-before}
 use Rattle.codec.proofs.writer.write_each.Statement.{statement}
 use Rattle.codec.proofs.writer.write_each.Tie as tie
 
@@ -24,27 +24,36 @@ Writing-on table items old s check k =
     × Room (s .track .pen) (2 * (length items - k) + 1)
     × (wrote table s (writtenFrom check (drop k items)) ≡ wrote table (writing freshTrack old) (written items))
 
-an-item-more
-    : (table items old : List ℕ) (s s′ : Writing) (check check′ : Check) (k : ℕ)
-    → k < length items
-    → Writing-on table items old s check k
-    → check′ ≡ afterItem check (getD items k 0)
-    → s′ ≡ wrote table s (itemBytes check (getD items k 0))
-    → Writing-on table items old s′ check′ (k + 1)
-an-item-more table items old s s′ check check′ k h on checks writes =
-    let bytes = itemBytes check (getD items k 0) in
-    let room = on .1 in
-    let left = 2 * (length items - (k + 1)) + 1 in
-    let size : length bytes ≤ 2 =
-    rw (length-of-item-bytes check (getD items k 0)) (bytes-of-bounds (getD items k 0) .1) in (
-      omega arith,
-      room-carries table left left (omega arith) writes
-          (room-after-bytes table s bytes left (room .0, omega arith, omega arith)),
-      ap₂ (λ (x : Writing) (c : Check). wrote table x (writtenFrom c (drop (k + 1) items))) writes checks
-          ∙ sym (wrote-of-append table s bytes _)
-          ∙ ap (wrote table s) (sym (written-from-place check items k h))
-          ∙ on .2,
-    )
+module _ (table items old : List ℕ) (s : Writing) (check : Check) (k : ℕ) (h : k < length items)
+    (on : Writing-on table items old s check k) where
+  abbrev bytes : List ℕ
+  bytes = itemBytes check (getD items k 0)
+
+  behind : wrote table (wrote table s bytes) (writtenFrom (afterItem check (getD items k 0)) (drop (k + 1) items))
+      ≡ wrote table (writing freshTrack old) (written items)
+  behind =
+      sym (wrote-of-append table s bytes _) ∙ ap (wrote table s) (sym (written-from-place check items k h)) ∙ on .2
+
+  item-holds : Holds (wrote table (writing freshTrack old) (written items)) → Holds (wrote table s bytes)
+  item-holds holds =
+      holds-before table (wrote table s bytes) (writtenFrom (afterItem check (getD items k 0)) (drop (k + 1) items))
+      (rw behind holds)
+
+  an-item-more
+      : (s′ : Writing) (check′ : Check)
+      → check′ ≡ afterItem check (getD items k 0)
+      → s′ ≡ wrote table s bytes
+      → Writing-on table items old s′ check′ (k + 1)
+  an-item-more s′ check′ checks writes =
+      let room = on .1 in
+      let left = 2 * (length items - (k + 1)) + 1 in
+      let size : length bytes ≤ 2 =
+      rw (length-of-item-bytes check (getD items k 0)) (bytes-of-bounds (getD items k 0) .1) in (
+        omega arith,
+        room-carries table left left (omega arith) writes
+            (room-after-bytes table s bytes left (room .0, omega arith)),
+        ap₂ (λ (x : Writing) (c : Check). wrote table x (writtenFrom c (drop (k + 1) items))) writes checks ∙ behind,
+      )
 
 abbrev Inv-loop : tie.InvT-loop
 Inv-loop table items out₀ part₀ k₀ out part k =
@@ -62,9 +71,8 @@ fresh-requires c κs = search needs
 loop-holds : tie.Need-loop-holds Inv-loop μ-loop
 unfolding written
 loop-holds c =
-    let few = c .before .before .before .before .pre in
-    rw (c .fresh .ensures, c .before .fresh-track .ensures)
-    (omega arith, (omega arith, omega arith, omega arith), refl)
+    let few = c .before .before .before .before .pre .0 in
+    rw (c .fresh .ensures, c .before .fresh-track .ensures) (omega arith, (omega arith, omega arith), refl)
 
 mul-write-item : tie.Need-mul-write-item Inv-loop μ-loop
 mul-write-item c = omega arith
@@ -74,9 +82,11 @@ shared-slice-read-write-item c = omega arith
 
 write-item-requires : tie.Need-write-item-requires Inv-loop μ-loop
 write-item-requires c κs =
-    let room = c .before .before .before .loop .inv .1 in
+    let on = c .before .before .before .loop .inv in
+    let room = on .1 in
     let inside = c .before .before .loop-test .taken in
-    (room .0, omega arith, omega arith)
+    let pre = c .before .before .before .before .before .before .before .before .pre in
+    ((room .0, omega arith), item-holds _ _ _ _ _ _ inside on (pre .1))
 
 add-k : tie.Need-add-k Inv-loop μ-loop
 add-k c = omega arith
@@ -89,7 +99,7 @@ loop-again c =
     let turn = c .before .before .before .before .before in
     let head = turn .before .loop in
     let wrote-item = c .before .before .write-item .ensures in
-    an-item-more _ _ _ _ _ _ _ (head .k) (turn .loop-test .taken) (head .inv) (wrote-item .0) (wrote-item .1)
+    an-item-more _ _ _ _ _ (head .k) (turn .loop-test .taken) (head .inv) _ _ (wrote-item .0) (wrote-item .1)
 
 same-length : tie.Need-same-length Inv-loop μ-loop
 same-length c =
@@ -103,7 +113,7 @@ returns c =
     let room = head .inv .1 in
     let s = writing (head .part .track) (head .out) in
     let none = written-from-end (head .part .check) (now (args .items)) (head .k) (c .before .loop-test .left) in (
-      (room .0, omega arith, omega arith),
+      (room .0, omega arith),
       sym (wrote-none (now (args .table)) s) ∙ ap (wrote (now (args .table)) s) (sym none) ∙ head .inv .2,
     )
 

@@ -1,14 +1,38 @@
 -- Why `codec::writer::write_item` draws the words of an item: of the two bytes of a check order, or of the item itself.
 -- Rests on no axiom.
+use Prim.Native.Nat.{ℕ}
 use native.Mathlib.Omega.{arith}
-use mathlib.Core.Path.{sym, ap, ap₂, _∙_}
+use mathlib.Core.Path.{_≡_, sym, ap, ap₂, _∙_}
+use mathlib.Core.Bool.{true, false}
+use mathlib.Core.List.{List, [], _∷_}
 use borrow.Author.Needs.{needs}
 use denote.Ref.{now}
+use Rattle.items.specs.Item.{isCheck}
+use Rattle.items.specs.Register.{highByte, lowByte}
+use Rattle.items.specs.Written.{itemBytes}
+use Rattle.items.specs.declared.Check.{Check}
 use Rattle.items.proofs.WrittenLaws.{item-bytes-of-check, item-bytes-of-byte}
-use Rattle.codec.specs.machine.Track.{writing, wroteByte, wrote}
-use Rattle.codec.proofs.TrackLaws.{room-after-byte, room-carries}
+use Rattle.codec.specs.machine.Track.{Writing, writing, wroteByte, wrote, Holds}
+use Rattle.codec.proofs.TrackLaws.{room-after-byte, room-carries, holds-before}
 use Rattle.codec.proofs.writer.write_item.Statement.{statement}
 use Rattle.codec.proofs.writer.write_item.Tie as tie
+
+module _ (table : List ℕ) (s : Writing) (check : Check) (item : ℕ)
+    (holds : Holds (wrote table s (itemBytes check item))) where
+  abbrev after-high : Writing
+  after-high = wroteByte table s (highByte (check .register))
+
+  low-holds : isCheck item ≡ true → Holds (wroteByte table after-high (lowByte (check .register)))
+  unfolding wrote
+  low-holds e = rw (item-bytes-of-check check item e) at holds
+
+  high-holds : isCheck item ≡ true → Holds after-high
+  unfolding wrote
+  high-holds e = holds-before table after-high (lowByte (check .register) ∷ []) (low-holds e)
+
+  byte-holds : isCheck item ≡ false → Holds (wroteByte table s item)
+  unfolding wrote
+  byte-holds e = rw (item-bytes-of-byte check item e) at holds
 
 after-item-requires : tie.Need-after-item-requires
 after-item-requires c κs = search needs
@@ -21,8 +45,11 @@ high-requires c κs = search needs
 
 write-byte-requires : tie.Need-write-byte-requires
 write-byte-requires c κs =
-    let room = c .before .before .before .before .before .before .pre in
-    (room .0, omega arith, omega arith)
+    let tested = c .before .before .before in
+    let entry = tested .before .before .before in
+    let room = entry .pre .0 in
+    let check = sym (tested .is-check .ensures) ∙ c .before .before .if1 .taken in
+    ((room .0, omega arith), rw (c .before .high .ensures) (high-holds _ _ _ _ (entry .pre .1) check))
 
 low-requires : tie.Need-low-requires
 low-requires c κs = search needs
@@ -30,10 +57,16 @@ low-requires c κs = search needs
 write-byte-requires-2 : tie.Need-write-byte-requires-2
 write-byte-requires-2 c κs =
     let high = c .before .before .before .before in
-    let entry = high .before .before .before .before .before .before .before in
+    let tested = high .before .before .before .before in
+    let entry = tested .before .before .before in
     let s = writing (entry .args .start .track) (now (entry .args .out)) in
     let table = now (entry .args .table) in
-    room-carries table 1 1 (omega arith) (high .write-byte .ensures) (room-after-byte table s _ 1 (entry .pre))
+    let check = sym (tested .is-check .ensures) ∙ high .before .before .before .if1 .taken in (
+      room-carries table 1 1 (omega arith) (high .write-byte .ensures)
+          (room-after-byte table s _ 1 (entry .pre .0)),
+      rw (high .write-byte .ensures, c .before .low .ensures, high .before .before .high .ensures)
+          (low-holds _ _ _ _ (entry .pre .1) check),
+    )
 
 same-length : tie.Need-same-length
 same-length c = search needs
@@ -59,8 +92,10 @@ returns c =
 
 write-byte-requires-3 : tie.Need-write-byte-requires-3
 write-byte-requires-3 c κs =
-    let room = c .before .before .before .before .before .pre in
-    (room .0, omega arith, omega arith)
+    let entry = c .before .before .before .before .before in
+    let room = entry .pre .0 in
+    let other = sym (c .before .before .is-check .ensures) ∙ c .before .if1 .left in
+    ((room .0, omega arith), byte-holds _ _ _ _ (entry .pre .1) other)
 
 same-length-2 : tie.Need-same-length-2
 same-length-2 c = search needs

@@ -1,9 +1,14 @@
 -- Why `codec::writer::write_items` draws all words of a list: where it writes no more bytes than it has numbers it has
 -- no check order, and is its own bytes. Rests on no axiom.
+use Prim.Native.Nat.{ℕ}
 use native.Mathlib.Omega.{arith}
-use mathlib.Core.Path.{sym, ap, _∙_}
+use mathlib.Core.Path.{_≡_, sym, ap, _∙_}
+use mathlib.Core.List.{List}
 use borrow.Author.Needs.{needs}
 use denote.Ref.{now}
+use lib.ListN.{length}
+use Rattle.items.specs.Item.{writtenBytes}
+use Rattle.items.specs.Written.{written}
 use Rattle.items.proofs.ItemLaws.{one-byte-each-is-no-check}
 use Rattle.items.proofs.WrittenLaws.{written-of-no-check}
 use Rattle.codec.specs.machine.Track.{writing, freshTrack, wrote}
@@ -12,13 +17,18 @@ use Rattle.codec.proofs.TrackLaws.{room-after-bytes, room-carries}
 use Rattle.codec.proofs.writer.write_items.Statement.{statement}
 use Rattle.codec.proofs.writer.write_items.Tie as tie
 
+own-bytes : (items : List ℕ) (bytes : ℕ) → bytes ≡ writtenBytes items → bytes ≡ length items → written items ≡ items
+own-bytes items bytes counted few = written-of-no-check items (one-byte-each-is-no-check items (sym counted ∙ few))
+
 fresh-track-requires : tie.Need-fresh-track-requires
 fresh-track-requires c κs = search needs
 
 write-bytes-requires : tie.Need-write-bytes-requires
 write-bytes-requires c κs =
-    let few = c .before .before .before .before .before .pre .1 in
-    rw (c .before .fresh-track .ensures) (omega arith, omega arith, omega arith)
+    let entry = c .before .before .before .before .before in
+    let few = entry .pre .0 .1 in
+    let own = own-bytes _ _ (entry .pre .0 .0) (c .before .before .if1 .taken) in
+    rw (c .before .fresh-track .ensures) ((omega arith, omega arith), rw own at (entry .pre .1))
 
 same-length : tie.Need-same-length
 same-length c = search needs
@@ -27,16 +37,15 @@ returns : tie.Need-returns
 returns c =
     let begun = c .before .before .before .before in
     let entry = begun .before .before .before .before in
-    let few = entry .pre .1 in
+    let few = entry .pre .0 .1 in
     let table = now (entry .args .table) in
     let items = now (entry .args .items) in
     let old = now (entry .args .out) in
-    let own = written-of-no-check items
-    (one-byte-each-is-no-check items (sym (entry .pre .0) ∙ begun .before .if1 .taken)) in
+    let own = own-bytes _ _ (entry .pre .0 .0) (begun .before .if1 .taken) in
     let all = c .before .before .write-bytes .ensures
     ∙ ap (λ (t : Track). wrote table (writing t old) items) (begun .fresh-track .ensures) in (
       room-carries table 1 1 (omega arith) all
-          (room-after-bytes table (writing freshTrack old) items 1 (omega arith, omega arith, omega arith)),
+          (room-after-bytes table (writing freshTrack old) items 1 (omega arith, omega arith)),
       all ∙ ap (wrote table (writing freshTrack old)) (sym own),
     )
 

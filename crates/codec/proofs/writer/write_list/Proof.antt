@@ -3,7 +3,7 @@
 use mathlib.Core.Path.{sym, _∙_}
 use denote.Ref.{now}
 use Rattle.items.specs.Written.{written}
-use Rattle.codec.proofs.WriterLaws.{too-short, long-enough, rule-of-stream, output-of-stream}
+use Rattle.codec.proofs.WriterLaws.{too-short, stream-fits, long-enough, rule-of-stream, output-of-stream}
 use borrow.Author.Needs.{needs}
 use Rattle.codec.proofs.writer.write_list.Statement.{statement}
 use Rattle.codec.proofs.writer.write_list.Tie as tie
@@ -16,9 +16,13 @@ has-room-requires c κs = (c .before .before .before .pre .1, c .written-bytes .
 
 write-stream-requires : tie.Need-write-stream-requires
 write-stream-requires c κs =
-    let counted = c .before .before .before in
-    let pre = counted .before .before .before .pre in
-    (pre .0, (pre .1, counted .written-bytes .ensures))
+    let tested = c .before in
+    let counted = tested .before .before in
+    let entry = counted .before .before .before in
+    let pre = entry .pre in
+    let room = sym (tested .before .has-room .ensures) ∙ tested .if1 .taken in
+    let places = stream-fits (entry .args .p) (written (now (entry .args .items))) (now (entry .args .out)) room in
+    (pre .0, (pre .1, (counted .written-bytes .ensures, places)))
 
 same-length : tie.Need-same-length
 same-length c = search needs

@@ -1,0 +1,94 @@
+-- Why `codec::pen::begin_word` leaves the word to be drawn: all of it, or all behind the track's first one, with which
+-- nothing is stored. Rests on no axiom.
+use Prim.Native.Nat.{ℕ, zero, suc, _+_, _*_, _≤_, _<_}
+use native.Mathlib.Nat.{lt-of-lt-of-le}
+use native.Mathlib.Omega.{arith}
+use mathlib.Core.Path.{_≡_, refl, ap, _∙_}
+use mathlib.Core.List.{List}
+use borrow.Author.Needs.{needs}
+use lib.Pow.{pow-mono}
+use Rattle.codec.specs.machine.Pen.{storedBefore, restDrawn, Room, Pending, Highest, behind, Begun}
+use Rattle.codec.specs.declared.pen.Pen.{Pen}
+use Rattle.codec.specs.declared.pen.Rest.{Rest}
+use Rattle.codec.proofs.RestLaws.{restAt, begins, steps}
+use Rattle.codec.proofs.pen.begin_word.Statement.{statement}
+use Rattle.codec.proofs.pen.begin_word.Tie as tie
+
+nothing-stored : (out : List ℕ) (cells n : ℕ) → cells ≤ 0 → out ≡ storedBefore out cells n
+unfolding storedBefore
+nothing-stored out zero n h = refl
+nothing-stored out (suc k) n h = absurd (omega arith)
+
+module _ (start : Pen) (word : ℕ) (room : Room start 1) (small : word < 65536) where
+  abbrev all : Rest
+  all = restAt (start .since + 15) (start .window) (start .cells) word
+
+  pending : Pending all
+  pending =
+      let since = room .0 in
+      let near = room .1 in
+      let high : 16 ≤ start .since + 15 = omega arith in
+      record { below = lt-of-lt-of-le small (pow-mono high); small = small; near = omega arith }
+
+  with-all : word ≤ 65535 * start .cells → Begun start word all
+  with-all behind =
+      record {
+        pending = pending;
+        behind-first = behind;
+        same = λ (table out : List ℕ). begins table out start word (room .0) small;
+      }
+
+  behind-first-one : start .cells ≤ 0 → (place : ℕ) → Highest word place → Begun start word (behind all place)
+  behind-first-one first place high =
+      let step = steps all place pending high in
+      let fewer = step .fewer in
+      record {
+        pending = step .pending;
+        behind-first = omega arith;
+        same =
+            λ (table out : List ℕ).
+            ap (λ (o : List ℕ). restDrawn table o (behind all place)) (nothing-stored out (start .cells) _ first)
+            ∙ step .same table out
+            ∙ begins table out start word (room .0) small;
+      }
+
+add-t5 : tie.Need-add-t5
+add-t5 c = search needs
+
+returns : tie.Need-returns
+returns c =
+    let entry = c .before .before .before in
+    let small = entry .fits .word .fits in
+    with-all _ _ (entry .pre) small (omega arith)
+
+highest-one-requires : tie.Need-highest-one-requires
+highest-one-requires c κs = (c .if2 .taken, c .before .before .before .before .fits .word .fits)
+
+window-at-requires : tie.Need-window-at-requires
+window-at-requires c κs =
+    let entry = c .before .before .before .before .before in
+    (pending _ _ (entry .pre) (entry .fits .word .fits), c .highest-one .ensures)
+
+pass-one-requires : tie.Need-pass-one-requires
+pass-one-requires c κs =
+    let entry = c .before .before .before .before .before .before in
+    let high = c .before .highest-one .ensures in
+    ((pending _ _ (entry .pre) (entry .fits .word .fits), high), (omega arith, c .window-at .ensures))
+
+returns-2 : tie.Need-returns-2
+returns-2 c =
+    let found = c .before .before in
+    let first = found .before .before in
+    let entry = first .before .before .before in
+    rw (c .pass-one .ensures)
+    (behind-first-one _ _ (entry .pre) (entry .fits .word .fits) (first .if1 .left) _ (found .highest-one .ensures))
+
+returns-3 : tie.Need-returns-3
+returns-3 c =
+    let entry = c .before .before .before .before in
+    with-all _ _ (entry .pre) (entry .fits .word .fits) (omega arith)
+
+pub begin-word-spec : {M : Type 1} → statement M
+begin-word-spec =
+    tie.close
+    (tie.spec add-t5 returns highest-one-requires window-at-requires pass-one-requires returns-2 returns-3)
