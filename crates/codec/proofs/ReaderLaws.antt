@@ -1,37 +1,39 @@
--- The strip reader's answers by its passes: a pass that stopped gives 5 or 6, one that did not gives the machine's
--- answer, which is the strip's, and then the room decides. Rests on no axiom.
-use Prim.Native.Nat.{ℕ, _-_, _^_, _≤_, _<_}
+-- The strip reader's answers by its passes: where every interval is a cell, a pass gives the machine's answer, which is
+-- the strip's, and then the room decides. Rests on no axiom.
+use Prim.Native.Nat.{ℕ, _+_, _-_, _^_, _≤_, _<_}
 use mathlib.Core.Path.{_≡_, sym, ap, subst, _∙_}
-use mathlib.Core.List.{List}
+use mathlib.Core.List.{List, _++_, map}
 use native.Mathlib.Omega.{arith}
 use lib.Dec.{ltb}
-use lib.ListN.{length}
+use lib.ListN.{length, take, drop, length-map}
 use native.Mathlib.Nat.{zero-add}
 use borrow.Author.Tests.{lt-ltb, le-ltb}
-use Rattle.lists.specs.Filled.{storedAt}
-use Rattle.lists.proofs.StoreLaws.{stored-at-front-fills}
+use Rattle.lists.specs.Filled.{filled, storedAt}
+use Rattle.lists.proofs.StoreLaws.{stored-at-front-fills, mapped-at-front}
 use Rattle.refusal.specs.Table.{numberOf, placeOf}
 use Rattle.refusal.specs.Answer.{Answer, accepted, refused, refuseIf, firstRefusal}
 use Rattle.refusal.specs.declared.Refusal.{Refusal}
-use Rattle.refusal.specs.declared.Refusal.the-variants.{IntervalTooShort, IntervalTooLong}
 use Rattle.refusal.proofs.AnswerLaws.{first-refusal-passes, refuse-if-passes, refuse-if-accepts, refusal-decides}
 use Rattle.refusal.proofs.AnswerLaws.{acceptance-fills-the-buffer}
 use Rattle.timing.specs.Profile.{profileRule}
-use Rattle.timing.specs.Class.{classesOf}
+use Rattle.timing.specs.Class.{atStart, classesOf}
+use Rattle.timing.specs.Edges.{unitsFrom}
 use Rattle.timing.specs.declared.Profile.{Profile}
-use Rattle.timing.proofs.ClassLaws.{classes-length}
+use Rattle.timing.proofs.ClassLaws.{classes-from-start, classes-length}
+use Rattle.timing.proofs.EdgeLaws.{accepted-ascends}
 use Rattle.symbols.specs.Reading.{readBits}
 use Rattle.symbols.specs.Strip.{isRagged, isStray, bytesRead, strayPlace, stripRule, stripItems}
-use Rattle.symbols.specs.machine.Step.{freshReading, stripAnswer}
+use Rattle.symbols.specs.machine.Candidate.{candidate}
+use Rattle.symbols.specs.machine.Step.{freshReading, ran, ranWords, stripAnswer}
 use Rattle.symbols.specs.declared.Cell.{Cell}
-use Rattle.symbols.specs.declared.Reading.{Reading}
 use Rattle.symbols.proofs.RoundTripLaws.{write-of-read}
 use Rattle.symbols.proofs.RunLaws.{strip-by-ran}
 use Rattle.intervals.specs.Cells.{edgeRule, cellsRead}
 use Rattle.intervals.specs.machine.Pass.{Passed, passed}
-use Rattle.intervals.specs.declared.Pass.the-variants.{Read, TooShort, TooLong}
+use Rattle.intervals.specs.declared.Pass.{Pass}
 use Rattle.intervals.proofs.ClassCellLaws.{cells-at-most-classes}
-use Rattle.intervals.proofs.PassLaws.{Whole, OverAll, pass-over-all}
+use Rattle.intervals.proofs.NearLaws.{nearCells, units-of-near-cells, classes-are-near, near-are-cells}
+use Rattle.intervals.proofs.PassLaws.{pass-over-all}
 use Rattle.codec.specs.Reader.{itemsOfStream, readRule, readOutput}
 
 -- an accepted strip's number is that of its items
@@ -76,96 +78,109 @@ module _ (p : Profile) (ds old : List ℕ) (accepts : profileRule p .number ≡ 
       (first-refusal-passes (profileRule p) _ accepts
       ∙ refuse-if-passes (ltb 51202 (length ds)) 4 0 _ (le-ltb 51202 (length ds) few))
 
+  pub edge-refuses
+      : (r : Refusal)
+      → refused (numberOf r) (placeOf r) ≡ edgeRule (classesOf p ds)
+      → refused (numberOf r) (placeOf r) ≡ readRule p ds (length old)
+  edge-refuses r e = refusal-decides r (edgeRule (classesOf p ds)) _ e ∙ from-edges
+
   abbrev pass : Passed
-  pass = passed 51202 (classesOf p ds)
+  pass = passed 51202 (unitsFrom (atStart p) ds)
 
-  over : OverAll 0 freshReading (classesOf p ds) pass
-  over = let same = classes-length p ds in pass-over-all (classesOf p ds) 51202 (omega arith)
+  module _ (fair : edgeRule (classesOf p ds) .number ≡ 0) where
+    cells : nearCells (atStart p) ds ≡ cellsRead p ds
+    unfolding edgeRule cellsRead
+    cells =
+        sym
+        (near-are-cells 0
+        (rw (classes-from-start p ds) (classes-are-near (atStart p) ds (accepted-ascends p accepts)))
+        fair)
 
-  pub short-answers : (at : ℕ) → TooShort at ≡ pass .end → refused 5 at ≡ readRule p ds (length old)
-  unfolding edgeRule
-  short-answers at e =
-      refusal-decides (IntervalTooShort at) (edgeRule (classesOf p ds)) _ (over .short at e) ∙ from-edges
-
-  pub long-answers : (at : ℕ) → TooLong at ≡ pass .end → refused 6 at ≡ readRule p ds (length old)
-  unfolding edgeRule
-  long-answers at e =
-      refusal-decides (IntervalTooLong at) (edgeRule (classesOf p ds)) _ (over .long at e) ∙ from-edges
-
-  module _ (m : Reading) (used : ℕ) (read : Read m used ≡ pass .end) where
-    whole : Whole 0 freshReading (classesOf p ds) (pass .items) m used
-    whole = over .reads m used read
-
-    few-cells : length (cellsRead p ds) ≤ 2 ^ 32
+    few-cells : length (cellsRead p ds) ≤ 51202
     unfolding cellsRead
     few-cells = let most = cells-at-most-classes (classesOf p ds) in let same = classes-length p ds in omega arith
 
-    pub used-is-small : used ≤ 51202
-    used-is-small =
-        let most = cells-at-most-classes (classesOf p ds) in
-        let same = classes-length p ds in
-        let all = whole .all-used in
-        omega arith
-
-    machine-answers : stripAnswer m (used - 1) ≡ stripRule (cellsRead p ds)
-    unfolding cellsRead
-    machine-answers =
-        rw (whole .machine, whole .all-used, zero-add) (sym (strip-by-ran (cellsRead p ds) few-cells .0))
+    whole
+        : (pass .end ≡ record { reading = ran freshReading 0 (cellsRead p ds); used = 0 + length (cellsRead p ds) })
+        × (pass .words ≡ ranWords freshReading 0 (cellsRead p ds))
+    unfolding passed freshReading
+    whole =
+        let most = few-cells in
+        rw (← units-of-near-cells (atStart p) ds, cells)
+        (pass-over-all (cellsRead p ds) 51202 0 freshReading (omega arith) (omega arith))
 
     from-strip : firstRefusal (stripRule (cellsRead p ds)) byRoom ≡ readRule p ds (length old)
-    unfolding edgeRule
-    from-strip =
-        sym
-        (first-refusal-passes (edgeRule (classesOf p ds)) _ (ap (λ (a : Answer). a .number) (whole .fair)))
-        ∙ from-edges
+    from-strip = sym (first-refusal-passes (edgeRule (classesOf p ds)) _ fair) ∙ from-edges
 
-    pub strip-refuses
-        : (r : Refusal)
-        → refused (numberOf r) (placeOf r) ≡ stripAnswer m (used - 1)
-        → refused (numberOf r) (placeOf r) ≡ readRule p ds (length old)
-    strip-refuses r e = refusal-decides r (stripRule (cellsRead p ds)) _ (e ∙ machine-answers) ∙ from-strip
+    module _ (r : Pass) (read : r ≡ pass .end) where
+      all-used : r .used ≡ length (cellsRead p ds)
+      all-used = ap (λ (q : Pass). q .used) (read ∙ whole .0) ∙ zero-add (length (cellsRead p ds))
 
-    module _ (n : ℕ) (counts : accepted n ≡ stripAnswer m (used - 1)) where
-      number-of-items : n ≡ length items
-      unfolding itemsOfStream
-      number-of-items = accepted-counts-items (cellsRead p ds) n (counts ∙ machine-answers)
+      pub used-is-small : r .used ≤ 51202
+      used-is-small = let most = few-cells in omega (arith, all-used)
 
-      from-room : byRoom ≡ readRule p ds (length old)
-      from-room =
-          sym
-          (first-refusal-passes (stripRule (cellsRead p ds)) byRoom
-          (ap (λ (a : Answer). a .number) (sym (counts ∙ machine-answers))))
-          ∙ from-strip
+      machine-answers : stripAnswer (r .reading) (r .used - 1) ≡ stripRule (cellsRead p ds)
+      machine-answers =
+          let few : length (cellsRead p ds) ≤ 2 ^ 32 = omega (arith, few-cells) in
+          rw (all-used, ap (λ (q : Pass). q .reading) (read ∙ whole .0)) (sym (strip-by-ran (cellsRead p ds) few .0))
 
-      gathers-items : pass .items ≡ items
-      unfolding cellsRead itemsOfStream
-      gathers-items =
-          whole .gathers
-          ∙ sym
-          (strip-by-ran (cellsRead p ds) few-cells .1
-          (ap (λ (a : Answer). a .number) (sym (counts ∙ machine-answers))))
+      pub strip-refuses
+          : (q : Refusal)
+          → refused (numberOf q) (placeOf q) ≡ stripAnswer (r .reading) (r .used - 1)
+          → refused (numberOf q) (placeOf q) ≡ readRule p ds (length old)
+      strip-refuses q e = refusal-decides q (stripRule (cellsRead p ds)) _ (e ∙ machine-answers) ∙ from-strip
 
-      pub room-refuses : length old < n → refused 9 0 ≡ readRule p ds (length old)
-      room-refuses h =
-          rw (← from-room, lt-ltb (length old) (length items) (subst (λ (k : ℕ). length old < k) number-of-items h))
+      module _ (n : ℕ) (counts : accepted n ≡ stripAnswer (r .reading) (r .used - 1)) where
+        strip-accepts : stripRule (cellsRead p ds) .number ≡ 0
+        strip-accepts = ap (λ (a : Answer). a .number) (sym (counts ∙ machine-answers))
 
-      pub room-accepts
-          : n ≤ length old
-          → (stored : List ℕ)
-          → stored ≡ storedAt old 0 (pass .items)
-          → (accepted n ≡ readRule p ds (length old)) × (stored ≡ readOutput p ds old)
-      unfolding readOutput
-      room-accepts h stored e =
-          let fits : length items ≤ length old = subst (λ (k : ℕ). k ≤ length old) number-of-items h in
-          let answer : accepted n ≡ readRule p ds (length old) =
-          ap accepted number-of-items
-          ∙ sym (refuse-if-passes (ltb (length old) (length items)) 9 0 _ (le-ltb (length old) (length items) fits))
-          ∙ from-room in (
-            answer,
-            e
-                ∙ ap (storedAt old 0) gathers-items
-                ∙ stored-at-front-fills items old fits
-                ∙ sym
-                (acceptance-fills-the-buffer (readRule p ds (length old)) items old
-                (ap (λ (a : Answer). a .number) (sym answer))),
-          )
+        number-of-items : n ≡ length items
+        unfolding itemsOfStream
+        number-of-items = accepted-counts-items (cellsRead p ds) n (counts ∙ machine-answers)
+
+        from-room : byRoom ≡ readRule p ds (length old)
+        from-room = sym (first-refusal-passes (stripRule (cellsRead p ds)) byRoom strip-accepts) ∙ from-strip
+
+        gathers-items : map candidate (pass .words) ≡ items
+        unfolding itemsOfStream
+        gathers-items =
+            let few : length (cellsRead p ds) ≤ 2 ^ 32 = omega (arith, few-cells) in
+            ap (map candidate) (whole .1) ∙ sym (strip-by-ran (cellsRead p ds) few .1 strip-accepts)
+
+        pub room-refuses : length old < n → refused 9 0 ≡ readRule p ds (length old)
+        room-refuses h =
+            rw (← from-room, lt-ltb (length old) (length items) (subst (λ (k : ℕ). length old < k) number-of-items h))
+
+        -- as many words as items, each replaced by its item where it stands
+        turned-into-items
+            : n ≤ length old
+            → (stored : List ℕ)
+            → stored ≡ storedAt old 0 (pass .words)
+            → map candidate (take n stored) ++ drop n stored ≡ filled items old
+        turned-into-items h stored e =
+            let long : length (pass .words) ≡ n =
+            sym (length-map (pass .words) candidate) ∙ ap length gathers-items ∙ sym number-of-items in
+            rw e
+            (mapped-at-front candidate (pass .words) old n long h
+            ∙ ap (storedAt old 0) gathers-items
+            ∙ stored-at-front-fills items old (subst (λ (k : ℕ). k ≤ length old) number-of-items h))
+
+        pub room-accepts
+            : n ≤ length old
+            → (stored : List ℕ)
+            → stored ≡ storedAt old 0 (pass .words)
+            → (accepted n ≡ readRule p ds (length old))
+            × (map candidate (take n stored) ++ drop n stored ≡ readOutput p ds old)
+        unfolding readOutput
+        room-accepts h stored e =
+            let fits : length items ≤ length old = subst (λ (k : ℕ). k ≤ length old) number-of-items h in
+            let answer : accepted n ≡ readRule p ds (length old) =
+            ap accepted number-of-items
+            ∙ sym (refuse-if-passes (ltb (length old) (length items)) 9 0 _ (le-ltb (length old) (length items) fits))
+            ∙ from-room in (
+              answer,
+              turned-into-items h stored e
+                  ∙ sym
+                  (acceptance-fills-the-buffer (readRule p ds (length old)) items old
+                  (ap (λ (a : Answer). a .number) (sym answer))),
+            )

@@ -4,15 +4,18 @@ ghost use mathlib.Core.Path.{_≡_};
 ghost use lib.ListN.{length};
 ghost use Rattle.refusal.specs.Answer.{countedAnswer};
 ghost use Rattle.timing.specs.Profile.{profileRule};
+ghost use Rattle.timing.specs.Class.{classesOf};
 ghost use Rattle.symbols.specs.machine.Step.{stripAnswer};
+ghost use Rattle.intervals.specs.Cells.{edgeRule};
 ghost use Rattle.codec.specs.Reader.{readRule, readOutput};
-use intervals::Pass;
+use intervals::edges::check_edges;
 use intervals::last_place;
 use intervals::pass_over;
 use refusal::Counted;
 use refusal::Refusal;
 use refusal::Verdict;
 use symbols::Reading;
+use symbols::word::words_to_bytes;
 use timing::Profile;
 
 // The most intervals of a strip: 6,400 bytes and the two closing 0s. It has fewer bytes than intervals, so that no pass
@@ -39,6 +42,31 @@ fn conclude(m: Reading, last: u32) -> Counted
     Counted::Count(m.words as usize)
 }
 
+// A strip in which every interval is a cell: 7, 4, 8, 9, or all of its items. Code words are stored first, and turned
+// into items where they stand.
+fn read_cells(p: Profile, intervals: &[u16], out: &mut [u16]) -> Counted
+    requires { ⌜ profileRule p .number ≡ 0 ⌝ }
+    requires { ⌜ length (now intervals) ≤ 51202 ⌝ }
+    requires { ⌜ edgeRule (classesOf p (now intervals)) .number ≡ 0 ⌝ }
+    ensures answer { λ r. ⌜ countedAnswer r ≡ readRule p (now (intervals .entry)) (length (now (out .entry))) ⌝ }
+    ensures output { λ _. ⌜ now (out .exit) ≡ readOutput p (now (intervals .entry)) (now (out .entry)) ⌝ }
+{
+    let mut none = [0u16; 0];
+    let pass = pass_over(p, intervals, MAX_INTERVALS as u32, &mut none);
+    let reading = pass.reading;
+    match conclude(reading, last_place(pass.used)) {
+        Counted::Refused(refusal) => Counted::Refused(refusal),
+        Counted::Count(n) => {
+            if out.len() < n {
+                return Counted::Refused(Refusal::OutputTooShort);
+            }
+            pass_over(p, intervals, MAX_INTERVALS as u32, out);
+            words_to_bytes(&mut out[..n]);
+            Counted::Count(n)
+        }
+    }
+}
+
 // A strip of at most 51,202 intervals under an accepted profile: the first of 5 or 6, 7, 4, 8, 9, or all of its items.
 fn read_strip(p: Profile, intervals: &[u16], out: &mut [u16]) -> Counted
     requires { ⌜ profileRule p .number ≡ 0 ⌝ }
@@ -46,20 +74,9 @@ fn read_strip(p: Profile, intervals: &[u16], out: &mut [u16]) -> Counted
     ensures answer { λ r. ⌜ countedAnswer r ≡ readRule p (now (intervals .entry)) (length (now (out .entry))) ⌝ }
     ensures output { λ _. ⌜ now (out .exit) ≡ readOutput p (now (intervals .entry)) (now (out .entry)) ⌝ }
 {
-    let mut none = [0u16; 0];
-    match pass_over(p, intervals, MAX_INTERVALS as u32, &mut none) {
-        Pass::TooShort(at) => Counted::Refused(Refusal::IntervalTooShort(at)),
-        Pass::TooLong(at) => Counted::Refused(Refusal::IntervalTooLong(at)),
-        Pass::Read { reading, used } => match conclude(reading, last_place(used)) {
-            Counted::Refused(refusal) => Counted::Refused(refusal),
-            Counted::Count(n) => {
-                if out.len() < n {
-                    return Counted::Refused(Refusal::OutputTooShort);
-                }
-                pass_over(p, intervals, MAX_INTERVALS as u32, out);
-                Counted::Count(n)
-            }
-        },
+    match check_edges(p, intervals) {
+        Verdict::Refused(refusal) => Counted::Refused(refusal),
+        Verdict::Accepted => read_cells(p, intervals, out),
     }
 }
 

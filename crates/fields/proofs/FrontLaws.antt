@@ -9,7 +9,6 @@ use lib.ListN.{length, length-append}
 use lib.Seq.{append-snoc}
 use Rattle.refusal.specs.Answer.{accepted, refused}
 use Rattle.timing.specs.declared.Class.{Class}
-use Rattle.timing.specs.declared.Class.the-variants.{Narrow, Wide}
 use Rattle.symbols.specs.Bits.{Bit, O, lastOf}
 use Rattle.symbols.specs.Reading.{given, lastAfter, readBits}
 use Rattle.symbols.specs.declared.Cell.{Cell}
@@ -100,18 +99,6 @@ module _ (cs : List Class) (n : ℕ) (done : List Cell) (wanted : 0 < wantedOf n
   pub front-ends : Front cs n done [] → fieldStop cs n ≡ refused 11 0
   unfolding stopFrom
   front-ends front = front .stop ∙ ap (λ (w : ℕ). stopFrom [] (length done) w (lastKnown done)) some-wanted
-
-  pub front-meets-narrow
-      : (rest : List Class) → Front cs n done (Narrow ∷ rest) → fieldStop cs n ≡ refused 5 (length done)
-  unfolding stopFrom
-  front-meets-narrow rest front =
-      front .stop ∙ ap (λ (w : ℕ). stopFrom (Narrow ∷ rest) (length done) w (lastKnown done)) some-wanted
-
-  pub front-meets-wide
-      : (rest : List Class) → Front cs n done (Wide ∷ rest) → fieldStop cs n ≡ refused 6 (length done)
-  unfolding stopFrom
-  front-meets-wide rest front =
-      front .stop ∙ ap (λ (w : ℕ). stopFrom (Wide ∷ rest) (length done) w (lastKnown done)) some-wanted
 
 -- no bit is wanted any more
 pub front-is-whole

@@ -8,6 +8,7 @@ pub mod FieldLaws
 pub mod AgreeLaws
 pub mod FrontLaws
 pub mod FieldPassLaws
+pub mod NearFieldLaws
 pub mod RuleLaws
 pub mod ReaderLaws
 pub mod FirstLockLaws

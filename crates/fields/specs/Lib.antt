@@ -3,3 +3,4 @@ pub mod Scan
 pub mod Field
 pub mod FieldRule
 pub mod Claims
+pub mod End

@@ -1,3 +1,4 @@
 // Document 01, "Finding and reading a field".
 pub mod finder;
+mod gather;
 pub mod reader;

@@ -7,12 +7,10 @@ ghost use Rattle.refusal.specs.Answer.{countedAnswer};
 ghost use Rattle.timing.specs.Profile.{profileRule};
 ghost use Rattle.timing.specs.Class.{classesOf};
 ghost use Rattle.fields.specs.Field.{holdsAfter};
-ghost use Rattle.fields.specs.FieldRule.{gatherRule, GathersItems, deliverReading, deliverOutput, fieldAnswer};
+ghost use Rattle.fields.specs.FieldRule.{deliverReading, deliverOutput, fieldAnswer};
 ghost use Rattle.fields.specs.FieldRule.{checkedReading, checkedOutput, fieldReading, fieldOutput};
 ghost use Rattle.fields.specs.FieldRule.{fieldRest, restPlace};
-use intervals::Pass;
-use intervals::last_place;
-use intervals::pass_over;
+use crate::gather::gather;
 use items::Check;
 use refusal::Counted;
 use refusal::Refusal;
@@ -33,31 +31,6 @@ pub enum FieldRead {
         holds: bool,
     },
     Refused(Refusal),
-}
-
-// One pass over the intervals of n bytes, whose items are stored from the front on where they have room. Answers how
-// many intervals were used.
-fn gather(p: Profile, intervals: &[u16], n: u32, out: &mut [u16]) -> Counted
-    requires { ⌜ profileRule p .number ≡ 0 ⌝ }
-    requires { ⌜ (1 ≤ n) × (n ≤ 1030) ⌝ }
-    ensures answer { λ r. ⌜ countedAnswer r ≡ gatherRule (classesOf p (now (intervals .entry))) n ⌝ }
-    ensures fill { λ _. ⌜ GathersItems (classesOf p (now (intervals .entry))) n (now (out .entry)) (now (out .exit)) ⌝ }
-{
-    match pass_over(p, intervals, n, out) {
-        Pass::TooShort(at) => Counted::Refused(Refusal::IntervalTooShort(at)),
-        Pass::TooLong(at) => Counted::Refused(Refusal::IntervalTooLong(at)),
-        Pass::Read { reading, used } => {
-            if reading.words < n {
-                return Counted::Refused(Refusal::EndsEarly);
-            }
-            if reading.is_stray() {
-                return Counted::Refused(Refusal::MisplacedMark(reading.stray_place(last_place(
-                    used,
-                ))));
-            }
-            Counted::Count(used)
-        }
-    }
 }
 
 // The register is zero after the items.

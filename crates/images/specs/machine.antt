@@ -1,4 +1,3 @@
-pub mod Candidate
 pub mod Spread
 pub mod TopBits
 pub mod Tally

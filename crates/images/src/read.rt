@@ -8,13 +8,13 @@ ghost use Rattle.lists.specs.Filled.{filled};
 ghost use Rattle.refusal.specs.Answer.{verdictAnswer, countedAnswer};
 ghost use Rattle.images.specs.Image.{unrulyIn};
 ghost use Rattle.images.specs.Rules.{wordsRule, readImageRule, readImageOutput};
-ghost use Rattle.images.specs.machine.Candidate.{candidate};
+ghost use Rattle.symbols.specs.machine.Candidate.{candidate};
 use crate::table::code_words;
-use crate::words::byte_of;
 use crate::words::word_of;
 use refusal::Counted;
 use refusal::Refusal;
 use refusal::Verdict;
+use symbols::word::byte_of;
 
 // The most words that an image may have.
 const MAX_WORDS: usize = 6400;

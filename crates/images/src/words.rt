@@ -1,7 +1,6 @@
-// One code word: that of a byte, and the byte of it.
+// The code word of a byte.
 ghost use mathlib.Core.Path.{_≡_};
 ghost use Rattle.images.specs.Words.{wordOf, lastBit, codeWords};
-ghost use Rattle.images.specs.machine.Candidate.{dataBits, candidate};
 ghost use Rattle.images.specs.machine.Spread.{spreadWord};
 
 const MARK_A1: u16 = 0x1a1;
@@ -48,27 +47,4 @@ pub fn made_word(previous: u16, w: u16) -> u16
         return WORD_C2;
     }
     spread_word(previous % 2, w % 256)
-}
-
-// Every second bit of a word, moved together.
-fn data_bits(word: u16) -> u16
-    ensures { λ r. ⌜ r ≡ dataBits word ⌝ }
-{
-    let alone = word & 0x5555;
-    let pairs = (alone | (alone >> 1)) & 0x3333;
-    let fours = (pairs | (pairs >> 2)) & 0x0f0f;
-    (fours | (fours >> 4)) & 0x00ff
-}
-
-// The one byte that can have a word: whether it has it depends on the byte before.
-pub fn byte_of(word: u16) -> u16
-    ensures { λ r. ⌜ r ≡ candidate word ⌝ }
-{
-    if word == WORD_A1 {
-        return MARK_A1;
-    }
-    if word == WORD_C2 {
-        return MARK_C2;
-    }
-    data_bits(word)
 }

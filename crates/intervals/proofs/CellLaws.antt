@@ -1,15 +1,17 @@
 -- A class is narrow, or read as a cell, or wide: what holds in each of these cases holds of every class. Rests on no
 -- axiom.
-use Prim.Native.Nat.{ℕ}
+use Prim.Native.Nat.{ℕ, _≤_}
 use mathlib.Core.Path.{_≡_, refl}
-use mathlib.Core.Bool.{true, false≢true}
+use mathlib.Core.Bool.{true, cond, false≢true}
+use native.Mathlib.Decide.{decLt}
+use native.Mathlib.Omega.{arith}
+use lib.Dec.{eqb}
 use Rattle.timing.specs.Class.{isCell, classNumber}
 use Rattle.timing.specs.declared.Class.{Class}
 use Rattle.timing.specs.declared.Class.the-variants.{Narrow, Two, Three, Four, Wide}
-use Rattle.symbols.specs.machine.Step.{stepped, steppedBy}
+use Rattle.symbols.specs.Reading.{units}
 use Rattle.symbols.specs.declared.Cell.{Cell}
 use Rattle.symbols.specs.declared.Cell.the-variants.{Short, Medium, Long}
-use Rattle.symbols.specs.declared.Reading.{Reading}
 use Rattle.intervals.specs.Cells.{byClass}
 
 -- a class that is read as a cell
@@ -45,31 +47,26 @@ by-class-read narrow read wide as-short = refl
 by-class-read narrow read wide as-medium = refl
 by-class-read narrow read wide as-long = refl
 
--- ---- a class that is a cell
+-- ---- by its units
 
-abbrev pub cellOf : Class → Cell
-cellOf Narrow = Short
-cellOf Two = Short
-cellOf Three = Medium
-cellOf Four = Long
-cellOf Wide = Short
+-- the cell of so many units, where a cell has so many
+abbrev pub cellOfUnits : ℕ → Cell
+cellOfUnits u = cond (eqb u 2) Short (cond (eqb u 3) Medium Long)
 
-pub cell-is-read-as : (c : Class) → isCell c ≡ true → ReadAs c (cellOf c)
+pub units-of-its-cell : (u : ℕ) → 2 ≤ u → u ≤ 4 → units (cellOfUnits u) ≡ u
+units-of-its-cell u low high =
+    elim (decLt u 3) [
+      | yes l ↦ let two : u ≡ 2 = omega arith in rw two
+      | no l ↦
+          elim (decLt u 4) [
+            | yes m ↦ let three : u ≡ 3 = omega arith in rw three
+            | no m ↦ let four : u ≡ 4 = omega arith in rw four
+          ]
+    ]
+
+pub cell-is-read-as : (c : Class) → isCell c ≡ true → ReadAs c (cellOfUnits (classNumber c))
 cell-is-read-as Narrow h = absurd (false≢true h)
 cell-is-read-as Two h = as-short
 cell-is-read-as Three h = as-medium
 cell-is-read-as Four h = as-long
 cell-is-read-as Wide h = absurd (false≢true h)
-
-pub read-is-cell : {c : Class} {x : Cell} → ReadAs c x → isCell c ≡ true
-read-is-cell as-short = refl
-read-is-cell as-medium = refl
-read-is-cell as-long = refl
-
--- the machine takes it by its units
-pub stepped-by-class
-    : {c : Class} {x : Cell} (m : Reading) (k : ℕ) → ReadAs c x → steppedBy m (classNumber c) k ≡ stepped m x k
-unfolding stepped
-stepped-by-class m k as-short = refl
-stepped-by-class m k as-medium = refl
-stepped-by-class m k as-long = refl

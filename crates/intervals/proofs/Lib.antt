@@ -1,3 +1,4 @@
 pub mod CellLaws
 pub mod ClassCellLaws
+pub mod NearLaws
 pub mod PassLaws

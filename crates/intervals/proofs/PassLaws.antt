@@ -1,153 +1,111 @@
--- One turn of the pass, by its tests. And a pass that no number of items ends: it stops where the paper's rule for 5
--- and 6 does, and else is the machine's run over all cells; by induction on the classes. Rests on no axiom.
-use Prim.Native.Nat.{ℕ, suc, _+_, _≤_, _<_}
+-- A pass over cells, by their units. In parts it is the pass over all of them; and with no more cells than bytes are
+-- wanted it is the machine's run over all of them. By induction on the cells. Rests on no axiom.
+use Prim.Native.Nat.{ℕ, suc, _+_, _^_, _≤_, _<_}
 use mathlib.Core.Path.{_≡_, refl, sym, ap, _∙_}
-use mathlib.Core.Bool.{true, false}
-use mathlib.Core.List.{List, [], _∷_, _++_}
+use mathlib.Core.List.{List, [], _∷_, _++_, map, append-assoc}
 use native.Mathlib.Decide.{decLt}
+use native.Mathlib.Nat.{add-zero}
 use native.Mathlib.Omega.{arith}
 use borrow.Author.Tests.{lt-ltb, le-ltb}
-use lib.ListN.{length}
-use Rattle.refusal.specs.Answer.{accepted, refused}
-use Rattle.timing.specs.Class.{isCell, classNumber}
-use Rattle.timing.specs.declared.Class.{Class}
-use Rattle.timing.specs.declared.Class.the-variants.{Narrow, Wide}
+use lib.ListN.{length, length-append}
 use Rattle.symbols.specs.Reading.{units}
-use Rattle.symbols.specs.machine.Step.{freshReading, shifted, closed, stepped, steppedBy, itemClosed, ran, ranItems}
+use Rattle.symbols.specs.machine.Step.{steppedBy, stepped, wordBy, wordClosed, ran, ranWords}
 use Rattle.symbols.specs.declared.Cell.{Cell}
 use Rattle.symbols.specs.declared.Reading.{Reading}
-use Rattle.intervals.specs.Cells.{edgeRule, edgeRuleFrom, cellsOfClasses}
-use Rattle.intervals.specs.machine.Pass.{stoppedBy, Passed, ended, after, passFrom, passed}
-use Rattle.intervals.specs.declared.Pass.the-variants.{Read, TooShort, TooLong}
-use Rattle.intervals.proofs.CellLaws.{ReadAs, by-each-class, by-class-read, read-is-cell, stepped-by-class}
+use Rattle.symbols.proofs.WholeLaws.{words-by-step}
+use Rattle.intervals.specs.machine.Pass.{Passed, ended, after, passFrom}
 
 module _ (most k : ℕ) (m : Reading) where
-  pub pass-ends : passFrom most k m [] ≡ ended (Read m k)
+  pub pass-ends : passFrom most k m [] ≡ ended m k
   unfolding passFrom
   pass-ends = refl
 
-  pub pass-is-full : (cs : List Class) → most ≤ m .words → passFrom most k m cs ≡ ended (Read m k)
+  pub pass-is-full : (us : List ℕ) → most ≤ m .words → passFrom most k m us ≡ ended m k
   unfolding passFrom
   pass-is-full [] h = refl
-  pass-is-full (c ∷ cs) h = rw (le-ltb (m .words) most h)
+  pass-is-full (u ∷ us) h = rw (le-ltb (m .words) most h)
 
-  module _ (c : Class) (cs : List Class) (h : m .words < most) where
-    pub pass-stops : isCell c ≡ false → passFrom most k m (c ∷ cs) ≡ ended (stoppedBy c k)
-    unfolding passFrom
-    pass-stops none = rw (lt-ltb (m .words) most h, none)
+  pub pass-goes-on
+      : (u : ℕ) (us : List ℕ)
+      → m .words < most
+      → passFrom most k m (u ∷ us) ≡ after (wordBy m u) (passFrom most (suc k) (steppedBy m u k) us)
+  unfolding passFrom
+  pass-goes-on u us h = rw (lt-ltb (m .words) most h)
 
-    pub pass-goes-on
-        : isCell c ≡ true
-        → passFrom most k m (c ∷ cs)
-        ≡ after (itemClosed (steppedBy m (classNumber c) k))
-        (passFrom most (suc k) (steppedBy m (classNumber c) k) cs)
-    unfolding passFrom
-    pass-goes-on cell = rw (lt-ltb (m .words) most h, cell)
+  -- by its cell
+  pub pass-reads
+      : (x : Cell) (us : List ℕ)
+      → m .words < most
+      → passFrom most k m (units x ∷ us) ≡ after (wordClosed m x) (passFrom most (suc k) (stepped m x k) us)
+  unfolding stepped wordClosed
+  pass-reads x us h = pass-goes-on (units x) us h
 
--- by its cell
-pub pass-reads
-    : {c : Class} {x : Cell} (most k : ℕ) (m : Reading) (cs : List Class)
-    → m .words < most
-    → ReadAs c x
-    → passFrom most k m (c ∷ cs)
-    ≡ after (itemClosed (stepped m x k)) (passFrom most (suc k) (stepped m x k) cs)
-pass-reads {c} most k m cs h read =
-    rw (← stepped-by-class m k read) (pass-goes-on most k m c cs h (read-is-cell read))
-
--- ---- a pass over all classes, the first at place k
-
--- where it was not stopped
-pub record Whole (k : ℕ) (m : Reading) (cs : List Class) (items : List ℕ) (end : Reading) (used : ℕ) : Type 0 where
-  pub fair : edgeRuleFrom k cs ≡ accepted 0
-  pub machine : end ≡ ran m k (cellsOfClasses cs)
-  pub all-used : used ≡ k + length (cellsOfClasses cs)
-  pub gathers : items ≡ ranItems m k (cellsOfClasses cs)
-
-pub record OverAll (k : ℕ) (m : Reading) (cs : List Class) (pass : Passed) : Type 0 where
-  pub short : (at : ℕ) → TooShort at ≡ pass .end → refused 5 at ≡ edgeRuleFrom k cs
-  pub long : (at : ℕ) → TooLong at ≡ pass .end → refused 6 at ≡ edgeRuleFrom k cs
-  pub reads : (end : Reading) (used : ℕ) → Read end used ≡ pass .end → Whole k m cs (pass .items) end used
-
-module _ (k : ℕ) (m : Reading) where
-  none-left : OverAll k m [] (ended (Read m k))
-  unfolding edgeRuleFrom cellsOfClasses ran ranItems
-  none-left =
-      record {
-        short = λ at e. absurd (let z : _≡_ {A = ℕ} 0 1 = cc in omega arith);
-        long = λ at e. absurd (let z : _≡_ {A = ℕ} 0 1 = cc in omega arith);
-        reads = λ end used e.
-            let same : used ≡ k = cc in record { fair = refl; machine = cc; all-used = omega arith; gathers = refl };
-      }
-
-  meets-narrow : (cs : List Class) → OverAll k m (Narrow ∷ cs) (ended (stoppedBy Narrow k))
-  unfolding stoppedBy edgeRuleFrom
-  meets-narrow cs =
-      record {
-        short = λ at e. let same : at ≡ k = cc in ap (refused 5) same;
-        long = λ at e. absurd (let z : _≡_ {A = ℕ} 0 1 = cc in omega arith);
-        reads = λ end used e. absurd (let z : _≡_ {A = ℕ} 0 1 = cc in omega arith);
-      }
-
-  meets-wide : (cs : List Class) → OverAll k m (Wide ∷ cs) (ended (stoppedBy Wide k))
-  unfolding stoppedBy edgeRuleFrom
-  meets-wide cs =
-      record {
-        short = λ at e. absurd (let z : _≡_ {A = ℕ} 0 1 = cc in omega arith);
-        long = λ at e. let same : at ≡ k = cc in ap (refused 6) same;
-        reads = λ end used e. absurd (let z : _≡_ {A = ℕ} 0 1 = cc in omega arith);
-      }
-
-  one-more
-      : {c : Class} {x : Cell} (cs : List Class) (rest : Passed)
-      → ReadAs c x
-      → OverAll (suc k) (stepped m x k) cs rest
-      → OverAll k m (c ∷ cs) (after (itemClosed (stepped m x k)) rest)
-  unfolding edgeRuleFrom cellsOfClasses ran ranItems
-  one-more {c} {x} cs rest read over =
-      let rule : edgeRuleFrom k (c ∷ cs) ≡ edgeRuleFrom (suc k) cs = by-class-read _ _ _ read in
-      let cells : cellsOfClasses (c ∷ cs) ≡ x ∷ cellsOfClasses cs = by-class-read _ _ _ read in
-      record {
-        short = λ at e. over .short at e ∙ sym rule;
-        long = λ at e. over .long at e ∙ sym rule;
-        reads = λ end used e.
-            let whole = over .reads end used e in
-            let used-all = whole .all-used in
-            record {
-              fair = rule ∙ whole .fair;
-              machine = whole .machine ∙ ap (ran m k) (sym cells);
-              all-used = rw cells (omega arith);
-              gathers =
-                  ap (λ (l : List ℕ). itemClosed (stepped m x k) ++ l) (whole .gathers) ∙ ap (ranItems m k) (sym cells);
-            };
-      }
-
--- a cell closes one byte at most
-one-word-at-most : (m : Reading) (x : Cell) (k : ℕ) → stepped m x k .words ≤ m .words + 1
-unfolding stepped steppedBy shifted closed
-one-word-at-most m x k =
-    elim (decLt (shifted m (units x) .held) 17) [
-      | yes h ↦ rw (lt-ltb _ 17 h) (omega arith)
-      | no h ↦ rw (le-ltb (shifted m (units x) .held) 17 (omega arith)) (omega arith)
+-- one part after the other
+pub pass-in-parts
+    : (most k : ℕ) (m : Reading) (us vs : List ℕ)
+    → let first = passFrom most k m us in
+    passFrom most k m (us ++ vs) ≡ after (first .words) (passFrom most (first .end .used) (first .end .reading) vs)
+pass-in-parts most k m [] vs = rw (pass-ends most k m)
+pass-in-parts most k m (u ∷ us) vs =
+    elim (decLt (m .words) most) [
+      | yes h ↦
+          let next = steppedBy m u k in
+          let first = passFrom most (suc k) next us in
+          let rest = passFrom most (first .end .used) (first .end .reading) vs in
+          rw (pass-goes-on most k m u (us ++ vs) h, pass-goes-on most k m u us h, pass-in-parts most (suc k) next us vs)
+          (ap (λ (l : List ℕ). record { end = rest .end; words = l })
+          (sym (append-assoc (wordBy m u) (first .words) (rest .words))))
+      | no h ↦
+          let full : most ≤ m .words = omega arith in
+          rw (
+            pass-is-full most k m (u ∷ us ++ vs) full,
+            pass-is-full most k m (u ∷ us) full,
+            pass-is-full most k m vs full,
+          )
     ]
 
-over-all
-    : (cs : List Class) (most k : ℕ) (m : Reading)
-    → m .words + length cs ≤ most
-    → OverAll k m cs (passFrom most k m cs)
-over-all [] most k m h = rw pass-ends (none-left k m)
-over-all (c ∷ cs) most k m h =
-    let few : m .words < most = omega arith in
-    by-each-class
-    (λ (d : Class). OverAll k m (d ∷ cs) (passFrom most k m (d ∷ cs)))
-    (rw (pass-stops most k m Narrow cs few refl) (meets-narrow k m cs))
-    (λ d x read.
-    let one = one-word-at-most m x k in
-    rw (pass-reads most k m cs few read)
-    (one-more k m cs _ read (over-all cs most (suc k) (stepped m x k) (omega arith))))
-    (rw (pass-stops most k m Wide cs few refl) (meets-wide k m cs))
-    c
+-- a pass has as many words more as it closed, and where bytes are still wanted it used every cell
+pub record Counts (most k : ℕ) (m : Reading) (us : List ℕ) (pass : Passed) : Type 0 where
+  pub words : pass .end .reading .words ≡ m .words + length (pass .words)
+  pub all-used : pass .end .reading .words < most → pass .end .used ≡ k + length us
 
--- a whole strip, which has fewer bytes than intervals
-pub pass-over-all : (cs : List Class) (most : ℕ) → length cs ≤ most → OverAll 0 freshReading cs (passed most cs)
-unfolding passed freshReading
-pass-over-all cs most h = over-all cs most 0 freshReading (omega arith)
+pub pass-counts
+    : (most k : ℕ) (m : Reading) (us : List ℕ) → most < 2 ^ 32 → Counts most k m us (passFrom most k m us)
+pass-counts most k m [] few = rw (pass-ends most k m) (record { words = omega arith; all-used = λ h. omega arith })
+pass-counts most k m (u ∷ us) few =
+    elim (decLt (m .words) most) [
+      | yes h ↦
+          let next = steppedBy m u k in
+          let one = words-by-step m u k (omega arith) .0 in
+          let rest = pass-counts most (suc k) next us few in
+          let all = passFrom most (suc k) next us in
+          rw (pass-goes-on most k m u us h)
+          (record {
+            words = rest .words ∙ omega (arith, length-append (wordBy m u) (all .words));
+            all-used = λ g. rest .all-used g ∙ omega arith;
+          })
+      | no h ↦
+          let full : most ≤ m .words = omega arith in
+          rw (pass-is-full most k m (u ∷ us) full)
+          (record { words = omega arith; all-used = λ g. absurd (omega arith) })
+    ]
+
+-- no cell is left over where there are no more than bytes are wanted
+pub pass-over-all
+    : (cs : List Cell) (most k : ℕ) (m : Reading)
+    → m .words + length cs ≤ most
+    → most < 2 ^ 32
+    → (passFrom most k m (map units cs) .end ≡ record { reading = ran m k cs; used = k + length cs })
+    × (passFrom most k m (map units cs) .words ≡ ranWords m k cs)
+unfolding ran ranWords stepped wordClosed
+pass-over-all [] most k m h few = rw (pass-ends most k m, add-zero k) (refl, refl)
+pass-over-all (c ∷ cs) most k m h few =
+    let next = steppedBy m (units c) k in
+    let grown = words-by-step m (units c) k (omega arith) in
+    let some = grown .1 in
+    let words : next .words ≤ m .words + 1 = omega (arith, grown .0) in
+    let rest = pass-over-all cs most (suc k) next (omega arith) few in
+    rw (pass-goes-on most k m (units c) (map units cs) (omega arith)) (
+      rest .0 ∙ ap (λ (n : ℕ). record { reading = ran next (suc k) cs; used = n }) (omega arith),
+      ap (λ (l : List ℕ). wordClosed m c ++ l) (rest .1),
+    )

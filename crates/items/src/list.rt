@@ -2,13 +2,13 @@
 // themselves.
 use crate::Check;
 ghost use mathlib.Core.Path.{_≡_};
-ghost use lib.ListN.{set};
 ghost use Rattle.lists.specs.Filled.{storedAt};
 ghost use Rattle.lists.specs.Place.{lowest};
 ghost use Rattle.refusal.specs.Answer.{verdictAnswer};
 ghost use Rattle.items.specs.Item.{isForeign, writtenBytes};
 ghost use Rattle.items.specs.Written.{afterBytes, itemBytes, writtenFrom};
 ghost use Rattle.items.specs.Rule.{listRule};
+use lists::put;
 use refusal::Refusal;
 use refusal::Verdict;
 
@@ -58,15 +58,6 @@ pub fn check_list(items: &[u16]) -> Verdict
         return Verdict::Refused(Refusal::NotAnItem(k as u32));
     }
     Verdict::Accepted
-}
-
-// Past the end nothing is stored.
-fn put(out: &mut [u16], at: usize, byte: u16)
-    ensures { λ _. ⌜ now (out .exit) ≡ set (now (out .entry)) at byte ⌝ }
-{
-    if at < out.len() {
-        out[at] = byte;
-    }
 }
 
 // Stores an item's bytes from `at` on.

@@ -1,19 +1,14 @@
 -- Runs of stores one after the other are one run of stores: by induction on the first. Rests on no axiom.
 use Prim.Native.Nat.{ℕ, zero, suc, _+_, _≤_, _<_}
 use mathlib.Core.Path.{_≡_, refl, sym, ap, _∙_}
-use mathlib.Core.Bool.{Bool, true, false}
-use mathlib.Core.List.{List, [], _∷_, _++_}
+use mathlib.Core.List.{List, [], _∷_, _++_, map}
 use native.Mathlib.Nat.{add-zero, zero-add, add-suc, suc-add, le-of-lt}
 use native.Mathlib.Numerals.{add-one}
 use native.Mathlib.Omega.{arith}
-use lib.ListN.{length, set, take, drop, getD, replicate, length-replicate}
+use lib.ListN.{length, set, take, drop, getD, replicate, length-replicate, length-map}
 use lib.Seq.{sets, sets-eq, length-sets, set-out, take-suc, drop-cons, length-take-le, take-append-seam}
-use Rattle.lists.specs.Filled.{filled, storedAt, ifGiven}
-
--- a step has one number for the output at most
-pub one-given-at-most : (given : Bool) (n : ℕ) → length (ifGiven given n) ≤ 1
-one-given-at-most true n = omega arith
-one-given-at-most false n = omega arith
+use lib.Seq.{drop-append-seam}
+use Rattle.lists.specs.Filled.{filled, storedAt}
 
 module _ {A : Type 0} where
   pub stored-none : (l : List A) (i : ℕ) → storedAt l i [] ≡ l
@@ -104,3 +99,21 @@ module _ {A : Type 0} where
       ap (λ (k : ℕ). take k (storedAt l 0 vs)) (sym e)
       ∙ ap (take (length vs)) (stored-at-front-fills vs l (rw e h))
       ∙ front-of-filled vs l
+
+  -- and replaced, element by element, where it stands
+  pub mapped-at-front
+      : (f : A → A) (vs l : List A) (n : ℕ)
+      → length vs ≡ n
+      → n ≤ length l
+      → map f (take n (storedAt l 0 vs)) ++ drop n (storedAt l 0 vs) ≡ storedAt l 0 (map f vs)
+  unfolding filled
+  mapped-at-front f vs l n e h =
+      let same : length (map f vs) ≡ length vs = length-map vs f in
+      rw (
+        ← e,
+        stored-at-front-fills vs l (rw e h),
+        stored-at-front-fills (map f vs) l (rw (same, e) h),
+        take-append-seam,
+        drop-append-seam,
+        same,
+      )

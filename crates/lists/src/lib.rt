@@ -1,21 +1,12 @@
 // What all crates share on lists: definitions with their laws, and the store into a caller's output.
-ghost use Prim.Native.Nat.{_+_, _<_};
 ghost use mathlib.Core.Path.{_≡_};
-ghost use lib.ListN.{length};
-ghost use Rattle.lists.specs.Filled.{storedAt, ifGiven};
+ghost use lib.ListN.{set};
 
-// A number, if one was given, stored at a place where there is room. Answers the next place.
-pub fn put(out: &mut [u16], at: usize, given: bool, number: u16) -> usize
-    requires { ⌜ at < 65536 ⌝ }
-    ensures next { λ r. ⌜ r ≡ at + length (ifGiven given number) ⌝ }
-    ensures output { λ _. ⌜ now (out .exit) ≡ storedAt (now (out .entry)) at (ifGiven given number) ⌝ }
+// Past the end nothing is stored.
+pub fn put(out: &mut [u16], at: usize, number: u16)
+    ensures { λ _. ⌜ now (out .exit) ≡ set (now (out .entry)) at number ⌝ }
 {
-    if given {
-        if at < out.len() {
-            out[at] = number;
-            return at + 1;
-        }
-        return at + 1;
+    if at < out.len() {
+        out[at] = number;
     }
-    at
 }

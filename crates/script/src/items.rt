@@ -4,13 +4,26 @@ use refusal::Counted;
 use refusal::Refusal;
 use text::Byte;
 ghost use Prim.Native.Nat.{_+_, _≤_, _<_};
+ghost use mathlib.Core.Path.{_≡_};
+ghost use mathlib.Core.List.{[], _∷_};
 ghost use lib.ListN.{length, drop};
+ghost use Rattle.lists.specs.Filled.{storedAt};
 ghost use Rattle.text.specs.Ascii.{lineFeed};
 ghost use Rattle.text.specs.Pieces.{piecesOf};
 ghost use Rattle.script.specs.Read.{BytesRead, LineRead, LinesRead, LinesStored, fieldsAfter};
 
 // The item that orders the check bytes.
 const CHECK_ORDER: u16 = 512;
+
+// A number stored at a place where there is room. Answers the next place.
+fn put(out: &mut [u16], at: usize, number: u16) -> usize
+    requires { ⌜ at < 65536 ⌝ }
+    ensures next { λ r. ⌜ r ≡ at + 1 ⌝ }
+    ensures output { λ _. ⌜ now (out .exit) ≡ storedAt (now (out .entry)) at (number ∷ []) ⌝ }
+{
+    lists::put(out, at, number);
+    at + 1
+}
 
 // The bytes that stand from a tab on, each with a number added, stored from place `count` on.
 fn read_bytes(line: &[u8], from: usize, base: u16, buffer: &mut [u16], count: usize) -> ItemLine
@@ -28,7 +41,7 @@ fn read_bytes(line: &[u8], from: usize, base: u16, buffer: &mut [u16], count: us
         let end = text::find(line, start, b'\t');
         match text::parse_byte(&line[start..end]) {
             Byte::Malformed => return ItemLine::Faulty,
-            Byte::Value(b) => n = lists::put(buffer, n, true, base + b as u16),
+            Byte::Value(b) => n = put(buffer, n, base + b as u16),
         }
         at = end;
     }
@@ -41,7 +54,7 @@ fn read_item_line(line: &[u8], buffer: &mut [u16], count: usize) -> ItemLine
     ensures { λ r. ⌜ LineRead (now (line .entry)) (now (buffer .entry)) count r (now (buffer .exit)) ⌝ }
 {
     if text::same(line, b"crc") {
-        return ItemLine::Items(lists::put(buffer, count, true, CHECK_ORDER));
+        return ItemLine::Items(put(buffer, count, CHECK_ORDER));
     }
     let end = text::find(line, 0, b'\t');
     if text::same(&line[..end], b"data") {

@@ -15,8 +15,9 @@ use Rattle.symbols.specs.Bits.{Bit, O, lastOf}
 use Rattle.symbols.specs.Bytes.{numberFrom, isGap, itemOf, rowStrays, rowsOf, straysOf, itemsRead}
 use Rattle.symbols.specs.Reading.{readBits, sources}
 use Rattle.symbols.specs.Strip.{isStray}
-use Rattle.symbols.specs.machine.Word.{missing, misfits, wordItem, cellsSince, firstOfCells}
-use Rattle.symbols.specs.machine.Step.{surplus, wordOf, closed}
+use Rattle.symbols.specs.machine.Candidate.{candidate}
+use Rattle.symbols.specs.machine.Word.{missing, misfits, cellsSince, firstOfCells}
+use Rattle.symbols.specs.machine.Step.{surplus, wordOf, codeWord, closed}
 use Rattle.symbols.specs.declared.Cell.{Cell}
 use Rattle.symbols.specs.declared.Reading.{Reading}
 use Rattle.symbols.proofs.TestLaws.{neither}
@@ -223,8 +224,8 @@ module _
     pub fair-word :
         m .words + 1 < 2 ^ 32 → isStray (readBits cs) ≡ false
         → (anywhere passed (front ++ (isGap a ∷ [])) ≡ false)
-        × (itemsRead (readBits cs) ≡ map itemOf (rowsOf before) ++ (wordItem (wordOf m) ∷ []))
-    unfolding isStray word-closed anywhere shownTests
+        × (itemsRead (readBits cs) ≡ map itemOf (rowsOf before) ++ (candidate (codeWord m) ∷ []))
+    unfolding isStray word-closed anywhere shownTests codeWord
     fair-word words fair =
         let after : Held (closed m (length cs - 1)) cs = word-closed words in
         let last : Bool = isGap (lastOf lead (before ++ row)) in
@@ -234,10 +235,10 @@ module _
         let shown = neither (anywhere passed front) (anywhere passed tests)
         (sym (anywhere-of-append passed front tests) ∙ apart .0) in
         let a-is-none = neither (isGap a) (anywhere passed (take 7 (rowStrays row))) (shown .1) .0 in
-        let item : itemOf row ≡ wordItem (wordOf m) =
+        let item : itemOf row ≡ candidate (codeWord m) =
         verdict .item (sym (verdict .stray) ∙ shown .1)
         (ap isGap (sym (last-append lead before row)) ∙ neither last false (apart .1) .0)
-        ∙ ap wordItem (sym word-is-row) in (
+        ∙ ap (λ (x : ℕ). candidate (x % 65536)) (sym word-is-row) in (
           rw (anywhere-of-append passed front (isGap a ∷ []), shown .0, a-is-none),
           items-so-far (closed m (length cs - 1)) cs after
               ∙ ap (map itemOf) rows-grown

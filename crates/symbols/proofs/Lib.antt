@@ -27,6 +27,7 @@ pub mod NumberLaws
 pub mod SourceLaws
 pub mod ReadsLaws
 pub mod ClosingLaws
+pub mod WholeLaws
 pub mod StepLaws
 pub mod AnswerLaws
 pub mod RunLaws

@@ -4,14 +4,15 @@ use Prim.Native.Nat.{ℕ, suc, _+_, _-_, _^_, _≤_}
 use mathlib.Core.Path.{_≡_, ap, sym, _∙_}
 use mathlib.Core.Bool.{false}
 use mathlib.Core.Logic.{inr}
-use mathlib.Core.List.{List, [], _∷_, _++_, append-assoc, append-nil}
+use mathlib.Core.List.{List, [], _∷_, _++_, map, append-assoc, append-nil, map-append}
 use native.Mathlib.Omega.{arith}
 use lib.ListN.{length, length-append}
 use lib.Seq.{append-snoc}
 use Rattle.symbols.specs.Bytes.{itemsRead}
 use Rattle.symbols.specs.Reading.{readFrom, readBits}
 use Rattle.symbols.specs.Strip.{isStray, stripRule, stripItems}
-use Rattle.symbols.specs.machine.Step.{freshReading, stepped, itemClosed, ran, ranItems, stripAnswer}
+use Rattle.symbols.specs.machine.Candidate.{candidate}
+use Rattle.symbols.specs.machine.Step.{freshReading, stepped, wordClosed, ran, ranWords, stripAnswer}
 use Rattle.symbols.specs.declared.Cell.{Cell}
 use Rattle.symbols.specs.declared.Reading.{Reading}
 use Rattle.symbols.proofs.RoundTripLaws.{write-of-read}
@@ -22,15 +23,15 @@ use Rattle.symbols.proofs.AnswerLaws.{rule-of-reads}
 -- what the machine is after more cells, how many items they gave, and which, where no gap is out of place
 pub record Run (m : Reading) (cs ds : List Cell) : Type 0 where
   pub reads : Reads (ran m (length cs) ds) (cs ++ ds)
-  pub words : ran m (length cs) ds .words ≡ m .words + length (ranItems m (length cs) ds)
+  pub words : ran m (length cs) ds .words ≡ m .words + length (ranWords m (length cs) ds)
   pub items :
       isStray (readBits (cs ++ ds)) ≡ false
       → (isStray (readBits cs) ≡ false)
-      × (itemsRead (readBits (cs ++ ds)) ≡ itemsRead (readBits cs) ++ ranItems m (length cs) ds)
+      × (itemsRead (readBits (cs ++ ds)) ≡ itemsRead (readBits cs) ++ map candidate (ranWords m (length cs) ds))
 
 pub machine-runs :
     (m : Reading) (cs ds : List Cell) → Reads m cs → length cs + length ds ≤ 2 ^ 32 → Run m cs ds
-unfolding ran ranItems
+unfolding ran ranWords
 machine-runs m cs [] r h =
     record {
       reads = rw (append-nil cs) r;
@@ -46,20 +47,21 @@ machine-runs m cs (d ∷ ds) r h =
     let n : length (cs ++ (d ∷ [])) ≡ suc (length cs) = omega (arith, length-append cs (d ∷ [])) in
     let after : After m cs d next = after-cell m cs r (omega arith) d in
     let run = machine-runs next (cs ++ (d ∷ [])) ds (inr (after .reads)) (omega arith) in
-    let rest : List ℕ = ranItems next (suc (length cs)) ds in
+    let rest : List ℕ = ranWords next (suc (length cs)) ds in
     record {
       reads = rw (append-snoc cs d ds, n) at (run .reads);
       words =
           (rw n at (run .words))
           ∙ ap (λ (k : ℕ). k + length rest) (after .words)
-          ∙ omega (arith, length-append (itemClosed next) rest);
+          ∙ omega (arith, length-append (wordClosed m d) rest);
       items = λ fair.
           let later = rw (append-snoc cs d ds, n) at (run .items (rw (append-snoc cs d ds) fair)) in
           let here = after .items (later .0) in (
             here .0,
             later .1
-                ∙ ap (λ (l : List ℕ). l ++ rest) (here .1)
-                ∙ append-assoc (itemsRead (readBits cs)) (itemClosed next) rest,
+                ∙ ap (λ (l : List ℕ). l ++ map candidate rest) (here .1)
+                ∙ append-assoc (itemsRead (readBits cs)) (map candidate (wordClosed m d)) (map candidate rest)
+                ∙ ap (λ (l : List ℕ). itemsRead (readBits cs) ++ l) (sym (map-append candidate (wordClosed m d) rest)),
           );
     }
 
@@ -69,14 +71,14 @@ module _ (m : Reading) (cs ds : List Cell) (r : Reads m cs) (few : length cs + l
 
   pub items-ran :
       isStray (readBits (cs ++ ds)) ≡ false
-      → itemsRead (readBits (cs ++ ds)) ≡ itemsRead (readBits cs) ++ ranItems m (length cs) ds
+      → itemsRead (readBits (cs ++ ds)) ≡ itemsRead (readBits cs) ++ map candidate (ranWords m (length cs) ds)
   items-ran fair = machine-runs m cs ds r few .items fair .1
 
 -- a whole strip
 pub strip-by-ran :
     (cs : List Cell) → length cs ≤ 2 ^ 32
     → (stripRule cs ≡ stripAnswer (ran freshReading 0 cs) (length cs - 1))
-    × (stripRule cs .number ≡ 0 → stripItems cs ≡ ranItems freshReading 0 cs)
+    × (stripRule cs .number ≡ 0 → stripItems cs ≡ map candidate (ranWords freshReading 0 cs))
 unfolding stripItems itemsRead readBits readFrom
 strip-by-ran cs h = (
   rule-of-reads (ran freshReading 0 cs) cs (reads-ran freshReading [] cs reads-fresh (omega arith)),

@@ -4,11 +4,11 @@ use Prim.Native.Nat.{ℕ, _+_, _-_, _*_, _/_, _%_, _^_, _≤_, _<_}
 use mathlib.Core.Path.{_≡_, refl, ap, sym, _∙_}
 use mathlib.Core.Bool.{true, false, true≢false}
 use mathlib.Core.Logic.{inl, inr}
-use mathlib.Core.List.{List, [], _∷_, _++_, append-assoc, append-nil}
+use mathlib.Core.List.{List, [], _∷_, _++_, map, append-assoc, append-nil}
 use native.Mathlib.Nat.{mod-eq-of-lt}
 use native.Mathlib.Omega.{arith}
 use native.Mathlib.Decide.{decLt}
-use borrow.Author.Tests.{lt-ltb, le-ltb}
+use borrow.Author.Tests.{lt-leb, le-leb}
 use lib.Bits.{bitOr, or-shifted}
 use lib.ListN.{length, getD, length-append}
 use Rattle.lists.specs.Place.{anywhere, lowest, passed}
@@ -17,8 +17,9 @@ use Rattle.symbols.specs.Bits.{Bit, I, lastOf}
 use Rattle.symbols.specs.Bytes.{numberFrom, rowsOf, straysOf, itemsRead, straysRead}
 use Rattle.symbols.specs.Reading.{units, given, lastAfter, readFrom, readBits, sources}
 use Rattle.symbols.specs.Strip.{isStray}
-use Rattle.symbols.specs.machine.Word.{wordItem}
-use Rattle.symbols.specs.machine.Step.{freshReading, shifted, wordOf, closed, steppedBy, stepped, itemClosed}
+use Rattle.symbols.specs.machine.Candidate.{candidate}
+use Rattle.symbols.specs.machine.Step.{freshReading, shifted, codeWord, closed, steppedBy, stepped}
+use Rattle.symbols.specs.machine.Step.{wordBy, wordClosed}
 use Rattle.symbols.specs.declared.Cell.{Cell}
 use Rattle.symbols.specs.declared.Cell.the-variants.{Short, Medium, Long}
 use Rattle.symbols.specs.declared.Reading.{Reading}
@@ -34,12 +35,12 @@ use Rattle.symbols.proofs.ClosingLaws.{word-closed, fair-word}
 -- what a cell more makes of the machine m after the cells cs
 pub record After (m : Reading) (cs : List Cell) (c : Cell) (next : Reading) : Type 0 where
   pub reads : Held next (cs ++ (c ∷ []))
-  pub words : next .words ≡ m .words + length (itemClosed next)
-  pub few : next .done ≡ true → next .held ≤ 4
+  pub words : next .words ≡ m .words + length (wordClosed m c)
+  pub few : 0 < length (wordClosed m c) → next .held ≤ 4
   pub items :
       isStray (readBits (cs ++ (c ∷ []))) ≡ false
       → (isStray (readBits cs) ≡ false)
-      × (itemsRead (readBits (cs ++ (c ∷ []))) ≡ itemsRead (readBits cs) ++ itemClosed next)
+      × (itemsRead (readBits (cs ++ (c ∷ []))) ≡ itemsRead (readBits cs) ++ map candidate (wordClosed m c))
 
 -- The half cells of a cell, shifted in
 
@@ -117,23 +118,21 @@ first-opens m c lead rest letters few none held bits fair = (
 )
 
 first-open : (c : Cell) → Held (stepped freshReading c 0) (c ∷ [])
-unfolding stepped steppedBy shifted freshReading readBits readFrom given lastAfter unitsIn track halves numberFrom
+unfolding stepped steppedBy shifted freshReading readBits readFrom given lastAfter unitsIn track halves
+    numberFrom
 first-open Short = first-opens _ Short _ _ refl (omega arith) refl refl refl refl
 first-open Medium = first-opens _ Medium _ _ refl (omega arith) refl refl refl refl
 first-open Long = first-opens _ Long _ _ refl (omega arith) refl refl refl refl
 
-not-closed : {A : Type 0} → false ≡ true → A
-not-closed h = absurd (true≢false (sym h))
-
 first-after : (c : Cell) → After freshReading [] c (stepped freshReading c 0)
-unfolding stepped steppedBy shifted freshReading itemClosed isStray straysRead itemsRead rowsOf anywhere readBits
+unfolding stepped steppedBy wordBy wordClosed shifted freshReading isStray straysRead itemsRead rowsOf anywhere readBits
     readFrom given lastAfter
 first-after Short =
-    record { reads = first-open Short; words = refl; few = λ h. not-closed h; items = λ h. (refl, refl) }
+    record { reads = first-open Short; words = refl; few = λ h. absurd (omega arith); items = λ h. (refl, refl) }
 first-after Medium =
-    record { reads = first-open Medium; words = refl; few = λ h. not-closed h; items = λ h. (refl, refl) }
+    record { reads = first-open Medium; words = refl; few = λ h. absurd (omega arith); items = λ h. (refl, refl) }
 first-after Long =
-    record { reads = first-open Long; words = refl; few = λ h. not-closed h; items = λ h. (refl, refl) }
+    record { reads = first-open Long; words = refl; few = λ h. absurd (omega arith); items = λ h. (refl, refl) }
 
 -- Every other cell
 
@@ -204,37 +203,50 @@ module _ (m : Reading) (cs : List Cell) (so-far : Held m cs) (room : length cs <
         place = place-kept;
       }
 
+  none-closed : m₁ .held < 17 → wordClosed m c ≡ []
+  unfolding wordClosed wordBy
+  none-closed h = rw (lt-leb 17 (m₁ .held) h)
+
+  one-closed : 17 ≤ m₁ .held → wordClosed m c ≡ codeWord m₁ ∷ []
+  unfolding wordClosed wordBy
+  one-closed h = rw (le-leb 17 (m₁ .held) h)
+
   after-open : m₁ .held < 17 → After m cs c m₁
-  unfolding shifted itemClosed isStray grown
+  unfolding shifted isStray grown
   after-open h =
       let few : length all < 8 = omega (arith, letters-held) in
-      let none = sym (append-nil (itemsRead (readBits cs))) in
+      let none = none-closed h in
       record {
         reads = (grown, few);
-        words = omega arith;
-        few = λ d. not-closed d;
+        words = rw none (omega arith);
+        few = λ d. absurd (omega (arith, ap length none));
         items = λ fair. (
           ap (anywhere passed) (strays-so-far m cs so-far ∙ sym (strays-so-far m₁ cs′ (grown, few))) ∙ fair,
-          items-so-far m₁ cs′ (grown, few) ∙ sym (items-so-far m cs so-far) ∙ none,
+          items-so-far m₁ cs′ (grown, few)
+              ∙ sym (items-so-far m cs so-far)
+              ∙ rw none (sym (append-nil (itemsRead (readBits cs)))),
         );
       }
 
   after-closed : 17 ≤ m₁ .held → After m cs c (closed m₁ (length cs))
-  unfolding closed shifted itemClosed isStray grown
+  unfolding closed shifted isStray grown
   after-closed h =
       let more-cells : length cs′ ≡ length cs + 1 = omega (arith, length-append cs (c ∷ [])) in
       let last : length cs′ - 1 ≡ length cs = omega arith in
       let range : (17 ≤ m₁ .held) × (m₁ .held ≤ 20) = (h, omega (arith, held-grown, held-before, units-range c .1)) in
       let rows : (8 ≤ length all) × (length all < 16) =
       (omega (arith, letters-held), (let r = range .1 in omega (arith, letters-held))) in
+      let one = one-closed h in
       record {
         reads = rw last at (word-closed m₁ cs′ grown range (omega arith) rows few-words);
-        words = mod-eq-of-lt few-words;
+        words = rw one (mod-eq-of-lt few-words);
         few = λ d. (let r = range .1 in omega arith);
         items = λ fair.
             let w = fair-word m₁ cs′ grown range (omega arith) rows few-words fair in (
               ap (anywhere passed) (strays-so-far m cs so-far) ∙ w .0,
-              w .1 ∙ ap (λ (l : List ℕ). l ++ (wordItem (wordOf m₁) ∷ [])) (sym (items-so-far m cs so-far)),
+              w .1
+                  ∙ ap (λ (l : List ℕ). l ++ (candidate (codeWord m₁) ∷ [])) (sym (items-so-far m cs so-far))
+                  ∙ rw one refl,
             );
       }
 
@@ -242,8 +254,8 @@ module _ (m : Reading) (cs : List Cell) (so-far : Held m cs) (room : length cs <
   unfolding stepped steppedBy
   after-step =
       elim (decLt (m₁ .held) 17) [
-        | yes l ↦ rw (lt-ltb (m₁ .held) 17 l) (after-open l)
-        | no l ↦ let h : 17 ≤ m₁ .held = omega arith in rw (le-ltb (m₁ .held) 17 h) (after-closed h)
+        | yes l ↦ rw (lt-leb 17 (m₁ .held) l) (after-open l)
+        | no l ↦ let h : 17 ≤ m₁ .held = omega arith in rw (le-leb 17 (m₁ .held) h) (after-closed h)
       ]
 
 -- one cell more, at its place
@@ -258,5 +270,5 @@ module _ (m : Reading) (cs : List Cell) (r : Reads m cs) (room : length cs < 2 ^
   reads-step = inr (after-cell m cs r room c .reads)
 
   -- a cell that closes a word leaves at most one bit more
-  pub step-held : stepped m c (length cs) .done ≡ true → stepped m c (length cs) .held ≤ 4
+  pub step-held : 0 < length (wordClosed m c) → stepped m c (length cs) .held ≤ 4
   step-held = after-cell m cs r room c .few

@@ -1,6 +1,6 @@
 -- What a word of half cells says of its byte: one test, which antt computes over every letter and row of eight letters
 -- after it in which gaps stand as reading gives them.
-use Prim.Native.Nat.{ℕ, zero, suc, _+_, _*_}
+use Prim.Native.Nat.{ℕ, zero, suc, _+_, _*_, _%_}
 use mathlib.Core.Path.{_≡_, refl, ap}
 use mathlib.Core.Bool.{Bool, true, false, not, _&&_, _||_}
 use mathlib.Core.List.{List, [], _∷_, _++_}
@@ -11,7 +11,8 @@ use lib.ListN.{length, take}
 use Rattle.lists.specs.Place.{anywhere, lowest, passed}
 use Rattle.symbols.specs.Bits.{Bit, O, I, G, lastOf}
 use Rattle.symbols.specs.Bytes.{digit, numberFrom, isGap, gapInPlace, straysFrom, rowStrays, itemOf}
-use Rattle.symbols.specs.machine.Word.{dataByte, missing, misfits, wordItem}
+use Rattle.symbols.specs.machine.Candidate.{dataBits, candidate}
+use Rattle.symbols.specs.machine.Word.{missing, misfits}
 use Rattle.symbols.proofs.TestLaws.{and-false, holds, implied, left-of, right-of}
 use Rattle.symbols.proofs.RowLaws.{overLetters, over-letters}
 use Rattle.symbols.proofs.CellLaws.{follows, sound}
@@ -34,7 +35,7 @@ wordRight a row =
     let tests = shownTests a row in
     sameBool (anywhere passed tests) (misfits x)
     && (not (misfits x) || eqb (leadingZeros 32 (missing x)) (15 + 2 * lowest passed tests))
-    && (misfits x || isGap (lastOf a row) || eqb (itemOf row) (wordItem x))
+    && (misfits x || isGap (lastOf a row) || eqb (itemOf row) (candidate (x % 65536)))
 
 -- a test of every row of n letters that can follow one
 overNext : Bit → (Bit → Bool) → Bool
@@ -48,7 +49,7 @@ overRows (suc n) a f = overNext a λ b. overRows n b λ row. f (b ∷ row)
 
 all-words-right : T (overLetters λ a. overRows 8 a (wordRight a))
 unfolding overLetters overRows overNext wordRight sameBool wordAfter shownTests cellsAfter clockAfter dataOf numberFrom
-    lastOf misfits missing wordItem dataByte itemOf anywhere lowest rowStrays straysFrom gapInPlace
+    lastOf misfits missing candidate dataBits itemOf anywhere lowest rowStrays straysFrom gapInPlace
     leadingZeros
 all-words-right = tt
 
@@ -85,7 +86,10 @@ pub record Verdict (a : Bit) (row : List Bit) : Type 0 where
   pub place :
       misfits (wordAfter a row) ≡ true
       → leadingZeros 32 (missing (wordAfter a row)) ≡ 15 + 2 * lowest passed (shownTests a row)
-  pub item : misfits (wordAfter a row) ≡ false → isGap (lastOf a row) ≡ false → itemOf row ≡ wordItem (wordAfter a row)
+  pub item :
+      misfits (wordAfter a row) ≡ false
+      → isGap (lastOf a row) ≡ false
+      → itemOf row ≡ candidate (wordAfter a row % 65536)
 
 same-bool : (a b : Bool) → T (sameBool a b) → a ≡ b
 unfolding sameBool
@@ -104,7 +108,7 @@ word-verdict a row n s =
     let tests = shownTests a row in
     let p : Bool = sameBool (anywhere passed tests) (misfits x) in
     let q : Bool = not (misfits x) || eqb (leadingZeros 32 (missing x)) (15 + 2 * lowest passed tests) in
-    let r : Bool = misfits x || isGap (lastOf a row) || eqb (itemOf row) (wordItem x) in
+    let r : Bool = misfits x || isGap (lastOf a row) || eqb (itemOf row) (candidate (x % 65536)) in
     let t = over-rows 8 a (wordRight a) (over-letters (λ a. overRows 8 a (wordRight a)) all-words-right a) row n s in
     let pq = left-of (p && q) r t in
     record {

@@ -1,10 +1,10 @@
 // Document 01, "From bits to cells": bits, symbols and cells of written bytes, and the reading of cells.
 ghost use Prim.Native.Nat.{_≤_};
 ghost use mathlib.Core.Path.{_≡_};
-ghost use Rattle.symbols.specs.machine.Step.{freshReading, shifted, closed, steppedBy};
+ghost use Rattle.symbols.specs.machine.Step.{freshReading, shifted, isWhole, codeWord, closed};
 ghost use Rattle.symbols.specs.machine.Step.{strayNow, placeNow};
 
-mod word;
+pub mod word;
 
 // A cell as it is read: of 2, 3 or 4 units.
 pub enum Cell {
@@ -24,12 +24,8 @@ pub struct Reading {
     pub words: u32,
     // the place of the cell of the lowest gap out of place, where there is one
     pub place: u32,
-    // what the last closed byte is
-    pub item: u16,
     // a gap was out of place
     pub stray: bool,
-    // the last cell closed a byte
-    pub done: bool,
 }
 
 impl Reading {
@@ -42,22 +38,59 @@ impl Reading {
             held: 0,
             words: 0,
             place: 0,
-            item: 0,
             stray: false,
-            done: false,
         }
     }
 
-    // One cell more, of so many units, which stands at this place of the caller's list. A byte is whole with its 16
-    // half cells and the data bit before it.
-    pub fn step(self, units: u32, at: u32) -> Reading
-        ensures { λ r. ⌜ r ≡ steppedBy self units at ⌝ }
+    // One cell more, of so many units: 0s, then the 1 that ends it.
+    pub fn shift(mut self, units: u8) -> Reading
+        ensures { λ r. ⌜ r ≡ shifted self units ⌝ }
     {
-        let next = self.shift(units);
-        if next.held < 17 {
-            return next;
+        let more = units as u32;
+        self.bits = self.bits << (more % 32) | 1;
+        self.held = std::num::wrapping_add_u32(self.held, more);
+        self
+    }
+
+    // A byte is whole with its 16 half cells and the data bit before it.
+    pub fn is_whole(self) -> bool
+        ensures { λ r. ⌜ r ≡ isWhole self ⌝ }
+    {
+        17 <= self.held
+    }
+
+    // The code word of a byte that is whole.
+    pub fn word(self) -> u16
+        requires { ⌜ 17 ≤ self .held ⌝ }
+        ensures { λ r. ⌜ r ≡ codeWord self ⌝ }
+    {
+        let surplus = (self.held - 17) % 32;
+        let x = (self.bits >> surplus) % 131072;
+        (x % 65536) as u16
+    }
+
+    // On to the next byte after the cell at this place made one whole. Of the gaps out of place the lowest is kept.
+    pub fn close(mut self, at: u32) -> Reading
+        requires { ⌜ 17 ≤ self .held ⌝ }
+        ensures { λ r. ⌜ r ≡ closed self at ⌝ }
+    {
+        let surplus = (self.held - 17) % 32;
+        let x = (self.bits >> surplus) % 131072;
+        let gaps = word::missing(x);
+        self.held -= 16;
+        self.words = std::num::wrapping_add_u32(self.words, 1);
+        if gaps == 0 {
+            return self;
         }
-        next.close(at)
+        if word::is_mark(x) {
+            return self;
+        }
+        if self.stray {
+            return self;
+        }
+        self.stray = true;
+        self.place = word::first_of_cells(at, word::cells_since(self.bits, surplus, gaps));
+        self
     }
 
     // A gap was out of place, also one on the last bit, which no later byte has shown.
@@ -75,43 +108,5 @@ impl Reading {
             return self.place;
         }
         last
-    }
-
-    // The half cells of a cell: 0s, then the 1 that ends it.
-    fn shift(mut self, units: u32) -> Reading
-        ensures { λ r. ⌜ r ≡ shifted self units ⌝ }
-    {
-        self.bits = self.bits << (units % 32) | 1;
-        self.held = std::num::wrapping_add_u32(self.held, units);
-        self.done = false;
-        self
-    }
-
-    // A byte is whole. Of the gaps out of place the lowest is kept.
-    fn close(mut self, at: u32) -> Reading
-        requires { ⌜ 17 ≤ self .held ⌝ }
-        ensures { λ r. ⌜ r ≡ closed self at ⌝ }
-    {
-        let surplus = (self.held - 17) % 32;
-        let x = (self.bits >> surplus) % 131072;
-        let byte = word::data_byte(x);
-        let gaps = word::missing(x);
-        self.held -= 16;
-        self.words = std::num::wrapping_add_u32(self.words, 1);
-        self.done = true;
-        self.item = byte;
-        if gaps == 0 {
-            return self;
-        }
-        self.item = byte + 256;
-        if word::is_mark(x) {
-            return self;
-        }
-        if self.stray {
-            return self;
-        }
-        self.stray = true;
-        self.place = word::first_of_cells(at, word::cells_since(self.bits, surplus, gaps));
-        self
     }
 }

@@ -1,21 +1,52 @@
-// What a byte's half cells say. A word x has 17: at place 16 the data bit before the byte, then the byte's clock and
-// data bits in turn, so that its data bits stand at the even places.
+// What a byte's half cells say. Its word has 16, clock and data bits in turn, so that the data bits stand at the even
+// places; x has the data bit before the byte as well, at place 16.
 ghost use Prim.Native.Nat.{_<_};
 ghost use mathlib.Core.Path.{_≡_};
-ghost use Rattle.symbols.specs.machine.Word.{dataByte, missing, isMarkWord, cellsSince, firstOfCells};
+ghost use mathlib.Core.List.{map};
+ghost use Rattle.symbols.specs.machine.Candidate.{dataBits, candidate};
+ghost use Rattle.symbols.specs.machine.Word.{missing, isMarkWord, cellsSince, firstOfCells};
+
+const MARK_A1: u16 = 0x1a1;
+
+const MARK_C2: u16 = 0x1c2;
 
 // The words of the marks, each with its gap.
-const A1_WORD: u32 = 0x4489;
+const WORD_A1: u16 = 0x4489;
 
-const C2_WORD: u32 = 0x5224;
+const WORD_C2: u16 = 0x5224;
 
-// The data bits, brought together by two, by four and by eight: a product by 3, 5 or 17 has each beside the next.
-pub fn data_byte(x: u32) -> u16
-    ensures { λ r. ⌜ r ≡ dataByte x ⌝ }
+// Every second bit of a word, moved together.
+fn data_bits(word: u16) -> u16
+    ensures { λ r. ⌜ r ≡ dataBits word ⌝ }
 {
-    let pairs = (x & 0x5555) * 3 & 0x6666;
-    let fours = pairs * 5 & 0x7878;
-    (fours * 17 / 128 % 256) as u16
+    let alone = word & 0x5555;
+    let pairs = (alone | (alone >> 1)) & 0x3333;
+    let fours = (pairs | (pairs >> 2)) & 0x0f0f;
+    (fours | (fours >> 4)) & 0x00ff
+}
+
+// The one byte that can have a word of 16 half cells: whether it has it depends on the data bit before.
+pub fn byte_of(word: u16) -> u16
+    ensures { λ r. ⌜ r ≡ candidate word ⌝ }
+{
+    if word == WORD_A1 {
+        return MARK_A1;
+    }
+    if word == WORD_C2 {
+        return MARK_C2;
+    }
+    data_bits(word)
+}
+
+// Each word of a list replaced by its byte.
+pub fn words_to_bytes(words: &mut [u16])
+    ensures { λ _. ⌜ now (words .exit) ≡ map candidate (now (words .entry)) ⌝ }
+{
+    let mut k: usize = 0;
+    while k < words.len() {
+        words[k] = byte_of(words[k]);
+        k += 1;
+    }
 }
 
 // The clock bits that a gap leaves out, each at the place above its own: it is 0 between two data bits 0.
@@ -28,8 +59,8 @@ pub fn missing(x: u32) -> u32
 pub fn is_mark(x: u32) -> bool
     ensures { λ r. ⌜ r ≡ isMarkWord x ⌝ }
 {
-    let word = x % 65536;
-    (word == A1_WORD) | (word == C2_WORD)
+    let word = (x % 65536) as u16;
+    (word == WORD_A1) | (word == WORD_C2)
 }
 
 // With its half cells in the low places of these bits, but for a surplus: the cells that end after the first missing

@@ -2,3 +2,4 @@ pub mod ClassLaws
 pub mod RangeLaws
 pub mod ProfileLaws
 pub mod EdgeLaws
+pub mod UnitsLaws

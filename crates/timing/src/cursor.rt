@@ -1,8 +1,7 @@
 // The one way to class intervals: a cursor that goes over a list from its first interval on.
 ghost use mathlib.Core.Path.{_≡_};
-ghost use mathlib.Core.Bool.{true};
-ghost use Rattle.timing.specs.Class.{atStart, classIn, cursorPast, classed};
-ghost use Rattle.timing.specs.Class.{isCell, isTwo, classNumber, Ascending};
+ghost use Rattle.timing.specs.Class.{atStart, classIn, isCell, isTwo, cursorPast, classed, Ascending};
+ghost use Rattle.timing.specs.Edges.{unitsIn};
 use crate::Class;
 use crate::HalfClocks;
 use crate::Profile;
@@ -80,13 +79,11 @@ impl Cursor {
         std::num::wrapping_sub_u16(interval, self.min.0) < self.b23.0 - self.min.0
     }
 
-    // Which of the three a cell is: its units, one more for each edge that the interval reaches.
-    pub fn units(self, interval: u16) -> u32
-        requires { ⌜ Ascending self ⌝ }
-        requires { ⌜ isCell (classIn self interval) ≡ true ⌝ }
-        ensures { λ r. ⌜ r ≡ classNumber (classIn self interval) ⌝ }
+    // The units of its cell, where it is one: one more for each edge between the windows that it reaches.
+    pub fn units(self, interval: u16) -> u8
+        ensures { λ r. ⌜ r ≡ unitsIn self interval ⌝ }
     {
-        2 + (self.b23.0 <= interval) as u32 + (self.b34.0 <= interval) as u32
+        2 + (self.b23.0 <= interval) as u8 + (self.b34.0 <= interval) as u8
     }
 
     // Where the classing stands after it.

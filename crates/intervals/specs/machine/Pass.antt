@@ -1,40 +1,29 @@
 -- Machine, not meaning: laws tie it to Cells (`proofs/PassLaws`). No lemmas here.
--- One pass of a reader: the reading machine of the crate symbols over the classes of a list.
+-- One pass of a reader: the reading machine of the crate symbols over the units of a list's cells.
 use Prim.Native.Nat.{ℕ, suc}
 use mathlib.Core.Bool.{cond}
 use mathlib.Core.List.{List, [], _∷_, _++_}
-use lib.Dec.{eqb, ltb}
-use Rattle.timing.specs.Class.{isCell, classNumber}
-use Rattle.timing.specs.declared.Class.{Class}
-use Rattle.symbols.specs.machine.Step.{freshReading, steppedBy, itemClosed}
+use lib.Dec.{ltb}
+use Rattle.symbols.specs.machine.Step.{freshReading, steppedBy, wordBy}
 use Rattle.symbols.specs.declared.Reading.{Reading}
 use Rattle.intervals.specs.declared.Pass.{Pass}
-use Rattle.intervals.specs.declared.Pass.the-variants.{Read, TooShort, TooLong}
 
--- how an interval at place k that is no cell stops a pass
-unfoldable pub stoppedBy : Class → ℕ → Pass
-stoppedBy c k = cond (eqb (classNumber c) 1) (TooShort k) (TooLong k)
-
--- how a pass ends, and the items that it closes
+-- how far a pass came, and the code words that it closed
 pub record Passed : Type 0 where
   pub end : Pass
-  pub items : List ℕ
+  pub words : List ℕ
 
-abbrev pub ended : Pass → Passed
-ended end = record { end = end; items = [] }
+abbrev pub ended : Reading → ℕ → Passed
+ended m k = record { end = record { reading = m; used = k }; words = [] }
 
 abbrev pub after : List ℕ → Passed → Passed
-after items rest = record { end = rest .end; items = items ++ rest .items }
+after words rest = record { end = rest .end; words = words ++ rest .words }
 
--- a pass that ends with so many bytes, from the class at place k on
-unfoldable pub passFrom : ℕ → ℕ → Reading → List Class → Passed
-passFrom most k m [] = ended (Read m k)
-passFrom most k m (c ∷ cs) =
-    cond (ltb (m .words) most)
-    (cond (isCell c)
-    (let next = steppedBy m (classNumber c) k in after (itemClosed next) (passFrom most (suc k) next cs))
-    (ended (stoppedBy c k)))
-    (ended (Read m k))
+-- a pass that ends with so many bytes, from the cell at place k on
+unfoldable pub passFrom : ℕ → ℕ → Reading → List ℕ → Passed
+passFrom most k m [] = ended m k
+passFrom most k m (u ∷ us) =
+    cond (ltb (m .words) most) (after (wordBy m u) (passFrom most (suc k) (steppedBy m u k) us)) (ended m k)
 
-unfoldable pub passed : ℕ → List Class → Passed
-passed most cs = passFrom most 0 freshReading cs
+unfoldable pub passed : ℕ → List ℕ → Passed
+passed most us = passFrom most 0 freshReading us

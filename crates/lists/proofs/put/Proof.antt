@@ -1,8 +1,7 @@
--- Why `lists::put` stores what was given: one number, stored or past the end, or none. Rests on no axiom.
-use mathlib.Core.Path.{refl, sym}
-use native.Mathlib.Nat.{add-zero}
+-- `lists::put` is a store, and past the end a store changes nothing.
+use mathlib.Core.Path.{sym}
 use borrow.Author.Needs.{needs}
-use Rattle.lists.proofs.StoreLaws.{stored-none, stored-one, stored-past-end}
+use lib.Seq.{set-out}
 use Rattle.lists.proofs.put.Statement.{statement}
 use Rattle.lists.proofs.put.Tie as tie
 
@@ -12,33 +11,14 @@ mul-out c = search needs
 slice-write-out : tie.Need-slice-write-out
 slice-write-out c = search needs
 
-add-result : tie.Need-add-result
-add-result c = search needs
-
 same-length : tie.Need-same-length
 same-length c = search needs
 
 returns : tie.Need-returns
-returns c = rw (c .before .if1 .taken) (refl, sym (stored-one _ _ _))
-
-add-result-2 : tie.Need-add-result-2
-add-result-2 c = search needs
+returns c = search needs
 
 returns-2 : tie.Need-returns-2
-returns-2 c = rw (c .before .if1 .taken) (refl, sym (stored-past-end _ _ _ (c .if2 .left)))
-
-returns-3 : tie.Need-returns-3
-returns-3 c = rw (c .if1 .left) (sym (add-zero _), sym (stored-none _ _))
+returns-2 c = sym (set-out _ _ _ (c .if1 .left))
 
 pub put-spec : {M : Type 1} → statement M
-put-spec =
-    tie.close
-    (tie.spec
-    mul-out
-    slice-write-out
-    add-result
-    same-length
-    returns
-    add-result-2
-    returns-2
-    returns-3)
+put-spec = tie.close (tie.spec mul-out slice-write-out same-length returns returns-2)

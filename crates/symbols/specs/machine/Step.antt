@@ -3,20 +3,20 @@
 -- The machine that reads cells one by one: a shift register of half cells, as a data separator has one, of which a word
 -- is taken when it is whole; and what it gives at the end.
 use Prim.Native.Nat.{ℕ, suc, _+_, _-_, _*_, _/_, _%_, _^_}
-use mathlib.Core.Bool.{Bool, true, false, cond, not, _&&_, _||_}
+use mathlib.Core.Bool.{Bool, false, cond, not, _&&_, _||_}
 use mathlib.Core.List.{List, [], _∷_, _++_}
 use lib.Bits.{bitOr}
-use lib.Dec.{eqb, ltb}
+use lib.Dec.{eqb, leb, ltb}
 use Rattle.lists.specs.Filled.{ifGiven}
 use Rattle.refusal.specs.Answer.{Answer, accepted, refuseIf}
 use Rattle.symbols.specs.Reading.{units}
-use Rattle.symbols.specs.machine.Word.{missing, misfits, wordItem, cellsSince, firstOfCells}
+use Rattle.symbols.specs.machine.Word.{missing, misfits, cellsSince, firstOfCells}
 use Rattle.symbols.specs.declared.Cell.{Cell}
 use Rattle.symbols.specs.declared.Reading.{Reading}
 
 -- the transition before the first cell is the lead's clock
 unfoldable pub freshReading : Reading
-freshReading = record { bits = 1; held = 0; words = 0; place = 0; item = 0; stray = false; done = false }
+freshReading = record { bits = 1; held = 0; words = 0; place = 0; stray = false }
 
 -- the half cells of one cell more: 0s, then the 1 that ends it
 unfoldable pub shifted : Reading → ℕ → Reading
@@ -26,17 +26,22 @@ shifted m u =
       held = (m .held + u) % 2 ^ 32;
       words = m .words;
       place = m .place;
-      item = m .item;
       stray = m .stray;
-      done = false;
     }
 
--- the half cells past the word that is whole, and the word
+-- a word is whole with its 16 half cells and the data bit before it
+abbrev pub isWhole : Reading → Bool
+isWhole m = leb 17 (m .held)
+
+-- the half cells past the word that is whole; the word with the data bit before it, and without
 unfoldable pub surplus : Reading → ℕ
 surplus m = (m .held - 17) % 32
 
 unfoldable pub wordOf : Reading → ℕ
 wordOf m = m .bits / 2 ^ surplus m % 2 ^ 17
+
+unfoldable pub codeWord : Reading → ℕ
+codeWord m = wordOf m % 65536
 
 -- a word is closed by the cell at a place; of the gaps out of place the lowest counts
 unfoldable pub closed : Reading → ℕ → Reading
@@ -49,32 +54,33 @@ closed m at =
           cond (misfits (wordOf m) && not (m .stray))
           (firstOfCells at (cellsSince (m .bits) (surplus m) (missing (wordOf m))))
           (m .place);
-      item = wordItem (wordOf m);
       stray = misfits (wordOf m) || m .stray;
-      done = true;
     }
 
--- a word is whole with its 16 half cells and the data bit before it
+-- one cell more, at a place, by its units
 unfoldable pub steppedBy : Reading → ℕ → ℕ → Reading
-steppedBy m u at = cond (ltb (shifted m u .held) 17) (shifted m u) (closed (shifted m u) at)
+steppedBy m u at = cond (isWhole (shifted m u)) (closed (shifted m u) at) (shifted m u)
 
--- one cell more, at a place
+-- the code word that it closes, if it does
+unfoldable pub wordBy : Reading → ℕ → List ℕ
+wordBy m u = ifGiven (isWhole (shifted m u)) (codeWord (shifted m u))
+
+-- the same of a cell
 unfoldable pub stepped : Reading → Cell → ℕ → Reading
 stepped m c at = steppedBy m (units c) at
 
--- the item that the last cell gave, if it closed a word
-unfoldable pub itemClosed : Reading → List ℕ
-itemClosed m = ifGiven (m .done) (m .item)
+unfoldable pub wordClosed : Reading → Cell → List ℕ
+wordClosed m c = wordBy m (units c)
 
 -- cells read one after the other, the first at place k
 unfoldable pub ran : Reading → ℕ → List Cell → Reading
 ran m k [] = m
 ran m k (c ∷ cs) = ran (stepped m c k) (suc k) cs
 
--- the items that they give
-unfoldable pub ranItems : Reading → ℕ → List Cell → List ℕ
-ranItems m k [] = []
-ranItems m k (c ∷ cs) = itemClosed (stepped m c k) ++ ranItems (stepped m c k) (suc k) cs
+-- the code words that they close
+unfoldable pub ranWords : Reading → ℕ → List Cell → List ℕ
+ranWords m k [] = []
+ranWords m k (c ∷ cs) = wordClosed m c ++ ranWords (stepped m c k) (suc k) cs
 
 -- at the end of a strip or a field: a gap that begins on the last bit of the last word has left 0 0 0 1
 abbrev pub endsInGap : Reading → Bool

@@ -2,17 +2,10 @@
 -- What the half cells of a byte say. A word x has 17: at place 16 the data bit before the byte, then the byte's clock
 -- and data bits in turn, most significant first. So its data bits stand at the even places.
 use Prim.Native.Nat.{ℕ, _+_, _-_, _*_, _/_, _%_, _^_}
-use mathlib.Core.Bool.{Bool, cond, not, _&&_, _||_}
+use mathlib.Core.Bool.{Bool, not, _&&_, _||_}
 use lib.Bits.{bitAnd, bitOr}
 use lib.Count.{ones, leadingZeros}
 use lib.Dec.{eqb}
-
--- two bits together, then four, then eight: a product by 3, 5 or 17 has each of them beside the next
-unfoldable pub dataByte : ℕ → ℕ
-dataByte x =
-    let pairs = bitAnd (bitAnd x 0x5555 * 3) 0x6666 in
-    let fours = bitAnd (pairs * 5) 0x7878 in
-    fours * 17 / 2 ^ 7 % 256
 
 -- the clock bits that a gap leaves out, each shown at the place above it: it is 0 between two data bits 0
 unfoldable pub missing : ℕ → ℕ
@@ -25,9 +18,6 @@ isMarkWord x = eqb (x % 65536) 0x4489 || eqb (x % 65536) 0x5224
 -- a gap out of place
 unfoldable pub misfits : ℕ → Bool
 misfits x = not (eqb (missing x) 0) && not (isMarkWord x)
-
-unfoldable pub wordItem : ℕ → ℕ
-wordItem x = cond (eqb (missing x) 0) (dataByte x) (dataByte x + 256)
 
 -- with its half cells in the low places of some bits, but for a surplus: the cells that end after its first missing
 -- clock, one for each 1

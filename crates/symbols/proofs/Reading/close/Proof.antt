@@ -2,9 +2,8 @@
 -- out of place before.
 use borrow.Author.Tests.{eq-eqb, ne-eqb}
 use mathlib.Core.Path.{sym, _∙_}
-use native.Mathlib.Omega.{arith}
 use borrow.Author.Needs.{needs}
-use Rattle.symbols.specs.machine.Word.{dataByte, misfits, wordItem}
+use Rattle.symbols.specs.machine.Word.{misfits}
 use Rattle.symbols.specs.machine.Step.{surplus, wordOf, closed}
 use Rattle.symbols.proofs.Reading.close.Statement.{statement}
 use Rattle.symbols.proofs.Reading.close.Tie as tie
@@ -14,9 +13,6 @@ sub-surplus c = search needs
 
 shr-x : tie.Need-shr-x
 shr-x c = search needs
-
-data-byte-requires : tie.Need-data-byte-requires
-data-byte-requires c κs = search needs
 
 missing-requires : tie.Need-missing-requires
 missing-requires c κs = search needs
@@ -28,27 +24,21 @@ wrapping-add-u32-requires : tie.Need-wrapping-add-u32-requires
 wrapping-add-u32-requires c κs = search needs
 
 returns : tie.Need-returns
-unfolding misfits wordItem surplus wordOf closed
+unfolding misfits surplus wordOf closed
 returns c =
     rw (
-      ← c .before .before .before .before .data-byte .ensures,
       ← c .before .before .before .missing .ensures,
       eq-eqb _ _ (c .if1 .taken),
       c .before .wrapping-add-u32 .ensures,
     )
 
-add-self : tie.Need-add-self
-unfolding dataByte
-add-self c = record { fits = omega (arith, c .before .before .before .before .data-byte .ensures) }
-
 is-mark-requires : tie.Need-is-mark-requires
 is-mark-requires c κs = search needs
 
 returns-2 : tie.Need-returns-2
-unfolding misfits wordItem surplus wordOf closed
+unfolding misfits surplus wordOf closed
 returns-2 c =
     rw (
-      ← c .before .before .before .before .before .before .data-byte .ensures,
       ← c .before .before .before .before .before .missing .ensures,
       ne-eqb _ _ (c .before .before .if1 .left),
       sym (c .before .is-mark .ensures) ∙ c .if2 .taken,
@@ -56,10 +46,9 @@ returns-2 c =
     )
 
 returns-3 : tie.Need-returns-3
-unfolding misfits wordItem surplus wordOf closed
+unfolding misfits surplus wordOf closed
 returns-3 c =
     rw (
-      ← c .before .before .before .before .before .before .before .data-byte .ensures,
       ← c .before .before .before .before .before .before .missing .ensures,
       ne-eqb _ _ (c .before .before .before .if1 .left),
       sym (c .before .before .is-mark .ensures) ∙ c .before .if2 .left,
@@ -74,10 +63,9 @@ first-of-cells-requires : tie.Need-first-of-cells-requires
 first-of-cells-requires c κs = search needs
 
 returns-4 : tie.Need-returns-4
-unfolding misfits wordItem surplus wordOf closed
+unfolding misfits surplus wordOf closed
 returns-4 c =
     rw (
-      ← c .before .before .before .before .before .before .before .before .before .data-byte .ensures,
       ← c .before .before .before .before .before .before .before .before .missing .ensures,
       ne-eqb _ _ (c .before .before .before .before .before .if1 .left),
       sym (c .before .before .before .before .is-mark .ensures) ∙ c .before .before .before .if2 .left,
@@ -93,12 +81,10 @@ close-spec =
     (tie.spec
     sub-surplus
     shr-x
-    data-byte-requires
     missing-requires
     sub-self
     wrapping-add-u32-requires
     returns
-    add-self
     is-mark-requires
     returns-2
     returns-3

@@ -1,11 +1,11 @@
--- Why `Cursor::units` is the number of a cell's class: it has 2 and one more for each edge that the interval reaches.
--- Rests on no axiom.
+-- `Cursor::units` is `unitsIn` itself, and never above 4. Rests on no axiom.
 use Prim.Native.Nat.{_≤_}
+use mathlib.Core.Path.{refl}
 use mathlib.Core.Bool.{Bool, true, false}
 use native.Mathlib.Omega.{arith}
 use mir.Val.{boolByte}
 use lib.Dec.{leb}
-use Rattle.timing.proofs.EdgeLaws.{by-edges}
+use Rattle.timing.specs.Edges.{unitsIn}
 use borrow.Author.Needs.{needs}
 use Rattle.timing.proofs.cursor.Cursor.units.Statement.{statement}
 use Rattle.timing.proofs.cursor.Cursor.units.Tie as tie
@@ -34,7 +34,8 @@ add-result-2 c =
     )
 
 returns : tie.Need-returns
-returns c = by-edges _ _ (c .before .before .pre .0) .1 (c .before .before .pre .1)
+unfolding unitsIn
+returns c = refl
 
 pub units-spec : {M : Type 1} → statement M
 units-spec = tie.close (tie.spec cast-result add-result cast-result-2 add-result-2 returns)

@@ -1,10 +1,10 @@
--- `words::byte_of` makes the tests of `candidate` in its order. Rests on no axiom.
+-- `word::byte_of` makes the tests of `candidate` in its order. Rests on no axiom.
 use mathlib.Core.Path.{refl}
 use borrow.Author.Tests.{ne-eqb}
 use borrow.Author.Needs.{needs}
-use Rattle.images.specs.machine.Candidate.{candidate}
-use Rattle.images.proofs.words.byte_of.Statement.{statement}
-use Rattle.images.proofs.words.byte_of.Tie as tie
+use Rattle.symbols.specs.machine.Candidate.{candidate}
+use Rattle.symbols.proofs.word.byte_of.Statement.{statement}
+use Rattle.symbols.proofs.word.byte_of.Tie as tie
 
 returns : tie.Need-returns
 unfolding candidate

@@ -1,0 +1,136 @@
+-- Why `codec::reader::read_cells` answers `readRule`: the first pass decides every refusal and the count, the second
+-- stores the code words of the same items. Rests on no axiom.
+use Prim.Native.Nat.{_-_}
+use mathlib.Core.Path.{_≡_, sym, ap, _∙_}
+use native.Mathlib.Omega.{arith}
+use denote.Ref.{now}
+use lib.Seq.{length-take-le}
+use Rattle.refusal.specs.Answer.{countedAnswer}
+use Rattle.refusal.specs.declared.Refusal.the-variants.{OutputTooShort}
+use Rattle.refusal.proofs.AnswerLaws.{refusal-keeps-the-buffer}
+use Rattle.symbols.specs.machine.Step.{stripAnswer}
+use Rattle.codec.specs.Reader.{readOutput}
+use Rattle.codec.proofs.ReaderLaws.{used-is-small, strip-refuses, room-refuses, room-accepts}
+use borrow.Author.Needs.{needs}
+use Rattle.codec.proofs.reader.read_cells.Statement.{statement}
+use Rattle.codec.proofs.reader.read_cells.Tie as tie
+
+-- what the strip reads as
+answer-is
+    : (c : tie.After-conclude)
+    → let pass = c .before .before .before .before .pass-over .result in
+    countedAnswer (c .conclude .result) ≡ stripAnswer (pass .reading) (pass .used - 1)
+answer-is c = c .conclude .ensures ∙ ap (stripAnswer _) (c .before .last-place .ensures)
+
+cast-pass-over : tie.Need-cast-pass-over
+cast-pass-over c = search needs
+
+slice-aggregate-pass-over : tie.Need-slice-aggregate-pass-over
+slice-aggregate-pass-over c = search needs
+
+pass-over-requires : tie.Need-pass-over-requires
+pass-over-requires c κs = search needs
+
+last-place-requires : tie.Need-last-place-requires
+last-place-requires c κs =
+    let first = c .before .before in
+    let entry = first .before .before .before .before in
+    let pre = entry .pre in
+    let small = used-is-small _ _ (now (entry .args .out)) (pre .0) (pre .1 .0) (pre .1 .1) _ (first .pass-over .ensures .0) in
+    omega arith
+
+conclude-requires : tie.Need-conclude-requires
+conclude-requires c κs = search needs
+
+enum-known-refusal : tie.Need-enum-known-refusal
+enum-known-refusal c = search needs
+
+enum-known-n : tie.Need-enum-known-n
+enum-known-n c = search needs
+
+returns : tie.Need-returns
+unfolding readOutput
+returns c =
+    let counted = c .before .before in
+    let concluded = counted .before .before in
+    let first = concluded .before .before .before .before in
+    let entry = first .before .before .before .before in
+    let pre = entry .pre in
+    let counts = sym (ap countedAnswer (counted .n .given .1)) ∙ answer-is concluded in
+    let rule =
+    room-refuses _ _ (now (entry .args .out)) (pre .0) (pre .1 .0) (pre .1 .1) _ (first .pass-over .ensures .0) _ counts
+    (c .if1 .taken) in
+    (rule, refusal-keeps-the-buffer OutputTooShort _ _ _ rule)
+
+cast-pass-over-2 : tie.Need-cast-pass-over-2
+cast-pass-over-2 c = search needs
+
+pass-over-requires-2 : tie.Need-pass-over-requires-2
+pass-over-requires-2 c κs = search needs
+
+slice-relend-prefix-words-to-bytes : tie.Need-slice-relend-prefix-words-to-bytes
+slice-relend-prefix-words-to-bytes c = search needs
+
+slice-aggregate-words-to-bytes : tie.Need-slice-aggregate-words-to-bytes
+slice-aggregate-words-to-bytes c =
+    let tested = c .before .before .before .before .before in
+    sym (length-take-le _ _ (omega (arith, tested .if1 .left, c .before .before .before .pass-over2 .kept .1 .1 .1 .0)))
+
+words-to-bytes-requires : tie.Need-words-to-bytes-requires
+words-to-bytes-requires c κs = search needs
+
+returns-2 : tie.Need-returns-2
+unfolding readOutput
+returns-2 c =
+    let told = c .before in
+    let concluded = told .before .before in
+    let first = concluded .before .before .before .before in
+    let entry = first .before .before .before .before in
+    let pre = entry .pre in
+    let refusal = told .refusal .given .0 .0 in
+    let refuses = sym (ap countedAnswer (told .refusal .given .1)) ∙ answer-is concluded in
+    let rule =
+    strip-refuses _ _ (now (entry .args .out)) (pre .0) (pre .1 .0) (pre .1 .1) _ (first .pass-over .ensures .0) refusal
+    refuses in
+    (rule, refusal-keeps-the-buffer refusal _ _ _ rule)
+
+same-length : tie.Need-same-length
+same-length c = search needs
+
+returns-3 : tie.Need-returns-3
+returns-3 c =
+    let turned = c .before .before in
+    let second = turned .before .before .before .before in
+    let tested = second .before .before in
+    let counted = tested .before .before in
+    let concluded = counted .before .before in
+    let first = concluded .before .before .before .before in
+    let entry = first .before .before .before .before in
+    let pre = entry .pre in
+    let counts = sym (ap countedAnswer (counted .n .given .1)) ∙ answer-is concluded in
+    rw (turned .words-to-bytes .ensures)
+    (room-accepts _ _ (now (entry .args .out)) (pre .0) (pre .1 .0) (pre .1 .1) _ (first .pass-over .ensures .0) _ counts
+    (tested .if1 .left)
+    _
+    (second .pass-over2 .ensures .1))
+
+pub read-cells-spec : {M : Type 1} → statement M
+read-cells-spec =
+    tie.close
+    (tie.spec
+    cast-pass-over
+    slice-aggregate-pass-over
+    pass-over-requires
+    last-place-requires
+    conclude-requires
+    enum-known-refusal
+    enum-known-n
+    returns
+    cast-pass-over-2
+    pass-over-requires-2
+    slice-relend-prefix-words-to-bytes
+    slice-aggregate-words-to-bytes
+    words-to-bytes-requires
+    returns-2
+    same-length
+    returns-3)

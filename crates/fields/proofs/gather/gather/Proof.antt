@@ -1,0 +1,117 @@
+-- Why `fields::gather::gather` answers `gatherRule` and stores the field's items: an interval that is no cell stops it
+-- where the rule does, and its tests at the end are the rule's. Rests on no axiom.
+mod End
+use mathlib.Core.Path.{sym, ap, _∙_}
+use native.Mathlib.Omega.{arith}
+use lib.ListN.{length-take}
+use lib.Seq.{length-take-le}
+use Rattle.refusal.specs.Answer.{Answer, verdictAnswer}
+use Rattle.refusal.proofs.AnswerLaws.{verdict-accepts}
+use Rattle.timing.proofs.ClassLaws.{classes-of-take}
+use Rattle.intervals.specs.Cells.{edgeRule}
+use End.{refuses, used-is-small, used-is-within, edges-refuse, end-answers, items-are-gathered}
+use borrow.Author.Needs.{needs}
+use Rattle.fields.proofs.gather.gather.Statement.{statement}
+use Rattle.fields.proofs.gather.gather.Tie as tie
+
+pass-over-requires : tie.Need-pass-over-requires
+pass-over-requires c κs = search needs
+
+slice-aggregate-check-edges : tie.Need-slice-aggregate-check-edges
+slice-aggregate-check-edges c =
+    let read = c .before .before .before in
+    let pre = read .before .before .before .before .pre in
+    sym
+    (length-take-le _ _ (used-is-within _ _ _ (pre .0) (pre .1 .0) (pre .1 .1) _ (read .pass-over .ensures .0)))
+
+check-edges-requires : tie.Need-check-edges-requires
+check-edges-requires c κs =
+    let read = c .before .before .before in
+    let entry = read .before .before .before .before in
+    let pre = entry .pre in
+    let used = read .pass-over .result .used in
+    let small = used-is-small _ _ _ (pre .0) (pre .1 .0) (pre .1 .1) _ (read .pass-over .ensures .0) in
+    (pre .0, omega (arith, length-take used (entry .args .intervals .now)))
+
+enum-known-refusal : tie.Need-enum-known-refusal
+enum-known-refusal c = search needs
+
+enum-told : tie.Need-enum-told
+enum-told c = search needs
+
+slice-relend-prefix-words-to-bytes : tie.Need-slice-relend-prefix-words-to-bytes
+slice-relend-prefix-words-to-bytes c = search needs
+
+slice-aggregate-words-to-bytes : tie.Need-slice-aggregate-words-to-bytes
+slice-aggregate-words-to-bytes c =
+    let read = c .before .before .before .before .before .before .before .before in
+    let pre = read .before .before .before .before .pre in
+    sym (length-take-le _ _ (omega (arith, pre .1 .2, read .pass-over .kept .1 .1 .1 .0)))
+
+words-to-bytes-requires : tie.Need-words-to-bytes-requires
+words-to-bytes-requires c κs = search needs
+
+conclude-requires : tie.Need-conclude-requires
+conclude-requires c κs =
+    let read = c .before .before .before .before .before .before .before .before .before .before .before in
+    let pre = read .before .before .before .before .pre in
+    let small = used-is-small _ _ _ (pre .0) (pre .1 .0) (pre .1 .1) _ (read .pass-over .ensures .0) in
+    omega arith
+
+same-length : tie.Need-same-length
+same-length c = search needs
+
+returns : tie.Need-returns
+returns c =
+    let told = c .before in
+    let checked = told .before .before in
+    let read = checked .before .before .before .before in
+    let entry = read .before .before .before .before in
+    let pre = entry .pre in
+    let refusal = told .refusal .given .0 .0 in
+    refuses _ _ refusal _ _
+    (edges-refuse _ _ _ (pre .0) (pre .1 .0) (pre .1 .1) _ (read .pass-over .ensures .0) refusal
+    (sym (ap verdictAnswer (told .refusal .given .1))
+    ∙ checked .check-edges .ensures
+    ∙ ap edgeRule (classes-of-take (entry .args .p) (read .pass-over .result .used) (entry .args .intervals .now))))
+
+same-length-2 : tie.Need-same-length-2
+same-length-2 c = search needs
+
+returns-2 : tie.Need-returns-2
+returns-2 c =
+    let turned = c .before .before .before in
+    let told = turned .before .before .before in
+    let checked = told .before .before in
+    let read = checked .before .before .before .before in
+    let entry = read .before .before .before .before in
+    let pre = entry .pre in
+    let edges =
+    sym (ap (λ (a : Answer). a .number) (ap edgeRule (classes-of-take (entry .args .p) (read .pass-over .result .used) (entry .args .intervals .now))))
+    ∙ verdict-accepts _ _ (checked .check-edges .ensures) (told .enum-told .given .1) in (
+      c .conclude .ensures
+          ∙ end-answers _ _ _ (pre .0) (pre .1 .0) (pre .1 .1) _ (read .pass-over .ensures .0) edges,
+      λ zero.
+          rw (turned .words-to-bytes .ensures)
+          (items-are-gathered _ _ _ (pre .0) (pre .1 .0) (pre .1 .1) _ (read .pass-over .ensures .0) edges zero _ _
+          (pre .1 .2)
+          (read .pass-over .ensures .1)),
+    )
+
+pub gather-spec : {M : Type 1} → statement M
+gather-spec =
+    tie.close
+    (tie.spec
+    pass-over-requires
+    slice-aggregate-check-edges
+    check-edges-requires
+    enum-known-refusal
+    enum-told
+    slice-relend-prefix-words-to-bytes
+    slice-aggregate-words-to-bytes
+    words-to-bytes-requires
+    conclude-requires
+    same-length
+    returns
+    same-length-2
+    returns-2)

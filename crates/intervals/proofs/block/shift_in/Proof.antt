@@ -1,0 +1,153 @@
+-- Why `block::shift_in` gives `passFrom` and stores its words: what is left to read and to store stays the same from
+-- turn to turn. Rests on no axiom.
+mod Turn
+use Prim.Native.Nat.{_+_, _-_, _<_}
+use mathlib.Core.Path.{_≡_, sym, _∙_}
+use native.Mathlib.Omega.{arith}
+use borrow.Author.Tests.{leb-true}
+use lib.ListN.{length}
+use Turn.{Shifting, begins, turn-is-full, turn-ends, turn-stays-open, turn-closes}
+use borrow.Author.Needs.{needs}
+use Rattle.intervals.proofs.block.shift_in.Statement.{statement}
+use Rattle.intervals.proofs.block.shift_in.Tie as tie
+
+abbrev Inv-loop : tie.InvT-loop
+Inv-loop units from most out₀ m₀ k₀ out m k = Shifting most from m₀ units out₀ out m k × (m .words < most)
+
+abbrev μ-loop : tie.MeasureT-loop
+μ-loop units from most out₀ m₀ k₀ out m k = length units - k
+
+-- a turn that closed a byte
+closed-turn
+    : (c : tie.After-close Inv-loop μ-loop)
+    → let turn = c .before .before .before .before .before .before .before .before .before .before .before .before in
+    let args = turn .before .before .before .args in
+    Shifting (args .most) (args .from) (args .start) (args .units .now) (args .out .now) (c .before .before .before .put .last .0)
+    (c .close .result)
+    (turn .loop .k + 1)
+closed-turn c =
+    let tested = c .before .before .before .before .before .before .before in
+    let turn = tested .before .before .before .before .before in
+    let args = turn .before .before .before in
+    turn-closes _ _ _ _ _ (turn .loop .inv .0) (turn .loop .inv .1) (args .fits .most .fits)
+    (tested .before .before .before .before .loop-test .taken)
+    _
+    _
+    _
+    _
+    (tested .before .before .shift .ensures)
+    (sym (tested .before .is-whole .ensures) ∙ tested .if1 .taken)
+    (c .before .before .before .before .word .ensures)
+    (c .before .before .before .put .ensures)
+    (c .close .ensures)
+
+loop-holds : tie.Need-loop-holds Inv-loop μ-loop
+loop-holds c = (begins _ _ _ _ _, c .before .before .pre .0)
+
+shared-slice-read-shift : tie.Need-shared-slice-read-shift Inv-loop μ-loop
+shared-slice-read-shift c = search needs
+
+shift-requires : tie.Need-shift-requires Inv-loop μ-loop
+shift-requires c κs = search needs
+
+add-place : tie.Need-add-place Inv-loop μ-loop
+add-place c =
+    let within = c .before .before .before .loop .inv .0 .within in
+    omega (arith, c .before .before .before .before .before .before .pre .1)
+
+add-k : tie.Need-add-k Inv-loop μ-loop
+add-k c = search needs
+
+is-whole-requires : tie.Need-is-whole-requires Inv-loop μ-loop
+is-whole-requires c κs = search needs
+
+cast-put : tie.Need-cast-put Inv-loop μ-loop
+cast-put c = search needs
+
+word-requires : tie.Need-word-requires Inv-loop μ-loop
+word-requires c κs = leb-true 17 _ (sym (c .before .before .before .is-whole .ensures) ∙ c .before .before .if1 .taken)
+
+put-requires : tie.Need-put-requires Inv-loop μ-loop
+put-requires c κs = search needs
+
+cast-close : tie.Need-cast-close Inv-loop μ-loop
+cast-close c = search needs
+
+close-requires : tie.Need-close-requires Inv-loop μ-loop
+close-requires c κs =
+    let tested = c .before .before .before .before .before .before in leb-true 17 _ (sym (tested .before .is-whole .ensures) ∙ tested .if1 .taken)
+
+add-t22 : tie.Need-add-t22 Inv-loop μ-loop
+add-t22 c =
+    let turn = c .before .before .before .before .before .before .before .before .before .before .before .before .before .before in
+    let within = turn .loop .inv .0 .within in
+    let inside = c .before .before .before .before .before .before .before .before .before .before .before .before .before .loop-test .taken in
+    omega (arith, turn .before .before .before .pre .1)
+
+same-length : tie.Need-same-length Inv-loop μ-loop
+same-length c = closed-turn (c .before .before) .same-length
+
+returns : tie.Need-returns Inv-loop μ-loop
+returns c =
+    let turn = c .before .before .before .before .before .before .before .before .before .before .before .before .before .before in
+    let next : turn .before .before .before .args .from + (turn .loop .k + 1)
+    ≡ turn .before .before .before .args .from + turn .loop .k + 1 = omega arith in
+    rw next at (turn-is-full _ _ _ _ _ (closed-turn (c .before .before)) (c .if2 .taken))
+
+loop-less : tie.Need-loop-less Inv-loop μ-loop
+loop-less c = search needs
+
+loop-again : tie.Need-loop-again Inv-loop μ-loop
+loop-again c = (closed-turn (c .before .before), c .if2 .left)
+
+loop-less-2 : tie.Need-loop-less-2 Inv-loop μ-loop
+loop-less-2 c = search needs
+
+loop-again-2 : tie.Need-loop-again-2 Inv-loop μ-loop
+loop-again-2 c =
+    let turn = c .before .before .before .before .before in
+    let args = turn .before .before .before in
+    turn-stays-open _ _ _ _ _ (turn .loop .inv .0) (turn .loop .inv .1) (args .fits .most .fits)
+    (c .before .before .before .before .loop-test .taken)
+    _
+    (c .before .before .shift .ensures)
+    (sym (c .before .is-whole .ensures) ∙ c .if1 .left)
+
+add-t23 : tie.Need-add-t23 Inv-loop μ-loop
+add-t23 c =
+    let within = c .before .loop .inv .0 .within in
+    omega (arith, c .before .before .before .before .pre .1)
+
+same-length-2 : tie.Need-same-length-2 Inv-loop μ-loop
+same-length-2 c = c .before .loop .inv .0 .same-length
+
+returns-2 : tie.Need-returns-2 Inv-loop μ-loop
+returns-2 c = turn-ends _ _ _ _ _ (c .before .loop .inv .0) (c .loop-test .left)
+
+pub shift-in-spec : {M : Type 1} → statement M
+shift-in-spec =
+    tie.close
+    (tie.spec
+    Inv-loop
+    μ-loop
+    loop-holds
+    shared-slice-read-shift
+    shift-requires
+    add-place
+    add-k
+    is-whole-requires
+    cast-put
+    word-requires
+    put-requires
+    cast-close
+    close-requires
+    add-t22
+    same-length
+    returns
+    loop-less
+    loop-again
+    loop-less-2
+    loop-again-2
+    add-t23
+    same-length-2
+    returns-2)

@@ -1,0 +1,119 @@
+-- One turn of a block: the machine takes the cell, and a word that it closes is stored at the place of its byte, so that
+-- what is left to read and to store stays what it was. Rests on no axiom.
+use Prim.Native.Nat.{ℕ, suc, _+_, _%_, _^_, _≤_, _<_}
+use mathlib.Core.Path.{_≡_, refl, sym, ap, _∙_}
+use mathlib.Core.Bool.{true, false}
+use mathlib.Core.List.{List, [], _∷_}
+use native.Mathlib.Nat.{add-zero, add-suc}
+use native.Mathlib.Numerals.{add-one}
+use native.Mathlib.Omega.{arith}
+use lib.ListN.{length, drop, getD, set, drop-of-length-le}
+use lib.Seq.{drop-cons}
+use Rattle.lists.specs.Filled.{storedAt}
+use Rattle.lists.proofs.StoreLaws.{stored-none, stored-one, stored-next, stored-length}
+use Rattle.symbols.specs.machine.Step.{shifted, isWhole, codeWord, closed, steppedBy, wordBy}
+use Rattle.symbols.specs.declared.Reading.{Reading}
+use Rattle.symbols.proofs.WholeLaws.{step-stays-open, step-closes, words-by-step}
+use Rattle.intervals.specs.machine.Pass.{Passed, ended, after, passFrom}
+use Rattle.intervals.specs.declared.Pass.{Pass}
+use Rattle.intervals.proofs.PassLaws.{pass-ends, pass-is-full, pass-goes-on}
+
+module _ (most from : ℕ) (start : Reading) (us old : List ℕ) where
+  abbrev whole : Passed
+  whole = passFrom most from start us
+
+  -- what is left of the pass leads to what the whole block does
+  abbrev Settles : Passed → List ℕ → ℕ → Type 0
+  Settles rest out words =
+      (rest .end ≡ whole .end) × (storedAt out words (rest .words) ≡ storedAt old (start .words) (whole .words))
+
+  pub record Shifting (out : List ℕ) (m : Reading) (k : ℕ) : Type 0 where
+    pub within : k ≤ length us
+    pub same-length : length out ≡ length old
+    pub settles : Settles (passFrom most (from + k) m (drop k us)) out (m .words)
+
+  pub begins : Shifting old start 0
+  begins =
+      record {
+        within = omega arith;
+        same-length = refl;
+        settles = rw (add-zero from) (refl, refl);
+      }
+
+  module _ {out : List ℕ} {m : Reading} {k : ℕ} (so-far : Shifting out m k) where
+    -- where the pass ends, nothing is left to read or to store
+    ends
+        : (place : ℕ)
+        → passFrom most (from + k) m (drop k us) ≡ ended m place
+        → (record { reading = m; used = place } ≡ whole .end)
+        × (out ≡ storedAt old (start .words) (whole .words))
+    ends place e =
+        let settles = rw e at (so-far .settles) in
+        (settles .0, sym (stored-none out (m .words)) ∙ settles .1)
+
+    pub turn-is-full
+        : most ≤ m .words
+        → (record { reading = m; used = from + k } ≡ whole .end)
+        × (out ≡ storedAt old (start .words) (whole .words))
+    turn-is-full h = ends (from + k) (pass-is-full most (from + k) m (drop k us) h)
+
+    pub turn-ends
+        : length us ≤ k
+        → (record { reading = m; used = from + k } ≡ whole .end)
+        × (out ≡ storedAt old (start .words) (whole .words))
+    turn-ends h =
+        ends (from + k)
+        (ap (passFrom most (from + k) m) (drop-of-length-le us {i = k} h) ∙ pass-ends most (from + k) m)
+
+    module _ (few : m .words < most) (small : most < 2 ^ 32) (inside : k < length us) where
+      abbrev u : ℕ
+      u = getD us k 0
+
+      taken
+          : (next : Reading) (stored : List ℕ)
+          → next ≡ steppedBy m u (from + k)
+          → stored ≡ storedAt out (m .words) (wordBy m u)
+          → Shifting stored next (k + 1)
+      taken next stored machine store =
+          let rest = passFrom most (suc (from + k)) next (drop (suc k) us) in
+          let words = ap (λ (r : Reading). r .words) machine ∙ words-by-step m u (from + k) (omega arith) .0 in
+          let settles : Settles (after (wordBy m u) rest) out (m .words) =
+          rw (drop-cons us k 0 inside, pass-goes-on most (from + k) m u (drop (suc k) us) few, ← machine) at
+          (so-far .settles) in
+          record {
+            within = omega arith;
+            same-length = ap length store ∙ stored-length out (m .words) (wordBy m u) ∙ so-far .same-length;
+            settles =
+                rw (add-one k, add-suc from k) (
+                  settles .0,
+                  stored-next (wordBy m u) (rest .words) out stored (m .words) (next .words) store words ∙ settles .1,
+                );
+          }
+
+      pub turn-stays-open
+          : (next : Reading)
+          → next ≡ shifted m u
+          → isWhole next ≡ false
+          → Shifting out next (k + 1) × (next .words < most)
+      unfolding shifted
+      turn-stays-open next shift part =
+          let step = step-stays-open m u (from + k) (ap isWhole (sym shift) ∙ part) in (
+            taken next out (shift ∙ sym (step .0)) (sym (stored-none out (m .words)) ∙ ap (storedAt out (m .words)) (sym (step .1))),
+            rw shift few,
+          )
+
+      pub turn-closes
+          : (next closing : Reading) (word : ℕ) (stored : List ℕ)
+          → next ≡ shifted m u
+          → isWhole next ≡ true
+          → word ≡ codeWord next
+          → stored ≡ set out (m .words) word
+          → closing ≡ closed next ((from + k) % 2 ^ 32)
+          → Shifting stored closing (k + 1)
+      turn-closes next closing word stored shift is-whole code store close =
+          let step = step-closes m u (from + k) (ap isWhole (sym shift) ∙ is-whole) in
+          taken closing stored
+          (close ∙ ap (λ (r : Reading). closed r ((from + k) % 2 ^ 32)) shift ∙ sym (step .0))
+          (store
+          ∙ sym (stored-one out (m .words) word)
+          ∙ ap (storedAt out (m .words)) (ap (λ (w : ℕ). w ∷ []) (code ∙ ap codeWord shift) ∙ sym (step .1)))

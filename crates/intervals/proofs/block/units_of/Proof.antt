@@ -1,0 +1,118 @@
+-- Why `block::units_of` stores `unitsFrom`: what is left to store stays the same from turn to turn. Rests on no
+-- axiom.
+use Prim.Native.Nat.{ℕ, _-_, _≤_}
+use mathlib.Core.Path.{_≡_, refl, sym, ap, _∙_}
+use mathlib.Core.List.{List}
+use native.Mathlib.Numerals.{add-one}
+use native.Mathlib.Omega.{arith}
+use lib.ListN.{length, drop, length-set, drop-of-length-le}
+use lib.Seq.{take-all}
+use Rattle.lists.specs.Filled.{storedAt}
+use Rattle.lists.proofs.StoreLaws.{stored-none, stored-one, stored-next, stored-length, front-of-stored}
+use Rattle.timing.specs.Class.{cursorAfter}
+use Rattle.timing.specs.Edges.{unitsFrom}
+use Rattle.timing.proofs.UnitsLaws.{units-none, units-count, units-here, cursor-here, cursor-after-none}
+use borrow.Author.Needs.{needs}
+use Rattle.intervals.proofs.block.units_of.Statement.{statement}
+use Rattle.intervals.proofs.block.units_of.Tie as tie
+
+-- stores over the whole of a list
+stored-over-all : (vs old : List ℕ) → length vs ≡ length old → storedAt old 0 vs ≡ vs
+stored-over-all vs old same =
+    let long : length (storedAt old 0 vs) ≤ length vs = omega (arith, stored-length old 0 vs) in
+    sym (take-all (length vs) (storedAt old 0 vs) long) ∙ front-of-stored vs old (length vs) refl (omega arith)
+
+abbrev Inv-loop : tie.InvT-loop
+Inv-loop intervals units₀ cursor₀ k₀ units cursor k =
+    (k ≤ length intervals)
+    × (length units ≡ length units₀)
+    × (cursorAfter cursor (drop k intervals) ≡ cursorAfter cursor₀ intervals)
+    × (storedAt units k (unitsFrom cursor (drop k intervals)) ≡ storedAt units₀ 0 (unitsFrom cursor₀ intervals))
+
+abbrev μ-loop : tie.MeasureT-loop
+μ-loop intervals units₀ cursor₀ k₀ units cursor k = length intervals - k
+
+loop-holds : tie.Need-loop-holds Inv-loop μ-loop
+loop-holds c = (omega arith, refl, refl, refl)
+
+mul-interval : tie.Need-mul-interval Inv-loop μ-loop
+mul-interval c = search needs
+
+shared-slice-read-interval : tie.Need-shared-slice-read-interval Inv-loop μ-loop
+shared-slice-read-interval c = search needs
+
+units-requires : tie.Need-units-requires Inv-loop μ-loop
+units-requires c κs = search needs
+
+slice-write-units : tie.Need-slice-write-units Inv-loop μ-loop
+slice-write-units c =
+    let inside = c .before .before in
+    let turn = inside .before in
+    omega (arith, turn .loop .inv .1, turn .before .before .before .pre)
+
+past-requires : tie.Need-past-requires Inv-loop μ-loop
+past-requires c κs = search needs
+
+add-k : tie.Need-add-k Inv-loop μ-loop
+add-k c = search needs
+
+loop-less : tie.Need-loop-less Inv-loop μ-loop
+loop-less c = search needs
+
+loop-again : tie.Need-loop-again Inv-loop μ-loop
+loop-again c =
+    let stored = c .before in
+    let inside = stored .before .before in
+    let turn = inside .before in
+    let inv = turn .loop .inv in
+    let more = inside .loop-test .taken in
+    let cursor = turn .loop .cursor in
+    let here = units-here cursor _ _ more in
+    rw (c .past .ensures, stored .units .ensures) (
+      omega arith,
+      length-set {A = ℕ} (turn .loop .units) (turn .loop .k) _ ∙ inv .1,
+      rw add-one (sym (cursor-here cursor _ _ more) ∙ inv .2),
+      rw add-one
+          (stored-next _ _ _ _ _ _ (sym (stored-one _ _ _)) (sym (add-one _))
+          ∙ ap (storedAt _ _) (sym here)
+          ∙ inv .3),
+    )
+
+same-length : tie.Need-same-length Inv-loop μ-loop
+same-length c = c .before .loop .inv .1
+
+returns : tie.Need-returns Inv-loop μ-loop
+returns c =
+    let turn = c .before in
+    let inv = turn .loop .inv in
+    let entry = turn .before .before .before in
+    let ds = entry .args .intervals .now in
+    let none = sym (drop-of-length-le ds {i = turn .loop .k} (c .loop-test .left)) in
+    let cursor = turn .loop .cursor in
+    let all = unitsFrom (entry .args .start) ds in
+    let room : length all ≡ length (entry .args .units .now) =
+    units-count (entry .args .start) ds ∙ sym (entry .pre) in (
+      sym (cursor-after-none cursor) ∙ ap (cursorAfter cursor) none ∙ inv .2,
+      sym (stored-none _ _)
+          ∙ ap (storedAt _ _) (sym (units-none cursor) ∙ ap (unitsFrom cursor) none)
+          ∙ inv .3
+          ∙ stored-over-all all (entry .args .units .now) room,
+    )
+
+pub units-of-spec : {M : Type 1} → statement M
+units-of-spec =
+    tie.close
+    (tie.spec
+    Inv-loop
+    μ-loop
+    loop-holds
+    mul-interval
+    shared-slice-read-interval
+    units-requires
+    slice-write-units
+    past-requires
+    add-k
+    loop-less
+    loop-again
+    same-length
+    returns)

@@ -1,0 +1,96 @@
+-- Why `edges::all_cells` tells whether all are cells: what was told and what is left to tell stay the same from turn to
+-- turn. Rests on no axiom.
+use Prim.Native.Nat.{_-_, _≤_}
+use mathlib.Core.Path.{_≡_, refl, sym, ap, _∙_}
+use mathlib.Core.Bool.{Bool, true, false, _&&_}
+use native.Mathlib.Numerals.{add-one}
+use native.Mathlib.Omega.{arith}
+use lib.ListN.{length, drop, drop-of-length-le}
+use Rattle.lists.specs.Place.{everywhere}
+use Rattle.timing.specs.Class.{isCell, classesFrom, Ascending}
+use Rattle.timing.proofs.ClassLaws.{classes-none, classes-here}
+use Rattle.timing.proofs.EdgeLaws.{ascending-past}
+use borrow.Author.Needs.{needs}
+use Rattle.intervals.proofs.edges.all_cells.Statement.{statement}
+use Rattle.intervals.proofs.edges.all_cells.Tie as tie
+
+and-then : (a b c : Bool) → ((a && b) && c) ≡ (a && (b && c))
+and-then true b c = refl
+and-then false b c = refl
+
+and-true : (a : Bool) → (a && true) ≡ a
+and-true true = refl
+and-true false = refl
+
+abbrev Inv-loop : tie.InvT-loop
+Inv-loop intervals cursor₀ all₀ k₀ cursor all k =
+    (k ≤ length intervals)
+    × Ascending cursor
+    × ((all && everywhere isCell (classesFrom cursor (drop k intervals))) ≡ everywhere isCell (classesFrom cursor₀ intervals))
+
+abbrev μ-loop : tie.MeasureT-loop
+μ-loop intervals cursor₀ all₀ k₀ cursor all k = length intervals - k
+
+loop-holds : tie.Need-loop-holds Inv-loop μ-loop
+loop-holds c = (omega arith, c .before .pre, refl)
+
+mul-interval : tie.Need-mul-interval Inv-loop μ-loop
+mul-interval c = search needs
+
+shared-slice-read-interval : tie.Need-shared-slice-read-interval Inv-loop μ-loop
+shared-slice-read-interval c = search needs
+
+meets-cell-requires : tie.Need-meets-cell-requires Inv-loop μ-loop
+meets-cell-requires c κs = c .before .before .loop .inv .1
+
+past-requires : tie.Need-past-requires Inv-loop μ-loop
+past-requires c κs = search needs
+
+add-k : tie.Need-add-k Inv-loop μ-loop
+add-k c = search needs
+
+loop-less : tie.Need-loop-less Inv-loop μ-loop
+loop-less c = search needs
+
+loop-again : tie.Need-loop-again Inv-loop μ-loop
+unfolding everywhere
+loop-again c =
+    let inside = c .before .before .before in
+    let turn = inside .before in
+    let inv = turn .loop .inv in
+    let cursor = turn .loop .cursor in
+    let here = classes-here cursor _ _ (inside .loop-test .taken) in
+    rw (c .past .ensures, c .before .meets-cell .ensures, add-one) (
+      inside .loop-test .taken,
+      ascending-past cursor _ (inv .1),
+      and-then (turn .loop .all) _ _
+          ∙ ap (λ (t : Bool). turn .loop .all && t) (sym (ap (everywhere isCell) here))
+          ∙ inv .2,
+    )
+
+returns : tie.Need-returns Inv-loop μ-loop
+unfolding everywhere
+returns c =
+    let turn = c .before in
+    let cursor = turn .loop .cursor in
+    let ds = turn .before .before .args .intervals .now in
+    let none = ap (classesFrom cursor) (drop-of-length-le ds {i = turn .loop .k} (c .loop-test .left)) ∙ classes-none cursor in
+    sym (and-true (turn .loop .all))
+    ∙ ap (λ (t : Bool). turn .loop .all && t) (sym (ap (everywhere isCell) none))
+    ∙ turn .loop .inv .2
+
+pub all-cells-spec : {M : Type 1} → statement M
+all-cells-spec =
+    tie.close
+    (tie.spec
+    Inv-loop
+    μ-loop
+    loop-holds
+    mul-interval
+    shared-slice-read-interval
+    meets-cell-requires
+    past-requires
+    add-k
+    loop-less
+    loop-again
+    returns)
