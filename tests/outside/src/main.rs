@@ -101,6 +101,7 @@ fn library() {
     compare.group("faults together: finder", 0x92, faults::finder);
     compare.group("faults together: field reader", 0x93, faults::field);
     compare.group("faults together: sector maker", 0x94, faults::maker);
+    compare.group("a fault at each place", 0x95, faults::at_each_place);
     compare.group("merge: sets by hand", 0xB0, cases::merges::by_hand);
     compare.group("merge: every choice of a copy", 0xB1, cases::merges::every_choice);
     compare.group("merge: every size", 0xB2, cases::merges::every_size);

@@ -196,3 +196,29 @@ pub fn maker(compare: &mut Compare, random: &mut Random) {
         }
     }
 }
+
+/// A narrow or a wide interval at each place of a stream of some hundred, alone and before another one, for the strip
+/// reader and for fields that end about it: what comes after a field's intervals is not looked at.
+pub fn at_each_place(compare: &mut Compare, random: &mut Random) {
+    for _ in 0..6 {
+        let nine = random.true_profile();
+        let items = random.items(40);
+        let stream = stream_of(&nine, &items);
+        let written = written_count(&items);
+        for place in 0..stream.len() {
+            let mut changed = stream.clone();
+            let letter = random.pick(&['n', 'w']);
+            changed[place] = random.interval(&nine, letter);
+            if random.one_in(3) {
+                let later = place + random.index(stream.len() - place);
+                let letter = random.pick(&['n', 'w', '4']);
+                changed[later] = random.interval(&nine, letter);
+            }
+            compare.read(&nine, &changed, written);
+            let before = (place as u64 * written as u64 / stream.len() as u64).max(1);
+            for bytes in [before.saturating_sub(1).max(1), before, before + 1, before + 2] {
+                compare.field(&nine, &changed, bytes, written + 2);
+            }
+        }
+    }
+}
