@@ -145,3 +145,9 @@ pub none-is-found
 unfolding findRule searchRule
 none-is-found p ds start accepts none =
     first-refusal-passes (profileRule p) _ accepts ∙ rw (adrift-without-lock (classesOf p (drop start ds)) none)
+
+-- under an accepted profile the search is all
+pub search-finds
+    : (p : Profile) (ds : List ℕ) (start : ℕ) → profileRule p .number ≡ 0 → searchRule p ds start ≡ findRule p ds start
+unfolding findRule
+search-finds p ds start h = sym (first-refusal-passes (profileRule p) (searchRule p ds start) h)

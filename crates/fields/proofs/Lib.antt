@@ -11,6 +11,7 @@ pub mod FieldPassLaws
 pub mod NearFieldLaws
 pub mod RuleLaws
 pub mod ReaderLaws
+pub mod MarksLaws
 pub mod FirstLockLaws
 pub mod FillerLaws
 pub mod WrittenFieldLaws

@@ -1,7 +1,7 @@
 -- The field reader's answer and output from what its first two tests found, and that it uses no more intervals than
 -- there are. Rests on no axiom.
 use Prim.Native.Nat.{ℕ, zero, suc, _≤_}
-use mathlib.Core.Path.{_≡_}
+use mathlib.Core.Path.{_≡_, _∙_}
 use mathlib.Core.Bool.{Bool, true, false, cond, _||_, true≢false}
 use mathlib.Mathlib.Data.Bool.Basic.{or-eq-false-eq-eq-false-and-eq-false}
 use mathlib.Core.List.{List, [], _∷_}
@@ -13,6 +13,7 @@ use Rattle.refusal.specs.Table.{numberOf, placeOf}
 use Rattle.refusal.specs.Answer.{Answer, accepted, refused, refuseIf}
 use Rattle.refusal.specs.declared.Refusal.{Refusal}
 use Rattle.refusal.proofs.AnswerLaws.{number-is-not-zero, refusal-decides, refusal-keeps-the-buffer}
+use Rattle.refusal.proofs.AnswerLaws.{first-refusal-accepts, refuse-if-accepts, acceptance-fills-the-buffer}
 use Rattle.timing.specs.Profile.{outside, profileRule}
 use Rattle.timing.specs.Class.{classesOf}
 use Rattle.timing.specs.declared.Profile.{Profile}
@@ -22,9 +23,11 @@ use Rattle.symbols.specs.Bits.{Bit, O}
 use Rattle.symbols.specs.Reading.{lastAfter}
 use Rattle.intervals.proofs.CellLaws.{by-each-class}
 use Rattle.fields.specs.Field.{wantedAfter, bitsWanted, cellsTaken, fieldCells, fieldUsed, fieldItems, fieldHolds}
-use Rattle.fields.specs.FieldRule.{FieldAnswer, fieldTurnedAway, checkedRule, checkedReading}
+use Rattle.fields.specs.FieldRule.{FieldAnswer, fieldTurnedAway, gatherRule, checkedRule, checkedReading}
 use Rattle.fields.specs.FieldRule.{checkedOutput, fieldRule, fieldReading, fieldOutput}
 use Rattle.fields.proofs.TakenLaws.{taken-one-more}
+use Rattle.fields.proofs.FieldLaws.{field-items-count}
+use Rattle.fields.proofs.RuleLaws.{refusal-is-no-acceptance, gather-stops-nowhere, fills-all}
 
 module _ (p : Profile) (ds : List ℕ) (n : ℕ) (old : List ℕ) where
   abbrev Settles : FieldAnswer → List ℕ → Type 0
@@ -42,6 +45,21 @@ module _ (p : Profile) (ds : List ℕ) (n : ℕ) (old : List ℕ) where
         refusal-keeps-the-buffer r (fieldRule p ds n (length old)) (fieldItems (classesOf p ds) n) old decides,
       )
 
+  -- where that is read in place, the rule accepts only what is read below these tests
+  abbrev Accepts : Type 0
+  Accepts = fieldRule p ds n (length old) .number ≡ 0
+
+  pub profile-refuses-in-place : (r : Refusal) → refused (numberOf r) (placeOf r) ≡ profileRule p → Accepts → ⊥
+  unfolding fieldRule
+  profile-refuses-in-place r e accepts =
+      refusal-is-no-acceptance r (profileRule p) e (first-refusal-accepts (profileRule p) _ accepts .0)
+
+  pub checked-in-place
+      : Accepts → (outside 1 1030 n ≡ false) × (checkedRule (classesOf p ds) n (length old) .number ≡ 0)
+  unfolding fieldRule
+  checked-in-place accepts =
+      refuse-if-accepts (outside 1 1030 n) 11 0 _ (first-refusal-accepts (profileRule p) _ accepts .1)
+
   module _ (fair : accepted 0 ≡ profileRule p) where
     pub count-refuses : outside 1 1030 n ≡ true → Settles (fieldTurnedAway (refused 12 0)) old
     unfolding fieldReading fieldOutput fieldRule
@@ -57,6 +75,23 @@ pub count-in-range : (n : ℕ) → outside 1 1030 n ≡ false → (1 ≤ n) × (
 count-in-range n h =
     let both = or-eq-false-eq-eq-false-and-eq-false (ltb n 1) (ltb 1030 n) .0 h in
     (ltb-false n 1 (both .0), ltb-false 1030 n (both .1))
+
+-- ---- a buffer as long as the field, where it is accepted
+
+module _ (p : Profile) (ds : List ℕ) (n : ℕ) (accepts : fieldRule p ds n n .number ≡ 0) where
+  pub gather-accepts : gatherRule (classesOf p ds) n .number ≡ 0
+  unfolding fieldRule checkedRule
+  gather-accepts =
+      let below = refuse-if-accepts (outside 1 1030 n) 11 0 _ (first-refusal-accepts (profileRule p) _ accepts .1) in
+      first-refusal-accepts (gatherRule (classesOf p ds) n) _ (below .1) .0
+
+  pub output-is-items : (old : List ℕ) → length old ≡ n → fieldOutput p ds n old ≡ fieldItems (classesOf p ds) n
+  unfolding fieldOutput
+  output-is-items old e =
+      let count = field-items-count (classesOf p ds) n (gather-stops-nowhere (classesOf p ds) n gather-accepts) in
+      rw e
+      (acceptance-fills-the-buffer (fieldRule p ds n n) (fieldItems (classesOf p ds) n) old accepts
+      ∙ fills-all (fieldItems (classesOf p ds) n) old (omega arith))
 
 -- ---- the used intervals are in the list
 

@@ -2,33 +2,45 @@
 -- output. Rests on no axiom.
 use Prim.Native.Nat.{ℕ, _≤_}
 use mathlib.Core.Path.{_≡_, sym, ap, _∙_}
-use mathlib.Core.List.{List}
-use lib.ListN.{length, take}
-use Rattle.lists.proofs.StoreLaws.{front-of-stored}
+use mathlib.Core.Bool.{false, true≢false}
+use mathlib.Core.List.{List, append-nil}
+use native.Mathlib.Omega.{arith}
+use borrow.Author.Tests.{le-ltb, eq-eqb}
+use lib.Dec.{ltb}
+use lib.ListN.{length, take, drop-of-length-le}
+use Rattle.lists.specs.Filled.{filled}
+use Rattle.lists.proofs.StoreLaws.{front-of-stored, stored-at-front-fills}
 use Rattle.refusal.specs.Table.{numberOf, placeOf}
-use Rattle.refusal.specs.Answer.{Answer, accepted, refused}
+use Rattle.refusal.specs.Answer.{Answer, accepted, refused, refuseIf}
 use Rattle.refusal.specs.declared.Refusal.{Refusal}
 use Rattle.refusal.proofs.AnswerLaws.{number-is-not-zero, refusal-decides, refusal-keeps-the-buffer}
 use Rattle.refusal.proofs.AnswerLaws.{first-refusal-accepts, first-refusal-passes, refuse-if-accepts, refuse-if-passes}
 use Rattle.timing.specs.declared.Class.{Class}
 use Rattle.fields.specs.Field.{fieldStop, fieldUsed, fieldItems, fieldHolds, fieldStray}
-use Rattle.fields.specs.Field.{fieldStrayPlace}
+use Rattle.fields.specs.Field.{fieldStrayPlace, holdsAfter}
 use Rattle.fields.specs.FieldRule.{gatherRule, GathersItems, deliverRule, deliverReading, deliverOutput}
 use Rattle.fields.specs.FieldRule.{fieldTurnedAway, checkedRule, checkedReading, checkedOutput}
 use Rattle.fields.proofs.FieldLaws.{field-items-count}
+
+pub refusal-is-no-acceptance : (r : Refusal) (a : Answer) → refused (numberOf r) (placeOf r) ≡ a → a .number ≡ 0 → ⊥
+refusal-is-no-acceptance r a e none =
+    true≢false (sym (eq-eqb (numberOf r) 0 (ap (λ (x : Answer). x .number) e ∙ none)) ∙ number-is-not-zero r)
 
 module _ (cs : List Class) (n : ℕ) where
   pub gather-stops-nowhere : gatherRule cs n .number ≡ 0 → fieldStop cs n .number ≡ 0
   unfolding gatherRule
   gather-stops-nowhere e = first-refusal-accepts (fieldStop cs n) _ e .0
 
+  pub gather-meets-no-stray : gatherRule cs n .number ≡ 0 → fieldStray cs n ≡ false
+  unfolding gatherRule
+  gather-meets-no-stray e =
+      refuse-if-accepts (fieldStray cs n) 7 (fieldStrayPlace cs n) _ (first-refusal-accepts (fieldStop cs n) _ e .1) .0
+
   pub gather-counts-used : gatherRule cs n .number ≡ 0 → gatherRule cs n ≡ accepted (fieldUsed cs n)
   unfolding gatherRule
   gather-counts-used e =
-      let after-stop = first-refusal-accepts (fieldStop cs n) _ e in
-      let after-stray = refuse-if-accepts (fieldStray cs n) 7 (fieldStrayPlace cs n) _ (after-stop .1) in
-      first-refusal-passes (fieldStop cs n) _ (after-stop .0)
-      ∙ refuse-if-passes (fieldStray cs n) 8 (fieldStrayPlace cs n) _ (after-stray .0)
+      first-refusal-passes (fieldStop cs n) _ (gather-stops-nowhere e)
+      ∙ refuse-if-passes (fieldStray cs n) 8 (fieldStrayPlace cs n) _ (gather-meets-no-stray e)
 
   -- a refusal of the pass is the answer, and the output is as it was
   pub gather-refuses
@@ -42,6 +54,15 @@ module _ (cs : List Class) (n : ℕ) where
         rw (← decides, number-is-not-zero r),
         refusal-keeps-the-buffer r (checkedRule cs n (length old)) (fieldItems cs n) old decides,
       )
+
+  pub gather-refuses-in-place
+      : (r : Refusal) (room : ℕ)
+      → refused (numberOf r) (placeOf r) ≡ gatherRule cs n
+      → checkedRule cs n room .number ≡ 0
+      → ⊥
+  unfolding checkedRule
+  gather-refuses-in-place r room e =
+      refusal-is-no-acceptance r _ (refusal-decides r (gatherRule cs n) (deliverRule n room) e)
 
   -- an acceptance leaves the room to what was gathered in a buffer
   pub gather-delivers
@@ -60,3 +81,28 @@ module _ (cs : List Class) (n : ℕ) where
       let same : take n stored ≡ fieldItems cs n =
       ap (take n) (store zero) ∙ front-of-stored (fieldItems cs n) buffer n count room in
       (rw (passes, used-is, same, count), rw (passes, same, count))
+
+pub fills-all : (vs old : List ℕ) → length old ≤ length vs → filled vs old ≡ vs
+unfolding filled
+fills-all vs old h = rw (drop-of-length-le old h) (append-nil vs)
+
+-- the same where the buffer is as long as the field, and is the output
+pub gather-fills
+    : (cs : List Class) (used : ℕ) (buffer stored : List ℕ)
+    → accepted used ≡ gatherRule cs (length buffer)
+    → GathersItems cs (length buffer) buffer stored
+    → (record { answer = accepted (length buffer); used = used; holds = holdsAfter stored }
+    ≡ checkedReading cs (length buffer) (length buffer))
+    × (stored ≡ checkedOutput cs (length buffer) buffer)
+unfolding checkedReading checkedOutput checkedRule deliverRule fieldHolds
+gather-fills cs used buffer stored e store =
+    let n : ℕ = length buffer in
+    let zero : gatherRule cs n .number ≡ 0 = sym (ap (λ (a : Answer). a .number) e) in
+    let used-is : used ≡ fieldUsed cs n = ap (λ (a : Answer). a .count) (e ∙ gather-counts-used cs n zero) in
+    let count : length (fieldItems cs n) ≡ n = field-items-count cs n (gather-stops-nowhere cs n zero) in
+    let filled-is : stored ≡ filled (fieldItems cs n) buffer =
+    store zero ∙ stored-at-front-fills (fieldItems cs n) buffer (omega arith) in
+    let same : stored ≡ fieldItems cs n = filled-is ∙ fills-all (fieldItems cs n) buffer (omega arith) in
+    let passes = first-refusal-passes (gatherRule cs n) (refuseIf (ltb n n) 9 0 (accepted n)) zero in
+    let room : ltb n n ≡ false = le-ltb n n (omega arith) in
+    (rw (passes, room, used-is, same), rw (passes, room) filled-is)

@@ -4,3 +4,4 @@ pub mod Field
 pub mod FieldRule
 pub mod Claims
 pub mod End
+pub mod Marks

@@ -5,9 +5,10 @@ ghost use mathlib.Core.Bool.{cond};
 ghost use lib.ListN.{length, drop};
 ghost use Rattle.refusal.specs.Answer.{countedAnswer};
 ghost use Rattle.timing.specs.Profile.{profileRule};
-ghost use Rattle.timing.specs.Class.{classesFrom, Ascending};
+ghost use Rattle.timing.specs.Class.{classesOf, classesFrom, Ascending};
 ghost use Rattle.fields.specs.Lock.{beginsWith, markAhead, lockFrom, searchRule, findRule};
 ghost use Rattle.fields.specs.Scan.{PassesRun};
+ghost use Rattle.fields.specs.Marks.{threeMarks};
 use refusal::Counted;
 use refusal::Refusal;
 use refusal::Verdict;
@@ -18,6 +19,9 @@ use timing::Profile;
 const MARK_A1: [usize; 5] = [3, 4, 3, 4, 3];
 
 const MARK_C2: [usize; 10] = [3, 2, 3, 4, 3, 4, 2, 3, 4, 3];
+
+// And of three A1 marks, with which the fields of a sector begin.
+const THREE_A1: [usize; 15] = [3, 4, 3, 4, 3, 2, 4, 3, 4, 3, 2, 4, 3, 4, 3];
 
 // Whether the intervals from a place on have the classes of a pattern at their front.
 fn begins_with(start: Cursor, intervals: &[u16], at: usize, pattern: &[usize]) -> bool
@@ -125,8 +129,8 @@ fn scan(start: Cursor, intervals: &[u16]) -> Counted
     place
 }
 
-// The intervals from `start` on are searched, and the place is counted from there.
-fn search(p: Profile, intervals: &[u16], start: usize) -> Counted
+// Under an accepted profile. The intervals from `start` on are searched, and the place is counted from there.
+pub fn search(p: Profile, intervals: &[u16], start: usize) -> Counted
     requires { ⌜ profileRule p .number ≡ 0 ⌝ }
     ensures { λ r. ⌜ countedAnswer r ≡ searchRule p (now (intervals .entry)) start ⌝ }
 {
@@ -147,4 +151,13 @@ pub fn find_lock(p: Profile, intervals: &[u16], start: usize) -> Counted
         Verdict::Refused(refusal) => Counted::Refused(refusal),
         Verdict::Accepted => search(p, intervals, start),
     }
+}
+
+// Whether the intervals begin as those of three A1 marks at a lock do. A field that does not is none of a sector, and
+// need not be read.
+pub fn three_marks_ahead(p: Profile, intervals: &[u16]) -> bool
+    ensures { λ r. ⌜ r ≡ beginsWith threeMarks (classesOf p (now (intervals .entry))) ⌝ }
+{
+    let marks = THREE_A1;
+    begins_with(Cursor::start(p), intervals, 0, &marks)
 }

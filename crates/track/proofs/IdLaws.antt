@@ -1,7 +1,7 @@
 -- What is read at a lock, taken for an ID: by cases of whether the field reads, holds and identifies. Rests on no
 -- axiom.
 use Prim.Native.Nat.{ℕ, _<_}
-use mathlib.Core.Path.{_≡_, refl, sym}
+use mathlib.Core.Path.{_≡_, refl}
 use mathlib.Core.Bool.{Bool, true, false, cond, _&&_, true≢false}
 use mathlib.Core.List.{List}
 use native.Mathlib.Omega.{arith}
@@ -10,16 +10,13 @@ use lib.Dec.{leb, ltb}
 use lib.ListN.{getD}
 use Rattle.timing.specs.declared.Profile.{Profile}
 use Rattle.track.specs.FieldKinds.{fieldOf, itemsOf, reads, opensWith, identifies, isId}
-use Rattle.track.specs.machine.Steps.{idWith, identified, idRead}
+use Rattle.track.specs.machine.Steps.{opens, idWith, identified, idRead}
 use Rattle.track.specs.declared.id.IdRead.{IdRead}
 use Rattle.track.specs.declared.id.IdRead.the-variants.{Id, NoId}
 use Rattle.track.proofs.FieldLaws.{FieldReads}
+use Rattle.track.proofs.OpeningLaws.{both}
 
 -- ---- the four bytes are data bytes
-
-both : (a b : Bool) → (a && b) ≡ true → (a ≡ true) × (b ≡ true)
-both true b e = (refl, e)
-both false b e = absurd (true≢false (sym e))
 
 pub record DataBytes (us : List ℕ) : Type 0 where
   pub track : getD us 4 0 < 256
@@ -52,9 +49,15 @@ module _ (p : Profile) (ds : List ℕ) where
   abbrev us : List ℕ
   us = itemsOf p ds 10
 
-  pub unread-is-no-id : reads p ds 10 ≡ false → NoId ≡ idRead p ds
-  unfolding idRead isId
-  unread-is-no-id e = rw e
+  unopened
+      : (r o t s n c h : Bool) → (r && o) ≡ false → (r && (o && t && s && n && c) && h) ≡ false
+  unopened false o t s n c h e = refl
+  unopened true false t s n c h e = refl
+  unopened true true t s n c h e = absurd (true≢false e)
+
+  pub unopened-is-no-id : opens p ds 10 0xfe ≡ false → NoId ≡ idRead p ds
+  unfolding idRead isId identifies opens
+  unopened-is-no-id e = rw (unopened (reads p ds 10) (opensWith 0xfe us) _ _ _ _ (fieldOf p ds 10 .holds) e)
 
   without-sum : (t : Bool) (a b : IdRead) → b ≡ cond (t && false) a b
   without-sum true a b = refl

@@ -1,4 +1,5 @@
 pub mod FieldLaws
+pub mod OpeningLaws
 pub mod IdLaws
 pub mod DataLaws
 pub mod SearchLaws

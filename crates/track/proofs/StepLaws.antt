@@ -16,7 +16,7 @@ use Rattle.track.specs.Index.{dataFrom, idByte, entryAt, entryEnd, nextS
 use Rattle.track.specs.machine.Steps.{idRead, dataRead, sought, stepAt, stepFrom}
 use Rattle.track.specs.declared.DataField.the-variants.{Found, Missing}
 use Rattle.track.specs.declared.id.IdRead.the-variants.{Id, NoId}
-use Rattle.track.specs.declared.content.DataRead.the-variants.{Data, NoData}
+use Rattle.track.specs.declared.opening.Opened.the-variants.{Field, NoField}
 use Rattle.track.specs.declared.content.Sought.{Sought}
 use Rattle.track.specs.declared.Step.the-variants.{End, Other, Begins}
 use Rattle.track.proofs.FieldLaws.{field-ends-within}
@@ -40,13 +40,13 @@ module _ (p : Profile) (ds : List ℕ) where
           omega arith
 
       pub other-lock-no-data
-          : NoData ≡ dataRead p (drop k ds) code → record { field = Missing; end = start } ≡ sought p ds start code
+          : NoField ≡ dataRead p (drop k ds) code → record { field = Missing; end = start } ≡ sought p ds start code
       unfolding dataFrom entryEnd hasData
       other-lock-no-data e =
           let (lock, place) = found-is-lock p ds start k found in
           rw (lock, place, no-data-means p (drop k ds) code e)
 
-      module _ (used : ℕ) (holds : Bool) (e : Data used holds ≡ dataRead p (drop k ds) code) where
+      module _ (used : ℕ) (holds : Bool) (e : Field used holds ≡ dataRead p (drop k ds) code) where
         data-used : used ≡ fieldOf p (drop k ds) (dataBytes code) .used
         data-used = let same = data-means p (drop k ds) code used holds e .1 in cc
 

@@ -3,13 +3,12 @@ ghost use Prim.Native.Nat.{_≤_};
 ghost use mathlib.Core.Path.{_≡_};
 ghost use mathlib.Core.Bool.{true};
 ghost use lib.ListN.{length};
-ghost use Rattle.track.specs.FieldKinds.{opensWith, identifies};
+ghost use Rattle.track.specs.FieldKinds.{identifies};
 ghost use Rattle.track.specs.machine.Steps.{idWith, identified, idRead};
-use fields::reader::FieldRead;
+use crate::opening::Opened;
+use crate::opening::opens_with;
+use crate::opening::read_opened;
 use timing::Profile;
-
-// The mark byte A1.
-const A1: u16 = 0x1a1;
 
 // What a field reads as, taken for an ID: its four bytes, and how many intervals it used.
 pub enum IdRead {
@@ -21,14 +20,6 @@ pub enum IdRead {
         used: usize,
     },
     NoId,
-}
-
-// Three A1 marks, then the byte that tells an ID field from a data field.
-pub fn opens_with(items: &[u16], kind: u16) -> bool
-    requires { ⌜ 4 ≤ length (now items) ⌝ }
-    ensures { λ r. ⌜ r ≡ opensWith kind (now (items .entry)) ⌝ }
-{
-    (items[0] == A1) & (items[1] == A1) & (items[2] == A1) & (items[3] == kind)
 }
 
 // FE and four data bytes, the last a length code.
@@ -72,9 +63,9 @@ pub fn read_id(p: Profile, intervals: &[u16]) -> IdRead
     ensures { λ r. ⌜ r ≡ idRead p (now (intervals .entry)) ⌝ }
 {
     let mut items = [0u16; 10];
-    match fields::reader::read_field(p, intervals, 10, &mut items) {
-        FieldRead::Refused(_) => IdRead::NoId,
-        FieldRead::Field { used, holds, .. } => {
+    match read_opened(p, intervals, 0xfe, &mut items) {
+        Opened::NoField => IdRead::NoId,
+        Opened::Field { used, holds } => {
             if holds {
                 return identify(&items, used);
             }

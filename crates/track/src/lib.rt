@@ -3,10 +3,11 @@ ghost use Prim.Native.Nat.{_<_};
 ghost use mathlib.Core.Path.{_≡_};
 ghost use lib.ListN.{length, replicate};
 ghost use Rattle.refusal.specs.Answer.{countedAnswer};
+ghost use Rattle.timing.specs.Profile.{profileRule};
 ghost use Rattle.track.specs.Index.{noEntry, crowdRule, entriesOf, handedBack, indexRule, indexEntries};
 ghost use Rattle.track.specs.machine.Steps.{stepAt, stepFrom};
 use content::find_data;
-use fields::finder::find_lock;
+use fields::finder::search;
 use id::IdRead;
 use id::read_id;
 use refusal::Counted;
@@ -16,6 +17,7 @@ use timing::Profile;
 
 mod content;
 mod id;
+mod opening;
 
 // An entry's data field: the place of its lock and whether its sum holds, or that none was found.
 pub enum DataField {
@@ -63,6 +65,7 @@ fn blank() -> Entry
 // What begins at the lock at k. The next search starts after the last field of the entry, or else at the place after
 // the lock.
 fn look_at(p: Profile, intervals: &[u16], k: usize) -> Step
+    requires { ⌜ profileRule p .number ≡ 0 ⌝ }
     requires { ⌜ k < length (now intervals) ⌝ }
     ensures { λ r. ⌜ r ≡ stepAt p (now (intervals .entry)) k ⌝ }
 {
@@ -95,9 +98,10 @@ fn look_at(p: Profile, intervals: &[u16], k: usize) -> Step
 
 // One search, from `start` on.
 fn find_entry(p: Profile, intervals: &[u16], start: usize) -> Step
+    requires { ⌜ profileRule p .number ≡ 0 ⌝ }
     ensures { λ r. ⌜ r ≡ stepFrom p (now (intervals .entry)) start ⌝ }
 {
-    match find_lock(p, intervals, start) {
+    match search(p, intervals, start) {
         Counted::Refused(_) => Step::End,
         Counted::Count(k) => look_at(p, intervals, k),
     }
@@ -117,6 +121,7 @@ fn nothing(refusal: Refusal) -> Index
 // Search after search, each from where the one before says, until no lock is left or an entry has no room. A search
 // starts at least 64 intervals after the one before, so that they come to an end.
 fn gather(p: Profile, intervals: &[u16]) -> Index
+    requires { ⌜ profileRule p .number ≡ 0 ⌝ }
     ensures count { λ r. ⌜ countedAnswer (r .count) ≡ crowdRule (entriesOf p (now (intervals .entry))) ⌝ }
     ensures entries { λ r. ⌜
         r .entries

@@ -2,21 +2,28 @@
 use mathlib.Core.Path.{_≡_, sym, ap, _∙_}
 use Rattle.refusal.specs.Answer.{accepted, countedAnswer}
 use Rattle.fields.specs.Lock.{findRule}
+use Rattle.fields.proofs.FirstLockLaws.{search-finds}
 use Rattle.track.proofs.SearchLaws.{refused-is-no-lock}
 use Rattle.track.proofs.StepLaws.{found-is-within, no-lock-is-end, found-is-looked-at}
 use borrow.Author.Needs.{needs}
 use Rattle.track.proofs.find_entry.Statement.{statement}
 use Rattle.track.proofs.find_entry.Tie as tie
 
+answered
+    : (c : tie.After-search)
+    → let args = c .before .before .args in
+    countedAnswer (c .search .result) ≡ findRule (args .p) (args .intervals .now) (args .start)
+answered c = c .search .ensures ∙ search-finds _ _ _ (c .before .before .pre)
+
 -- the lock that was found
 found
     : (c : tie.After-known-told)
     → let args = c .before .before .before .before .before .args in
     accepted (c .before .k .given .0 .0) ≡ findRule (args .p) (args .intervals .now) (args .start)
-found c = sym (ap countedAnswer (c .before .k .given .1)) ∙ c .before .before .before .find-lock .ensures
+found c = sym (ap countedAnswer (c .before .k .given .1)) ∙ answered (c .before .before .before)
 
-find-lock-requires : tie.Need-find-lock-requires
-find-lock-requires c κs = search needs
+search-requires : tie.Need-search-requires
+search-requires c κs = search needs
 
 enum-told : tie.Need-enum-told
 enum-told c = search needs
@@ -25,13 +32,13 @@ enum-known-k : tie.Need-enum-known-k
 enum-known-k c = search needs
 
 look-at-requires : tie.Need-look-at-requires
-look-at-requires c κs = found-is-within _ _ _ 0 _ (found c)
+look-at-requires c κs = (c .before .before .before .before .before .pre, found-is-within _ _ _ 0 _ (found c))
 
 returns : tie.Need-returns
 returns c =
     no-lock-is-end _ _ _
     (refused-is-no-lock _ _ _ (c .enum-told .given .0 .0)
-    (sym (ap countedAnswer (c .enum-told .given .1)) ∙ c .before .before .find-lock .ensures))
+    (sym (ap countedAnswer (c .enum-told .given .1)) ∙ answered (c .before .before)))
 
 returns-2 : tie.Need-returns-2
 returns-2 c = c .look-at .ensures ∙ found-is-looked-at _ _ _ _ (found (c .before))
@@ -39,4 +46,4 @@ returns-2 c = c .look-at .ensures ∙ found-is-looked-at _ _ _ _ (found (c .befo
 pub find-entry-spec : {M : Type 1} → statement M
 find-entry-spec =
     tie.close
-    (tie.spec find-lock-requires enum-told enum-known-k look-at-requires returns returns-2)
+    (tie.spec search-requires enum-told enum-known-k look-at-requires returns returns-2)

@@ -6,7 +6,7 @@ use lib.ListN.{replicate}
 use Rattle.refusal.specs.Table.{numberOf, placeOf}
 use Rattle.refusal.specs.Answer.{Answer, refused, countedAnswer}
 use Rattle.refusal.specs.declared.Refusal.{Refusal}
-use Rattle.refusal.proofs.AnswerLaws.{number-is-not-zero, verdict-refuses, verdict-passes}
+use Rattle.refusal.proofs.AnswerLaws.{number-is-not-zero, verdict-refuses, verdict-passes, verdict-accepts}
 use Rattle.track.specs.Index.{entriesOf, indexRule, noEntry, handedBack, indexEntries}
 use Rattle.track.specs.declared.Entry.{Entry}
 use borrow.Author.Needs.{needs}
@@ -34,7 +34,7 @@ enum-told : tie.Need-enum-told
 enum-told c = search needs
 
 gather-requires : tie.Need-gather-requires
-gather-requires c κs = search needs
+gather-requires c κs = verdict-accepts _ _ (c .before .before .check .ensures) (c .enum-told .given .1)
 
 returns : tie.Need-returns
 unfolding indexRule indexEntries

@@ -47,7 +47,7 @@ add-find-data c =
     let at-read = c .before .before .before in
     let begin = at-read .before .before .before in
     let ends =
-    id-ends-within _ _ (begin .args .k) _ _ _ _ _ (sym (c .before .track .given .1) ∙ read at-read) (begin .pre) in
+    id-ends-within _ _ (begin .args .k) _ _ _ _ _ (sym (c .before .track .given .1) ∙ read at-read) (begin .pre .1) in
     omega (arith, begin .good)
 
 find-data-requires : tie.Need-find-data-requires

@@ -1,19 +1,30 @@
 -- Machine, not meaning: laws tie it to Index. What the functions hand to each other. No lemmas here.
 use Prim.Native.Nat.{ℕ}
-use mathlib.Core.Bool.{cond, _&&_}
+use mathlib.Core.Path.{_≡_}
+use mathlib.Core.Bool.{Bool, true, cond, _&&_}
 use mathlib.Core.List.{List}
 use lib.ListN.{length, getD, drop}
 use Rattle.timing.specs.declared.Profile.{Profile}
-use Rattle.fields.specs.FieldRule.{fieldOutput}
-use Rattle.track.specs.FieldKinds.{fieldOf, itemsOf, reads, opensWith, identifies, isId, dataBytes, isData}
+use Rattle.track.specs.FieldKinds.{fieldOf, itemsOf, reads, opensWith, identifies, isId, dataBytes}
 use Rattle.track.specs.Index.{hasLock, lockPlace, dataFrom, entryAt, entryEnd, nextStart}
 use Rattle.track.specs.declared.id.IdRead.{IdRead}
 use Rattle.track.specs.declared.id.IdRead.the-variants.{Id, NoId}
-use Rattle.track.specs.declared.content.DataRead.{DataRead}
-use Rattle.track.specs.declared.content.DataRead.the-variants.{Data, NoData}
+use Rattle.track.specs.declared.opening.Opened.{Opened}
+use Rattle.track.specs.declared.opening.Opened.the-variants.{Field, NoField}
 use Rattle.track.specs.declared.content.Sought.{Sought}
 use Rattle.track.specs.declared.Step.{Step}
 use Rattle.track.specs.declared.Step.the-variants.{End, Other, Begins}
+
+-- a field of n bytes of a kind at the front of intervals
+unfoldable pub opens : Profile → List ℕ → ℕ → ℕ → Bool
+opens p ds n kind = reads p ds n && opensWith kind (itemsOf p ds n)
+
+unfoldable pub openedOf : Profile → List ℕ → ℕ → ℕ → Opened
+openedOf p ds n kind = cond (opens p ds n kind) (Field (fieldOf p ds n .used) (fieldOf p ds n .holds)) NoField
+
+-- what a buffer as long as it holds then
+abbrev pub GivesItems : Profile → List ℕ → ℕ → List ℕ → List ℕ → Type 0
+GivesItems p ds kind old new = opens p ds (length old) kind ≡ true → new ≡ itemsOf p ds (length old)
 
 -- an ID's four bytes and the intervals that it used
 abbrev pub idWith : List ℕ → ℕ → IdRead
@@ -27,17 +38,9 @@ identified us used = cond (identifies us) (idWith us used) NoId
 unfoldable pub idRead : Profile → List ℕ → IdRead
 idRead p ds = cond (isId p ds) (idWith (itemsOf p ds 10) (fieldOf p ds 10 .used)) NoId
 
--- and as data, read into a buffer
-unfoldable pub dataInto : Profile → List ℕ → List ℕ → DataRead
-dataInto p ds old =
-    cond (reads p ds (length old) && opensWith 0xfb (fieldOutput p ds (length old) old))
-    (Data (fieldOf p ds (length old) .used) (fieldOf p ds (length old) .holds))
-    NoData
-
 -- the data of a code
-unfoldable pub dataRead : Profile → List ℕ → ℕ → DataRead
-dataRead p ds code =
-    cond (isData p ds code) (Data (fieldOf p ds (dataBytes code) .used) (fieldOf p ds (dataBytes code) .holds)) NoData
+unfoldable pub dataRead : Profile → List ℕ → ℕ → Opened
+dataRead p ds code = openedOf p ds (dataBytes code) 0xfb
 
 module _ (p : Profile) (ds : List ℕ) where
   -- the data from a start on, and where the search goes on

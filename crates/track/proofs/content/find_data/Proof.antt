@@ -8,6 +8,7 @@ use lib.ListN.{length, drop}
 use Rattle.refusal.specs.Answer.{accepted, countedAnswer}
 use Rattle.fields.specs.Lock.{findRule}
 use Rattle.fields.proofs.LockLaws.{part-to-end}
+use Rattle.fields.proofs.FirstLockLaws.{search-finds}
 use Rattle.track.specs.machine.Steps.{dataRead}
 use Rattle.track.proofs.SearchLaws.{refused-is-no-lock}
 use Rattle.track.proofs.StepLaws.{no-lock-no-data, found-is-within, other-lock-no-data, data-ends-within}
@@ -16,12 +17,18 @@ use borrow.Author.Needs.{needs}
 use Rattle.track.proofs.content.find_data.Statement.{statement}
 use Rattle.track.proofs.content.find_data.Tie as tie
 
+answered
+    : (c : tie.After-search)
+    → let args = c .before .before .args in
+    countedAnswer (c .search .result) ≡ findRule (args .p) (args .intervals .now) (args .start)
+answered c = c .search .ensures ∙ search-finds _ _ _ (c .before .before .pre)
+
 -- the lock that was found
 found
     : (c : tie.After-known-told)
     → let args = c .before .before .before .before .before .args in
     accepted (c .before .k .given .0 .0) ≡ findRule (args .p) (args .intervals .now) (args .start)
-found c = sym (ap countedAnswer (c .before .k .given .1)) ∙ c .before .before .before .find-lock .ensures
+found c = sym (ap countedAnswer (c .before .k .given .1)) ∙ answered (c .before .before .before)
 
 within
     : (c : tie.After-known-told)
@@ -41,8 +48,8 @@ read c =
     ∙ ap (λ (ds : List ℕ). dataRead (args .p) ds (args .code))
     (part-to-end (args .intervals .now) (at-k .k .given .0 .0))
 
-find-lock-requires : tie.Need-find-lock-requires
-find-lock-requires c κs = search needs
+search-requires : tie.Need-search-requires
+search-requires c κs = search needs
 
 enum-told : tie.Need-enum-told
 enum-told c = search needs
@@ -84,7 +91,7 @@ returns : tie.Need-returns
 returns c =
     no-lock-no-data _ _ _ _
     (refused-is-no-lock _ _ _ (c .enum-told .given .0 .0)
-    (sym (ap countedAnswer (c .enum-told .given .1)) ∙ c .before .before .find-lock .ensures))
+    (sym (ap countedAnswer (c .enum-told .given .1)) ∙ answered (c .before .before)))
 
 returns-2 : tie.Need-returns-2
 returns-2 c =
@@ -100,7 +107,7 @@ pub find-data-spec : {M : Type 1} → statement M
 find-data-spec =
     tie.close
     (tie.spec
-    find-lock-requires
+    search-requires
     enum-told
     enum-known-k
     mul-read-data

@@ -1,12 +1,13 @@
--- Why `content::read_data` answers `dataRead`: the buffer has room for every code, and its front is all zeros. Rests on
--- no axiom.
-use Prim.Native.Nat.{_+_, _≤_}
+-- Why `content::read_data` answers `dataRead`: the buffer has room for every code. Rests on no axiom.
+use Prim.Native.Nat.{ℕ, _+_, _≤_}
 use mathlib.Core.Path.{_≡_, sym, ap, _∙_}
+use mathlib.Core.List.{List}
 use native.Mathlib.Omega.{arith}
-use lib.ListN.{length, take}
+use lib.ListN.{length, take, replicate}
 use lib.Seq.{length-take-le}
 use Rattle.track.specs.FieldKinds.{dataBytes}
-use Rattle.track.proofs.DataLaws.{zeros, data-bytes-fit, front-of-zeros, read-into-zeros}
+use Rattle.track.specs.machine.Steps.{openedOf, dataRead}
+use Rattle.track.proofs.DataLaws.{data-bytes-fit}
 use borrow.Author.Needs.{needs}
 use Rattle.track.proofs.content.read_data.Statement.{statement}
 use Rattle.track.proofs.content.read_data.Tie as tie
@@ -22,10 +23,12 @@ within c =
     let same = count c in
     (omega arith, omega arith)
 
+abbrev buffer : List ℕ
+buffer = replicate 1030 0
+
 front-length
-    : (c : tie.After-sector-size)
-    → length (take (c .sector-size .result + 6) (zeros 1030)) ≡ c .sector-size .result + 6
-front-length c = length-take-le (c .sector-size .result + 6) (zeros 1030) (within c .1)
+    : (c : tie.After-sector-size) → length (take (c .sector-size .result + 6) buffer) ≡ c .sector-size .result + 6
+front-length c = length-take-le (c .sector-size .result + 6) buffer (within c .1)
 
 sector-size-requires : tie.Need-sector-size-requires
 sector-size-requires c κs = search needs
@@ -37,17 +40,19 @@ add-n c =
 array-borrow-prefix-items : tie.Need-array-borrow-prefix-items
 array-borrow-prefix-items c = within c .1
 
-slice-aggregate-read-into : tie.Need-slice-aggregate-read-into
-slice-aggregate-read-into c = sym (front-length (c .before))
+slice-aggregate-read-opened : tie.Need-slice-aggregate-read-opened
+slice-aggregate-read-opened c = sym (front-length (c .before))
 
-read-into-requires : tie.Need-read-into-requires
-read-into-requires c κs = rw (front-length (c .before)) (within (c .before) .0)
+read-opened-requires : tie.Need-read-opened-requires
+read-opened-requires c κs = rw (front-length (c .before)) (within (c .before) .0)
 
 returns : tie.Need-returns
+unfolding dataRead
 returns c =
     let at-size = c .before .before .before in
-    c .before .read-into .ensures
-    ∙ read-into-zeros _ _ _ _ (front-of-zeros _ (within at-size .1) ∙ ap zeros (count at-size))
+    let args = at-size .before .before .args in
+    c .before .read-opened .ensures .0
+    ∙ ap (λ (n : ℕ). openedOf (args .p) (args .intervals .now) n 0xfb) (front-length at-size ∙ count at-size)
 
 pub read-data-spec : {M : Type 1} → statement M
 read-data-spec =
@@ -56,6 +61,6 @@ read-data-spec =
     sector-size-requires
     add-n
     array-borrow-prefix-items
-    slice-aggregate-read-into
-    read-into-requires
+    slice-aggregate-read-opened
+    read-opened-requires
     returns)

@@ -1,9 +1,9 @@
--- Why `id::opens_with` answers `opensWith`: it makes the same four tests. Rests on no axiom.
+-- Why `opening::opens_with` answers `opensWith`: it makes the same four tests. Rests on no axiom.
 use mathlib.Core.Path.{refl}
 use Rattle.track.specs.FieldKinds.{opensWith}
 use borrow.Author.Needs.{needs}
-use Rattle.track.proofs.id.opens_with.Statement.{statement}
-use Rattle.track.proofs.id.opens_with.Tie as tie
+use Rattle.track.proofs.opening.opens_with.Statement.{statement}
+use Rattle.track.proofs.opening.opens_with.Tie as tie
 
 shared-slice-read-result : tie.Need-shared-slice-read-result
 shared-slice-read-result c = search needs

@@ -1,0 +1,27 @@
+-- Why `fields::finder::three_marks_ahead` answers `beginsWith threeMarks`: it tries that pattern from the first interval
+-- on. Rests on no axiom.
+use mathlib.Core.Path.{ap, _∙_}
+use Rattle.timing.specs.Class.{classesOf}
+use Rattle.timing.specs.declared.cursor.Cursor.{Cursor}
+use Rattle.fields.specs.Lock.{beginsWith}
+use Rattle.fields.specs.Marks.{threeMarks}
+use borrow.Author.Needs.{needs}
+use Rattle.fields.proofs.finder.three_marks_ahead.Statement.{statement}
+use Rattle.fields.proofs.finder.three_marks_ahead.Tie as tie
+
+start-requires : tie.Need-start-requires
+start-requires c κs = search needs
+
+slice-aggregate-begins-with : tie.Need-slice-aggregate-begins-with
+slice-aggregate-begins-with c = search needs
+
+begins-with-requires : tie.Need-begins-with-requires
+begins-with-requires c κs = search needs
+
+returns : tie.Need-returns
+unfolding threeMarks classesOf
+returns c = rw (← c .before .before .start .ensures) (c .begins-with .ensures)
+
+pub three-marks-ahead-spec : {M : Type 1} → statement M
+three-marks-ahead-spec =
+    tie.close (tie.spec start-requires slice-aggregate-begins-with begins-with-requires returns)

@@ -1,0 +1,151 @@
+-- What is read at a lock, taken for a field of a kind: by cases of whether the field reads and how it opens. One that
+-- does not begin with the classes of three A1 marks has no kind. Rests on no axiom.
+use Prim.Native.Nat.{ℕ}
+use mathlib.Core.Path.{_≡_, refl, sym, ap, _∙_}
+use mathlib.Core.Bool.{Bool, true, false, cond, _&&_, true≢false}
+use mathlib.Core.List.{List, [], _∷_}
+use native.Mathlib.Omega.{arith}
+use borrow.Author.Tests.{eqb-true}
+use lib.Dec.{eqb}
+use lib.ListN.{length, getD, replicate, length-replicate}
+use Rattle.refusal.specs.Answer.{Answer}
+use Rattle.timing.specs.Class.{classesOf}
+use Rattle.timing.specs.declared.Profile.{Profile}
+use Rattle.fields.specs.Field.{fieldItems}
+use Rattle.fields.specs.FieldRule.{fieldTurnedAway, fieldRule, fieldReading, fieldOutput}
+use Rattle.fields.specs.Lock.{beginsWith}
+use Rattle.fields.specs.Marks.{threeMarks}
+use Rattle.fields.proofs.ReaderLaws.{output-is-items}
+use Rattle.fields.proofs.MarksLaws.{afterMarks, marks-ahead}
+use Rattle.track.specs.FieldKinds.{fieldOf, itemsOf, reads, opensWith}
+use Rattle.track.specs.machine.Steps.{opens, openedOf, GivesItems}
+use Rattle.track.specs.declared.opening.Opened.{Opened}
+use Rattle.track.specs.declared.opening.Opened.the-variants.{Field, NoField}
+use Rattle.track.proofs.FieldLaws.{FieldReads}
+
+pub both : (a b : Bool) → (a && b) ≡ true → (a ≡ true) × (b ≡ true)
+both true b e = (refl, e)
+both false b e = absurd (true≢false (sym e))
+
+module _ (p : Profile) (ds : List ℕ) (n : ℕ) where
+  -- ---- the items of a field that reads
+
+  same-answer
+      : (t : Bool) (a : Answer) (used : ℕ) (holds : Bool)
+      → cond t (record { answer = a; used = used; holds = holds }) (fieldTurnedAway a) .answer ≡ a
+  same-answer true a used holds = refl
+  same-answer false a used holds = refl
+
+  pub reading-is-accepted : reads p ds n ≡ true → fieldRule p ds n n .number ≡ 0
+  unfolding reads fieldOf fieldReading
+  reading-is-accepted e =
+      sym (ap (λ (a : Answer). a .number) (same-answer (eqb (fieldRule p ds n n .number) 0) (fieldRule p ds n n) _ _))
+      ∙ eqb-true _ 0 e
+
+  items-are-read : reads p ds n ≡ true → itemsOf p ds n ≡ fieldItems (classesOf p ds) n
+  unfolding itemsOf
+  items-are-read e =
+      output-is-items p ds n (reading-is-accepted e) (replicate n 0) (length-replicate n 0)
+
+  -- a buffer as long as the field has them
+  pub items-in-place : reads p ds n ≡ true → (old : List ℕ) → length old ≡ n → fieldOutput p ds n old ≡ itemsOf p ds n
+  items-in-place e old same = output-is-items p ds n (reading-is-accepted e) old same ∙ sym (items-are-read e)
+
+  -- ---- of a kind or of none
+
+  module _ (kind : ℕ) where
+    pub unopened : opens p ds n kind ≡ false → NoField ≡ openedOf p ds n kind
+    unfolding openedOf
+    unopened e = rw e
+
+    pub unread-opens-nothing : reads p ds n ≡ false → opens p ds n kind ≡ false
+    unfolding opens
+    unread-opens-nothing e = rw e
+
+    module _ (used : ℕ) (holds : Bool) (f : FieldReads p ds n used holds) where
+      pub opens-by-kind : opens p ds n kind ≡ opensWith kind (itemsOf p ds n)
+      unfolding opens
+      opens-by-kind = rw (f .does)
+
+      pub opened : opens p ds n kind ≡ true → Field used holds ≡ openedOf p ds n kind
+      unfolding openedOf
+      opened e = rw (e, f .uses, f .sum)
+
+    -- ---- what the answer means
+
+    abbrev there : Opened
+    there = Field (fieldOf p ds n .used) (fieldOf p ds n .holds)
+
+    pub unopened-means : NoField ≡ openedOf p ds n kind → opens p ds n kind ≡ false
+    unfolding openedOf
+    unopened-means e =
+        (elim (opens p ds n kind) as (λ t. NoField ≡ cond t there NoField → t ≡ false) [
+          | true ↦ λ q. absurd (let z : _≡_ {A = ℕ} 0 1 = cc in omega arith)
+          | false ↦ λ q. refl
+        ]) e
+
+    pub opened-means
+        : (used : ℕ) (holds : Bool)
+        → Field used holds ≡ openedOf p ds n kind
+        → (opens p ds n kind ≡ true) × (Field used holds ≡ there)
+    unfolding openedOf
+    opened-means used holds e =
+        (elim (opens p ds n kind) as (λ t.
+        Field used holds ≡ cond t there NoField → (t ≡ true) × (Field used holds ≡ there)) [
+          | true ↦ λ q. (refl, q)
+          | false ↦ λ q. absurd (let z : _≡_ {A = ℕ} 0 1 = cc in omega arith)
+        ]) e
+
+    pub opened-reads
+        : (used : ℕ) (holds : Bool) → Field used holds ≡ openedOf p ds n kind → FieldReads p ds n used holds
+    unfolding opens
+    opened-reads used holds e =
+        let (opens-so, same) = opened-means used holds e in
+        record {
+          does = both (reads p ds n) (opensWith kind (itemsOf p ds n)) opens-so .0;
+          uses = cc;
+          sum = cc;
+        }
+
+    -- ---- what begins without the classes of three marks
+
+    marks-in-front : (us : List ℕ) → opensWith kind us ≡ true → (vs : List ℕ) × (us ≡ afterMarks vs)
+    unfolding opensWith
+    marks-in-front us e =
+        let first : Bool = eqb (getD us 0 0) 0x1a1 in
+        let second : Bool = eqb (getD us 1 0) 0x1a1 in
+        let third : Bool = eqb (getD us 2 0) 0x1a1 in
+        let three = both (first && second && third) (eqb (getD us 3 0) kind) e .0 in
+        let two = both (first && second) third three in
+        let one = both first second (two .0) in
+        three-of us (eqb-true _ _ (one .0)) (eqb-true _ _ (one .1)) (eqb-true _ _ (two .1))
+      where
+        three-of
+            : (us : List ℕ)
+            → getD us 0 0 ≡ 0x1a1
+            → getD us 1 0 ≡ 0x1a1
+            → getD us 2 0 ≡ 0x1a1
+            → (vs : List ℕ) × (us ≡ afterMarks vs)
+        three-of [] a b c = absurd (omega arith)
+        three-of (x ∷ []) a b c = absurd (omega arith)
+        three-of (x ∷ y ∷ []) a b c = absurd (omega arith)
+        three-of (x ∷ y ∷ z ∷ vs) a b c = (vs, rw (a, b, c))
+
+    opens-at-marks : opens p ds n kind ≡ true → beginsWith threeMarks (classesOf p ds) ≡ true
+    unfolding opens
+    opens-at-marks e =
+        let (does, of-kind) = both (reads p ds n) (opensWith kind (itemsOf p ds n)) e in
+        let (vs, marks) = marks-in-front (itemsOf p ds n) of-kind in
+        marks-ahead p ds n vs (reading-is-accepted does) (sym (items-are-read does) ∙ marks)
+
+    pub unmarked-opens-nothing : beginsWith threeMarks (classesOf p ds) ≡ false → opens p ds n kind ≡ false
+    unmarked-opens-nothing none = by (opens p ds n kind) refl
+      where
+        by : (t : Bool) → opens p ds n kind ≡ t → t ≡ false
+        by false e = refl
+        by true e = absurd (true≢false (sym (opens-at-marks e) ∙ none))
+
+-- then nothing is said of the items
+pub no-items : (p : Profile) (ds : List ℕ) (kind : ℕ) (old new : List ℕ) → opens p ds (length old) kind ≡ false
+    → GivesItems p ds kind old new
+no-items p ds kind old new none e = absurd (true≢false (sym e ∙ none))

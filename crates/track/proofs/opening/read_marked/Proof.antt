@@ -1,0 +1,100 @@
+-- Why `opening::read_marked` answers `openedOf`: the field reader's answer says whether the field reads, and the front of
+-- its items of which kind it is. Rests on no axiom.
+use mathlib.Core.Path.{_≡_, refl, sym, ap, _∙_}
+use lib.ListN.{length}
+use Rattle.fields.specs.FieldRule.{fieldAnswer}
+use Rattle.track.specs.FieldKinds.{opensWith}
+use Rattle.track.specs.machine.Steps.{opens}
+use Rattle.track.proofs.FieldLaws.{FieldReads, refused-field, accepted-field}
+use Rattle.track.proofs.OpeningLaws.{reading-is-accepted, items-in-place, unopened, unread-opens-nothing}
+use Rattle.track.proofs.OpeningLaws.{opens-by-kind, opened, no-items}
+use borrow.Author.Needs.{needs}
+use Rattle.track.proofs.opening.read_marked.Statement.{statement}
+use Rattle.track.proofs.opening.read_marked.Tie as tie
+
+-- what the field reader answered, where the field reads
+field
+    : (c : tie.After-opens-with)
+    → let args = c .before .before .before .before .before .before .before .before .before .before .before .args in
+    let values = c .before .before .before .used .given .0 in
+    FieldReads (args .p) (args .intervals .now) (length (args .items .now)) (values .1 .0) (values .1 .1 .0)
+field c =
+    let known = c .before .before .before .used .given in
+    let read = c .before .before .before .before .before .before .before in
+    accepted-field _ _ _ _ _ _ (sym (ap fieldAnswer (known .1)) ∙ read .read-in-place .ensures .0)
+
+-- of which kind it is
+kind
+    : (c : tie.After-opens-with)
+    → let args = c .before .before .before .before .before .before .before .before .before .before .before .args in
+    opens (args .p) (args .intervals .now) (length (args .items .now)) (args .kind) ≡ c .opens-with .result
+kind c =
+    let read = c .before .before .before .before .before .before .before in
+    let args = read .before .before .before .before .args in
+    let does = field c .does in
+    let items =
+    read .read-in-place .ensures .1 (reading-is-accepted _ _ _ does) ∙ items-in-place _ _ _ does (args .items .now) refl in
+    opens-by-kind _ _ _ (args .kind) _ _ (field c) ∙ sym (c .opens-with .ensures ∙ ap (opensWith (args .kind)) items)
+
+read-in-place-requires : tie.Need-read-in-place-requires
+read-in-place-requires c κs = search needs
+
+enum-told : tie.Need-enum-told
+enum-told c = search needs
+
+enum-known-used : tie.Need-enum-known-used
+enum-known-used c = search needs
+
+opens-with-requires : tie.Need-opens-with-requires
+opens-with-requires c κs = search needs
+
+same-length : tie.Need-same-length
+same-length c = search needs
+
+returns : tie.Need-returns
+returns c =
+    let read = c .before .before .before .before .before .before .before .before in
+    let args = read .before .before .before .before .args in
+    let does = field (c .before) .does in (
+      opened _ _ _ _ _ _ (field (c .before)) (kind (c .before) ∙ c .if1 .taken),
+      λ _.
+          read .read-in-place .ensures .1 (reading-is-accepted _ _ _ does) ∙ items-in-place _ _ _ does (args .items .now) refl,
+    )
+
+same-length-2 : tie.Need-same-length-2
+same-length-2 c = search needs
+
+returns-2 : tie.Need-returns-2
+returns-2 c =
+    let read = c .before .before .before .before in
+    let args = read .before .before .before .before .args in
+    let none =
+    unread-opens-nothing (args .p) (args .intervals .now) (length (args .items .now)) (args .kind)
+    (refused-field _ _ _ (c .enum-told .given .0 .0)
+    (sym (ap fieldAnswer (c .enum-told .given .1)) ∙ read .read-in-place .ensures .0)) in
+    (unopened _ _ _ _ none, no-items _ _ _ (args .items .now) _ none)
+
+same-length-3 : tie.Need-same-length-3
+same-length-3 c = search needs
+
+returns-3 : tie.Need-returns-3
+returns-3 c =
+    let args =
+    c .before .before .before .before .before .before .before .before .before .before .before .before .args in
+    let none = kind (c .before) ∙ c .if1 .left in
+    (unopened _ _ _ _ none, no-items _ _ _ (args .items .now) _ none)
+
+pub read-marked-spec : {M : Type 1} → statement M
+read-marked-spec =
+    tie.close
+    (tie.spec
+    read-in-place-requires
+    enum-told
+    enum-known-used
+    opens-with-requires
+    same-length
+    returns
+    same-length-2
+    returns-2
+    same-length-3
+    returns-3)
