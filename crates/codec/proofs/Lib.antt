@@ -1,5 +1,6 @@
 pub mod PenLaws
-pub mod RestLaws
+pub mod LeftLaws
+pub mod ShiftLaws
 pub mod TrackLaws
 pub mod StreamLaws
 pub mod WriterLaws
