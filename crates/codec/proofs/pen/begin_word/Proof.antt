@@ -14,7 +14,8 @@ use Rattle.codec.specs.machine.Pen.{passedOne, Begun}
 use Rattle.codec.specs.declared.pen.Pen.{Pen}
 use Rattle.codec.specs.declared.pen.Rest.{Rest}
 use Rattle.codec.proofs.LeftLaws.{place-below, leftAt, begins, steps}
-use Rattle.codec.proofs.ShiftLaws.{few-zeros, stands-behind, a-highest-one, trail-goes-on}
+use Rattle.codec.proofs.ShiftLaws.{few-zeros, stands-behind, a-highest-one}
+use Rattle.codec.proofs.TrailLaws.{trail-goes-on}
 use Rattle.codec.proofs.pen.begin_word.Statement.{statement}
 use Rattle.codec.proofs.pen.begin_word.Tie as tie
 

@@ -13,8 +13,8 @@ use Rattle.codec.specs.declared.pen.Pen.{Pen}
 use Rattle.codec.specs.declared.pen.Rest.{Rest}
 use Rattle.codec.proofs.PenLaws.{stored-before-length, fits-before}
 use Rattle.codec.proofs.LeftLaws.{place-below, Stepped, ends, steps}
-use Rattle.codec.proofs.ShiftLaws.{few-zeros, stands-behind, a-highest-one, some-are-left, trail-goes-on}
-use Rattle.codec.proofs.ShiftLaws.{none-is-left, last-of-word}
+use Rattle.codec.proofs.ShiftLaws.{few-zeros, stands-behind, a-highest-one, some-are-left, none-is-left}
+use Rattle.codec.proofs.TrailLaws.{trail-goes-on, last-of-word}
 use Rattle.codec.proofs.pen.draw_word.Statement.{statement}
 use Rattle.codec.proofs.pen.draw_word.Tie as tie
 

@@ -6,7 +6,7 @@ use denote.Ref.{now}
 use Rattle.images.specs.machine.TopBits.{topBits}
 use Rattle.codec.specs.machine.Pen.{Drawing, drawing, drawn}
 use Rattle.codec.specs.machine.Track.{writing, wroteByte}
-use Rattle.codec.proofs.ShiftLaws.{word-has-a-one}
+use Rattle.codec.proofs.TrailLaws.{word-has-a-one}
 use Rattle.codec.proofs.track.write_byte.Statement.{statement}
 use Rattle.codec.proofs.track.write_byte.Tie as tie
 
