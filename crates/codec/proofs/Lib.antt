@@ -1,7 +1,5 @@
 pub mod PenLaws
-pub mod LeftLaws
-pub mod ShiftLaws
-pub mod TrailLaws
+pub mod RestLaws
 pub mod TrackLaws
 pub mod StreamLaws
 pub mod WriterLaws

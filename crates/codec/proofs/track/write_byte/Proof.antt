@@ -6,7 +6,6 @@ use denote.Ref.{now}
 use Rattle.images.specs.machine.TopBits.{topBits}
 use Rattle.codec.specs.machine.Pen.{Drawing, drawing, drawn}
 use Rattle.codec.specs.machine.Track.{writing, wroteByte}
-use Rattle.codec.proofs.TrailLaws.{word-has-a-one}
 use Rattle.codec.proofs.track.write_byte.Statement.{statement}
 use Rattle.codec.proofs.track.write_byte.Tie as tie
 
@@ -16,9 +15,7 @@ made-word-requires c κs = search needs
 draw-word-requires : tie.Need-draw-word-requires
 unfolding wroteByte
 draw-word-requires c κs =
-    let pre = c .before .before .before .pre in
-    let made = c .before .made-word .ensures in
-    ((pre .0, rw made (word-has-a-one _ _)), rw made (pre .1))
+    let pre = c .before .before .before .pre in (pre .0, rw (c .before .made-word .ensures) (pre .1))
 
 same-length : tie.Need-same-length
 same-length c = search needs

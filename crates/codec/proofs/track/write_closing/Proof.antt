@@ -1,15 +1,12 @@
 -- Why `codec::track::write_closing` answers one less than the cells drawn: the closing word ends one at least. Rests on
 -- no axiom.
-use Prim.Native.Nat.{ℕ, _+_, _-_, _%_, _≤_, _<_}
+use Prim.Native.Nat.{ℕ, _+_, _-_, _≤_}
 use native.Mathlib.Omega.{arith}
 use mathlib.Core.Path.{_≡_, ap, _∙_}
-use mathlib.Core.Bool.{Bool, true, false, cond}
 use borrow.Author.Needs.{needs}
 use denote.Ref.{now}
-use lib.Dec.{eqb}
 use Rattle.images.specs.machine.TopBits.{topBits}
 use Rattle.codec.specs.machine.Pen.{Drawing, drawing, drawn}
-use Rattle.codec.specs.machine.Track.{closingWord}
 use Rattle.codec.proofs.StreamLaws.{closing-ends-a-cell}
 use Rattle.codec.proofs.track.write_closing.Statement.{statement}
 use Rattle.codec.proofs.track.write_closing.Tie as tie
@@ -17,22 +14,12 @@ use Rattle.codec.proofs.track.write_closing.Tie as tie
 one-less : (n m : ℕ) → n ≡ m → 1 ≤ m → n - 1 + 1 ≡ m
 one-less n m e h = omega arith
 
-closing-has-a-one : (previous : ℕ) → 0 < closingWord previous
-unfolding closingWord
-closing-has-a-one previous = by (eqb (previous % 2) 1)
-  where
-    by : (t : Bool) → 0 < cond t 0x2800 0xa800
-    by true = omega arith
-    by false = omega arith
-
 closing-word-requires : tie.Need-closing-word-requires
 closing-word-requires c κs = search needs
 
 draw-word-requires : tie.Need-draw-word-requires
 draw-word-requires c κs =
-    let pre = c .before .before .before .pre in
-    let closing = c .before .closing-word .ensures in
-    ((pre .0, rw closing (closing-has-a-one _)), rw closing (pre .1))
+    let pre = c .before .before .before .pre in (pre .0, rw (c .before .closing-word .ensures) (pre .1))
 
 sub-result : tie.Need-sub-result
 sub-result c =

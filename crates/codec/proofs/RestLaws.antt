@@ -10,9 +10,10 @@ use lib.ListN.{getD}
 use lib.Pow.{pow-mono}
 use Rattle.symbols.specs.Bits.{O, I}
 use Rattle.images.specs.machine.TopBits.{topBits}
-use Rattle.codec.specs.machine.Pen.{drawing, turned, storedBefore, ended, passed, drawn, leftDrawn}
-use Rattle.codec.specs.machine.Pen.{Left, Pending, Highest, behind}
+use Rattle.codec.specs.machine.Pen.{drawing, turned, storedBefore, ended, passed, drawn, restDrawn}
+use Rattle.codec.specs.machine.Pen.{Pending, Highest, behind}
 use Rattle.codec.specs.declared.pen.Pen.{Pen}
+use Rattle.codec.specs.declared.pen.Rest.{Rest}
 
 -- ---- the half cells of a number
 
@@ -33,7 +34,11 @@ module _ (ones place : ℕ) (high : Highest ones place) where
   place-below last h =
       lt-of-not-le (λ (g : last ≤ place). not-le-of-lt h (le-trans (pow-mono g) (high .0)))
 
-  pub left-is-below : ones - 2 ^ place < 2 ^ place
+  -- as the code has it
+  pub its-weight : ones < 65536 → 1 * 2 ^ place % 2 ^ 32 ≡ 2 ^ place
+  its-weight small = let low = high .0 in omega arith
+
+  left-is-below : ones - 2 ^ place < 2 ^ place
   left-is-below =
       let low = high .0 in
       let twice = pow-suc 2 place in
@@ -45,8 +50,8 @@ module _ (ones place : ℕ) (high : Highest ones place) where
 abbrev penAt : ℕ → ℕ → ℕ → Pen
 penAt since window cells = record { since = since; window = window; cells = cells }
 
-abbrev pub leftAt : ℕ → ℕ → ℕ → ℕ → Left
-leftAt last window cells ones = record { last = last; window = window; cells = cells; ones = ones }
+abbrev pub restAt : ℕ → ℕ → ℕ → ℕ → Rest
+restAt last window cells ones = record { last = last; window = window; cells = cells; ones = ones }
 
 module _ (table out : List ℕ) where
   zeros-pass
@@ -68,75 +73,75 @@ module _ (table out : List ℕ) where
       : (start : Pen) (word : ℕ)
       → 1 ≤ start .since
       → word < 65536
-      → leftDrawn table out (leftAt (start .since + 15) (start .window) (start .cells) word)
+      → restDrawn table out (restAt (start .since + 15) (start .window) (start .cells) word)
       ≡ drawn table (drawing start out) (topBits 16 word)
   begins start word h small =
       let n = start .since - 1 in
       let place : start .since + 15 ≡ n + 16 = omega arith in
       let since : n + 1 ≡ start .since = omega arith in
-      ap (λ (l : ℕ). leftDrawn table out (leftAt l (start .window) (start .cells) word)) place
+      ap (λ (l : ℕ). restDrawn table out (restAt l (start .window) (start .cells) word)) place
       ∙ zeros-pass n 16 1 (start .window) (start .cells) word small
       ∙ ap (λ (s : ℕ). drawn table (drawing (penAt s (start .window) (start .cells)) out) (topBits 16 word)) since
 
   a-one-more
-      : (left : Left) (place : ℕ)
-      → Highest (left .ones) place
-      → place < left .last
-      → leftDrawn table (storedBefore out (left .cells) (getD table (behind left place .window) 0)) (behind left place)
-      ≡ leftDrawn table out left
+      : (rest : Rest) (place : ℕ)
+      → Highest (rest .ones) place
+      → place < rest .last
+      → restDrawn table (storedBefore out (rest .cells) (getD table (behind rest place .window) 0)) (behind rest place)
+      ≡ restDrawn table out rest
   unfolding drawn ended
-  a-one-more left place high inside =
-      let window = left .window in
-      let cells = left .cells in
-      let n = left .last - suc place in
-      let whole : left .last ≡ n + suc place = omega arith in
-      let cell : n + 1 ≡ left .last - place = omega arith in
+  a-one-more rest place high inside =
+      let window = rest .window in
+      let cells = rest .cells in
+      let n = rest .last - suc place in
+      let whole : rest .last ≡ n + suc place = omega arith in
+      let cell : n + 1 ≡ rest .last - place = omega arith in
       sym
-      (ap (λ (l : ℕ). leftDrawn table out (leftAt l window cells (left .ones))) whole
-      ∙ zeros-pass n (suc place) 1 window cells (left .ones) (high .1)
-      ∙ ap (drawn table (drawing (penAt (n + 1) window cells) out)) (top-of-one place (left .ones) (high .0))
+      (ap (λ (l : ℕ). restDrawn table out (restAt l window cells (rest .ones))) whole
+      ∙ zeros-pass n (suc place) 1 window cells (rest .ones) (high .1)
+      ∙ ap (drawn table (drawing (penAt (n + 1) window cells) out)) (top-of-one place (rest .ones) (high .0))
       ∙ ap
       (λ (s : ℕ).
-      leftDrawn table (storedBefore out cells (getD table (turned window s) 0))
-      (leftAt place (turned window s) (cells + 1) (left .ones - 2 ^ place)))
+      restDrawn table (storedBefore out cells (getD table (turned window s) 0))
+      (restAt place (turned window s) (cells + 1) (rest .ones - 2 ^ place)))
       cell)
 
   pub ends
-      : (left : Left)
-      → left .ones ≤ 0
-      → drawing (penAt (left .last + 1) (left .window) (left .cells)) out ≡ leftDrawn table out left
+      : (rest : Rest)
+      → rest .ones ≤ 0
+      → drawing (penAt (rest .last + 1) (rest .window) (rest .cells)) out ≡ restDrawn table out rest
   unfolding drawn topBits
-  ends left none =
-      let no : left .ones ≡ 0 = omega arith in
-      let whole : left .last ≡ left .last + 0 = omega arith in
+  ends rest none =
+      let no : rest .ones ≡ 0 = omega arith in
+      let whole : rest .last ≡ rest .last + 0 = omega arith in
       sym
-      (ap (λ (n : ℕ). leftDrawn table out (leftAt (left .last) (left .window) (left .cells) n)) no
-      ∙ ap (λ (l : ℕ). leftDrawn table out (leftAt l (left .window) (left .cells) 0)) whole
-      ∙ zeros-pass (left .last) 0 1 (left .window) (left .cells) 0 (omega arith))
+      (ap (λ (n : ℕ). restDrawn table out (restAt (rest .last) (rest .window) (rest .cells) n)) no
+      ∙ ap (λ (l : ℕ). restDrawn table out (restAt l (rest .window) (rest .cells) 0)) whole
+      ∙ zeros-pass (rest .last) 0 1 (rest .window) (rest .cells) 0 (omega arith))
 
 -- ---- a step
 
-pub record Stepped (left next : Left) : Type 0 where
+pub record Stepped (rest next : Rest) : Type 0 where
   pub pending : Pending next
-  pub fewer : next .ones < left .ones
-  pub one-cell : next .cells ≡ left .cells + 1
+  pub fewer : next .ones < rest .ones
+  pub one-cell : next .cells ≡ rest .cells + 1
   pub in-table : next .window < 64
   pub same
       : (table out : List ℕ)
-      → leftDrawn table (storedBefore out (left .cells) (getD table (next .window) 0)) next ≡ leftDrawn table out left
+      → restDrawn table (storedBefore out (rest .cells) (getD table (next .window) 0)) next ≡ restDrawn table out rest
 
-pub steps : (left : Left) (place : ℕ) → Pending left → Highest (left .ones) place → Stepped left (behind left place)
+pub steps : (rest : Rest) (place : ℕ) → Pending rest → Highest (rest .ones) place → Stepped rest (behind rest place)
 unfolding turned
-steps left place pending high =
+steps rest place pending high =
     let small = pending .small in
     let near = pending .near in
     let low = high .0 in
-    let rest = left-is-below (left .ones) place high in
-    let inside = place-below (left .ones) place high (left .last) (pending .below) in
+    let left = left-is-below (rest .ones) place high in
+    let inside = place-below (rest .ones) place high (rest .last) (pending .below) in
     record {
-      pending = record { below = rest; small = omega arith; near = omega arith };
+      pending = record { below = left; small = omega arith; near = omega arith };
       fewer = omega arith;
       one-cell = refl;
       in-table = omega arith;
-      same = λ (table out : List ℕ). a-one-more table out left place high inside;
+      same = λ (table out : List ℕ). a-one-more table out rest place high inside;
     }
