@@ -14,9 +14,6 @@ returns : tie.Need-returns
 unfolding leastClearance
 returns c = sym (least-from-none _ _ (c .if1 .taken))
 
-start-requires : tie.Need-start-requires
-start-requires c κs = search needs
-
 least-from-requires : tie.Need-least-from-requires
 least-from-requires c κs =
     let some = c .before .if1 .left in
@@ -29,4 +26,4 @@ returns-2 c =
     c .least-from .ensures ∙ ap (λ (at : Cursor). leastFrom at intervals) (c .before .start .ensures)
 
 pub least-spec : {M : Type 1} → statement M
-least-spec = tie.close (tie.spec returns start-requires least-from-requires returns-2)
+least-spec = tie.close (tie.spec returns (λ c κs. search needs) least-from-requires returns-2)

@@ -22,42 +22,6 @@ abbrev μ-loop : tie.MeasureT-loop
 loop-holds : tie.Need-loop-holds Inv-loop μ-loop
 loop-holds c = none-met _ _ (c .before .pre .0) (c .before .pre .1)
 
-mul-interval : tie.Need-mul-interval Inv-loop μ-loop
-mul-interval c = search needs
-
-shared-slice-read-interval : tie.Need-shared-slice-read-interval Inv-loop μ-loop
-shared-slice-read-interval c = search needs
-
-past-requires : tie.Need-past-requires Inv-loop μ-loop
-past-requires c κs = search needs
-
-past-requires-2 : tie.Need-past-requires-2 Inv-loop μ-loop
-past-requires-2 c κs = search needs
-
-first-requires : tie.Need-first-requires Inv-loop μ-loop
-first-requires c κs = search needs
-
-last-requires : tie.Need-last-requires Inv-loop μ-loop
-last-requires c κs = search needs
-
-first-requires-2 : tie.Need-first-requires-2 Inv-loop μ-loop
-first-requires-2 c κs = search needs
-
-first-requires-3 : tie.Need-first-requires-3 Inv-loop μ-loop
-first-requires-3 c κs = search needs
-
-last-requires-2 : tie.Need-last-requires-2 Inv-loop μ-loop
-last-requires-2 c κs = search needs
-
-last-requires-3 : tie.Need-last-requires-3 Inv-loop μ-loop
-last-requires-3 c κs = search needs
-
-add-k : tie.Need-add-k Inv-loop μ-loop
-add-k c = search needs
-
-loop-less : tie.Need-loop-less Inv-loop μ-loop
-loop-less c = search needs
-
 loop-again : tie.Need-loop-again Inv-loop μ-loop
 loop-again c =
     let at-first2 = c .before .before .before in
@@ -70,24 +34,6 @@ loop-again c =
     _ _ _ _ _ _ _ _ _ _ (omega (arith, fits)) (at-first2 .before .before .first .ensures)
     (at-first2 .before .last .ensures) (at-first2 .first2 .ensures) (c .before .before .first3 .ensures)
     (c .before .last2 .ensures) (c .last3 .ensures))
-
-turned-requires : tie.Need-turned-requires Inv-loop μ-loop
-turned-requires c κs = search needs
-
-sub-turned : tie.Need-sub-turned Inv-loop μ-loop
-sub-turned c = search needs
-
-turned-requires-2 : tie.Need-turned-requires-2 Inv-loop μ-loop
-turned-requires-2 c κs = search needs
-
-room-requires : tie.Need-room-requires Inv-loop μ-loop
-room-requires c κs = search needs
-
-room-requires-2 : tie.Need-room-requires-2 Inv-loop μ-loop
-room-requires-2 c κs = search needs
-
-lesser-requires : tie.Need-lesser-requires Inv-loop μ-loop
-lesser-requires c κs = search needs
 
 returns : tie.Need-returns Inv-loop μ-loop
 unfolding leastMet
@@ -104,6 +50,6 @@ returns c =
 pub least-from-spec : {M : Type 1} → statement M
 least-from-spec =
     tie.close
-    (tie.spec Inv-loop μ-loop loop-holds mul-interval shared-slice-read-interval past-requires past-requires-2
-    first-requires last-requires first-requires-2 first-requires-3 last-requires-2 last-requires-3 add-k loop-less
-    loop-again turned-requires sub-turned turned-requires-2 room-requires room-requires-2 lesser-requires returns)
+    (tie.spec Inv-loop μ-loop loop-holds (λ c. search needs) (λ c. search needs) (λ c κs. search needs) (λ c κs. search needs)
+    (λ c κs. search needs) (λ c κs. search needs) (λ c κs. search needs) (λ c κs. search needs) (λ c κs. search needs) (λ c κs. search needs) (λ c. search needs) (λ c. search needs)
+    loop-again (λ c κs. search needs) (λ c. search needs) (λ c κs. search needs) (λ c κs. search needs) (λ c κs. search needs) (λ c κs. search needs) returns)

@@ -11,12 +11,6 @@ use borrow.Author.Needs.{needs}
 use Rattle.clearance.proofs.of_interval.Statement.{statement}
 use Rattle.clearance.proofs.of_interval.Tie as tie
 
-start-requires : tie.Need-start-requires
-start-requires c κs = search needs
-
-slice-aggregate-least-from : tie.Need-slice-aggregate-least-from
-slice-aggregate-least-from c = search needs
-
 least-from-requires : tie.Need-least-from-requires
 least-from-requires c κs = (rw (c .before .start .ensures) (ascending-at-start _ (c .before .before .pre)), omega arith)
 
@@ -29,4 +23,4 @@ returns c =
     ∙ least-from-one _ interval
 
 pub of-interval-spec : {M : Type 1} → statement M
-of-interval-spec = tie.close (tie.spec start-requires slice-aggregate-least-from least-from-requires returns)
+of-interval-spec = tie.close (tie.spec (λ c κs. search needs) (λ c. search needs) least-from-requires returns)

@@ -24,24 +24,12 @@ part-length
     : (from end : ℕ) (ds : List ℕ) → end ≤ length ds → length (take (end - from) (drop from ds)) ≡ end - from
 part-length from end ds within = length-take-le (end - from) (drop from ds) (rw (length-drop from ds) (omega arith))
 
-new-requires : tie.Need-new-requires Inv-loop μ-loop
-new-requires c κs = search needs
-
-start-requires : tie.Need-start-requires Inv-loop μ-loop
-start-requires c κs = search needs
-
 loop-holds : tie.Need-loop-holds Inv-loop μ-loop
 unfolding freshReading
 loop-holds c = rw (c .before .new .ensures) (begins _ _ _ _, c .before .before .before .before .pre, refl)
 
-block-end-requires : tie.Need-block-end-requires Inv-loop μ-loop
-block-end-requires c κs = search needs
-
 sub-n : tie.Need-sub-n Inv-loop μ-loop
 sub-n c = omega (arith, c .block-end .ensures .0)
-
-mul-pass-block : tie.Need-mul-pass-block Inv-loop μ-loop
-mul-pass-block c = search needs
 
 sub-pass-block : tie.Need-sub-pass-block Inv-loop μ-loop
 sub-pass-block c = omega (arith, c .block-end .ensures .0)
@@ -130,24 +118,6 @@ returns-2 c =
 pub pass-over-spec : {M : Type 1} → statement M
 pass-over-spec =
     tie.close
-    (tie.spec
-    Inv-loop
-    μ-loop
-    new-requires
-    start-requires
-    loop-holds
-    block-end-requires
-    sub-n
-    mul-pass-block
-    sub-pass-block
-    part-pass-block-start
-    part-pass-block-end
-    array-borrow-prefix-units
-    slice-aggregate-pass-block
-    pass-block-requires
-    same-length
-    returns
-    loop-less
-    loop-again
-    same-length-2
-    returns-2)
+    (tie.spec Inv-loop μ-loop (λ c κs. search needs) (λ c κs. search needs) loop-holds (λ c κs. search needs) sub-n
+    (λ c. search needs) sub-pass-block part-pass-block-start part-pass-block-end array-borrow-prefix-units
+    slice-aggregate-pass-block pass-block-requires same-length returns loop-less loop-again same-length-2 returns-2)

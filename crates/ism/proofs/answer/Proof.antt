@@ -9,18 +9,6 @@ use borrow.Author.Needs.{needs}
 use Rattle.ism.proofs.answer.Statement.{statement}
 use Rattle.ism.proofs.answer.Tie as tie
 
-enum-known-counted : tie.Need-enum-known-counted
-enum-known-counted c = search needs
-
-enum-known-counted-2 : tie.Need-enum-known-counted-2
-enum-known-counted-2 c = search needs
-
-number-requires : tie.Need-number-requires
-number-requires c κs = search needs
-
-place-requires : tie.Need-place-requires
-place-requires c κs = search needs
-
 returns : tie.Need-returns
 returns c = sym (ap (λ (x : Counted). answerOf (countedAnswer x)) (c .before .counted .given .1))
 
@@ -32,10 +20,4 @@ returns-2 c =
 pub answer-spec : {M : Type 1} → statement M
 answer-spec =
     tie.close
-    (tie.spec
-    enum-known-counted
-    enum-known-counted-2
-    number-requires
-    place-requires
-    returns
-    returns-2)
+    (tie.spec (λ c. search needs) (λ c. search needs) (λ c κs. search needs) (λ c κs. search needs) returns returns-2)

@@ -11,15 +11,6 @@ use borrow.Author.Needs.{needs}
 use Rattle.ism.proofs.ism_class.Statement.{statement}
 use Rattle.ism.proofs.ism_class.Tie as tie
 
-profile-requires : tie.Need-profile-requires
-profile-requires c κs = search needs
-
-class-number-requires : tie.Need-class-number-requires
-class-number-requires c κs = search needs
-
-answer-requires : tie.Need-answer-requires
-answer-requires c κs = search needs
-
 returns : tie.Need-returns
 returns c =
     let classed = c .before .before .before in
@@ -54,11 +45,5 @@ returns-2 c =
 pub ism-class-spec : {M : Type 1} → statement M
 ism-class-spec =
     tie.close
-    (tie.spec
-    profile-requires
-    class-number-requires
-    answer-requires
-    returns
-    of-interval-requires
-    with-clearance-requires
-    returns-2)
+    (tie.spec (λ c κs. search needs) (λ c κs. search needs) (λ c κs. search needs) returns of-interval-requires
+    with-clearance-requires returns-2)

@@ -8,15 +8,6 @@ use borrow.Author.Needs.{needs}
 use Rattle.ism.proofs.ism_margin.Statement.{statement}
 use Rattle.ism.proofs.ism_margin.Tie as tie
 
-profile-requires : tie.Need-profile-requires
-profile-requires c κs = search needs
-
-margin-requires : tie.Need-margin-requires
-margin-requires c κs = search needs
-
-answer-requires : tie.Need-answer-requires
-answer-requires c κs = search needs
-
 returns : tie.Need-returns
 returns c =
     c .answer .ensures
@@ -24,4 +15,4 @@ returns c =
     ∙ ap (λ (q : Profile). answerOf (marginRule q)) (c .before .before .profile .ensures)
 
 pub ism-margin-spec : {M : Type 1} → statement M
-ism-margin-spec = tie.close (tie.spec profile-requires margin-requires answer-requires returns)
+ism-margin-spec = tie.close (tie.spec (λ c κs. search needs) (λ c κs. search needs) (λ c κs. search needs) returns)

@@ -13,18 +13,6 @@ use borrow.Author.Needs.{needs}
 use Rattle.ism.proofs.ism_read.Statement.{statement}
 use Rattle.ism.proofs.ism_read.Tie as tie
 
-profile-requires : tie.Need-profile-requires
-profile-requires c κs = search needs
-
-read-requires : tie.Need-read-requires
-read-requires c κs = search needs
-
-answer-requires : tie.Need-answer-requires
-answer-requires c κs = search needs
-
-same-length : tie.Need-same-length
-same-length c = search needs
-
 returns : tie.Need-returns
 returns c =
     let read = c .before .before .before .before .before in
@@ -50,9 +38,6 @@ least-requires c κs =
 with-clearance-requires : tie.Need-with-clearance-requires
 with-clearance-requires c κs = c .before .if1 .left
 
-same-length-2 : tie.Need-same-length-2
-same-length-2 c = search needs
-
 returns-2 : tie.Need-returns-2
 returns-2 c =
     let answered = c .before .before .before .before in
@@ -73,13 +58,5 @@ returns-2 c =
 pub ism-read-spec : {M : Type 1} → statement M
 ism-read-spec =
     tie.close
-    (tie.spec
-    profile-requires
-    read-requires
-    answer-requires
-    same-length
-    returns
-    least-requires
-    with-clearance-requires
-    same-length-2
-    returns-2)
+    (tie.spec (λ c κs. search needs) (λ c κs. search needs) (λ c κs. search needs) (λ c. search needs) returns
+    least-requires with-clearance-requires (λ c. search needs) returns-2)

@@ -9,18 +9,6 @@ use borrow.Author.Needs.{needs}
 use Rattle.ism.proofs.ism_write.Statement.{statement}
 use Rattle.ism.proofs.ism_write.Tie as tie
 
-profile-requires : tie.Need-profile-requires
-profile-requires c κs = search needs
-
-write-requires : tie.Need-write-requires
-write-requires c κs = search needs
-
-answer-requires : tie.Need-answer-requires
-answer-requires c κs = search needs
-
-same-length : tie.Need-same-length
-same-length c = search needs
-
 returns : tie.Need-returns
 returns c =
     let start = c .before .before .before .before .before .before .before .before .args in
@@ -34,4 +22,4 @@ returns c =
 
 pub ism-write-spec : {M : Type 1} → statement M
 ism-write-spec =
-    tie.close (tie.spec profile-requires write-requires answer-requires same-length returns)
+    tie.close (tie.spec (λ c κs. search needs) (λ c κs. search needs) (λ c κs. search needs) (λ c. search needs) returns)

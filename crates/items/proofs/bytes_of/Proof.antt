@@ -4,9 +4,6 @@ use Rattle.items.specs.Item.{bytesOf}
 use Rattle.items.proofs.bytes_of.Statement.{statement}
 use Rattle.items.proofs.bytes_of.Tie as tie
 
-is-check-requires : tie.Need-is-check-requires
-is-check-requires c κs = search needs
-
 returns : tie.Need-returns
 unfolding bytesOf
 returns c = rw (← c .before .is-check .ensures, c .if1 .taken)
@@ -16,4 +13,4 @@ unfolding bytesOf
 returns-2 c = rw (← c .before .is-check .ensures, c .if1 .left)
 
 pub bytes-of-spec : {M : Type 1} → statement M
-bytes-of-spec = tie.close (tie.spec is-check-requires returns returns-2)
+bytes-of-spec = tie.close (tie.spec (λ c κs. search needs) returns returns-2)

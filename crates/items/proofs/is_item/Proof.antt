@@ -9,15 +9,9 @@ returns : tie.Need-returns
 unfolding isItem isByte
 returns c = rw (lt-ltb _ _ (c .if1 .taken))
 
-is-mark-requires : tie.Need-is-mark-requires
-is-mark-requires c κs = search needs
-
 returns-2 : tie.Need-returns-2
 unfolding isItem isByte
 returns-2 c = rw (le-ltb _ _ (c .before .before .if1 .left), ← c .before .is-mark .ensures, c .if2 .taken)
-
-is-check-requires : tie.Need-is-check-requires
-is-check-requires c κs = search needs
 
 returns-3 : tie.Need-returns-3
 unfolding isItem isByte
@@ -26,4 +20,4 @@ returns-3 c =
     (c .is-check .ensures)
 
 pub is-item-spec : {M : Type 1} → statement M
-is-item-spec = tie.close (tie.spec returns is-mark-requires returns-2 is-check-requires returns-3)
+is-item-spec = tie.close (tie.spec returns (λ c κs. search needs) returns-2 (λ c κs. search needs) returns-3)

@@ -19,29 +19,11 @@ mul-four c = let k = kept _ (c .before .before .before .pre) in omega arith
 add-four : tie.Need-add-four
 add-four c = let k = kept _ (c .before .before .before .before .pre) in omega arith
 
-room-requires : tie.Need-room-requires
-room-requires c κs = search needs
-
-room-in-requires : tie.Need-room-in-requires
-room-in-requires c κs = search needs
-
 add-room-in : tie.Need-add-room-in
 add-room-in c = let k = kept _ (c .before .before .before .before .before .before .pre) in omega arith
 
-room-in-requires-2 : tie.Need-room-in-requires-2
-room-in-requires-2 c κs = search needs
-
 add-room-in-2 : tie.Need-add-room-in-2
 add-room-in-2 c = let k = kept _ (c .before .before .before .before .before .before .before .pre) in omega arith
-
-room-in-requires-3 : tie.Need-room-in-requires-3
-room-in-requires-3 c κs = search needs
-
-least-requires : tie.Need-least-requires
-least-requires c κs = search needs
-
-least-requires-2 : tie.Need-least-requires-2
-least-requires-2 c κs = search needs
 
 returns : tie.Need-returns
 unfolding marginOf
@@ -62,17 +44,5 @@ returns c =
 pub least-room-spec : {M : Type 1} → statement M
 least-room-spec =
     tie.close
-    (tie.spec
-    swing-requires
-    add-three
-    mul-four
-    add-four
-    room-requires
-    room-in-requires
-    add-room-in
-    room-in-requires-2
-    add-room-in-2
-    room-in-requires-3
-    least-requires
-    least-requires-2
-    returns)
+    (tie.spec swing-requires add-three mul-four add-four (λ c κs. search needs) (λ c κs. search needs) add-room-in
+    (λ c κs. search needs) add-room-in-2 (λ c κs. search needs) (λ c κs. search needs) (λ c κs. search needs) returns)

@@ -8,21 +8,9 @@ use borrow.Author.Needs.{needs}
 use Rattle.lengths.proofs.margin.Statement.{statement}
 use Rattle.lengths.proofs.margin.Tie as tie
 
-check-requires : tie.Need-check-requires
-check-requires c κs = search needs
-
-enum-known-refusal : tie.Need-enum-known-refusal
-enum-known-refusal c = search needs
-
-enum-told : tie.Need-enum-told
-enum-told c = search needs
-
 least-room-requires : tie.Need-least-room-requires
 least-room-requires c κs =
     ap (λ (a : Answer). a .number) (sym (c .before .before .check .ensures) ∙ ap verdictAnswer (c .enum-told .given .1))
-
-cast-t6 : tie.Need-cast-t6
-cast-t6 c = search needs
 
 returns : tie.Need-returns
 unfolding marginRule
@@ -38,11 +26,5 @@ returns-2 c =
 pub margin-spec : {M : Type 1} → statement M
 margin-spec =
     tie.close
-    (tie.spec
-    check-requires
-    enum-known-refusal
-    enum-told
-    least-room-requires
-    cast-t6
-    returns
-    returns-2)
+    (tie.spec (λ c κs. search needs) (λ c. search needs) (λ c. search needs) least-room-requires (λ c. search needs)
+    returns returns-2)

@@ -10,9 +10,6 @@ use borrow.Author.Needs.{needs}
 use Rattle.merge.proofs.check_numbers.Statement.{statement}
 use Rattle.merge.proofs.check_numbers.Tie as tie
 
-count-numbers-requires : tie.Need-count-numbers-requires
-count-numbers-requires c κs = search needs
-
 returns : tie.Need-returns
 returns c =
     let start = c .before .before .before .before in
@@ -20,12 +17,6 @@ returns c =
     let first = sectorsIn (start .args .first .now) in
     let second = sectorsIn (start .args .second .now) in
     many-numbers-are-refused first second (omega (arith, count))
-
-lowest-at-odds-requires : tie.Need-lowest-at-odds-requires
-lowest-at-odds-requires c κs = search needs
-
-cast-t9 : tie.Need-cast-t9
-cast-t9 c = search needs
 
 returns-2 : tie.Need-returns-2
 returns-2 c =
@@ -48,4 +39,4 @@ returns-3 c =
 pub check-numbers-spec : {M : Type 1} → statement M
 check-numbers-spec =
     tie.close
-    (tie.spec count-numbers-requires returns lowest-at-odds-requires cast-t9 returns-2 returns-3)
+    (tie.spec (λ c κs. search needs) returns (λ c κs. search needs) (λ c. search needs) returns-2 returns-3)

@@ -7,27 +7,6 @@ use borrow.Author.Needs.{needs}
 use Rattle.merge.proofs.check_sets.Statement.{statement}
 use Rattle.merge.proofs.check_sets.Tie as tie
 
-count-sectors-requires : tie.Need-count-sectors-requires
-count-sectors-requires c κs = search needs
-
-enum-known-refusal : tie.Need-enum-known-refusal
-enum-known-refusal c = search needs
-
-enum-known-a : tie.Need-enum-known-a
-enum-known-a c = search needs
-
-count-sectors-requires-2 : tie.Need-count-sectors-requires-2
-count-sectors-requires-2 c κs = search needs
-
-enum-known-refusal-2 : tie.Need-enum-known-refusal-2
-enum-known-refusal-2 c = search needs
-
-enum-known-b : tie.Need-enum-known-b
-enum-known-b c = search needs
-
-check-counts-requires : tie.Need-check-counts-requires
-check-counts-requires c κs = search needs
-
 returns : tie.Need-returns
 returns c =
     misfit-first
@@ -63,14 +42,5 @@ returns-3 c =
 pub check-sets-spec : {M : Type 1} → statement M
 check-sets-spec =
     tie.close
-    (tie.spec
-    count-sectors-requires
-    enum-known-refusal
-    enum-known-a
-    count-sectors-requires-2
-    enum-known-refusal-2
-    enum-known-b
-    check-counts-requires
-    returns
-    returns-2
-    returns-3)
+    (tie.spec (λ c κs. search needs) (λ c. search needs) (λ c. search needs) (λ c κs. search needs)
+    (λ c. search needs) (λ c. search needs) (λ c κs. search needs) returns returns-2 returns-3)

@@ -33,9 +33,6 @@ write-merged-requires c κs =
       rw (c .before .before .merged-size .ensures) at (c .before .if1 .left),
     )
 
-same-length : tie.Need-same-length
-same-length c = search needs
-
 returns-2 : tie.Need-returns-2
 returns-2 c =
     let sized = c .before .before .before .before .before in
@@ -56,4 +53,4 @@ returns-2 c =
 
 pub deliver-spec : {M : Type 1} → statement M
 deliver-spec =
-    tie.close (tie.spec merged-size-requires returns write-merged-requires same-length returns-2)
+    tie.close (tie.spec merged-size-requires returns write-merged-requires (λ c. search needs) returns-2)

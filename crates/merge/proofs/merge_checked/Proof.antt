@@ -19,15 +19,6 @@ index-set-requires-2 c κs =
     let short = accepted-sets-are-short _ _ (c .before .before .before .before .before .before .pre) in
     (short .second-fits, short .second-short, refl)
 
-check-numbers-requires : tie.Need-check-numbers-requires
-check-numbers-requires c κs = search needs
-
-enum-known-refusal : tie.Need-enum-known-refusal
-enum-known-refusal c = search needs
-
-enum-known-count : tie.Need-enum-known-count
-enum-known-count c = search needs
-
 deliver-requires : tie.Need-deliver-requires
 deliver-requires c κs =
     let counted = c .before .before .before .before in
@@ -50,9 +41,6 @@ returns c =
     _
     (sym (ap countedAnswer (c .before .refusal .given .1)) ∙ c .before .before .before .check-numbers .ensures)
 
-same-length : tie.Need-same-length
-same-length c = search needs
-
 returns-2 : tie.Need-returns-2
 unfolding checkedRule
 returns-2 c =
@@ -72,13 +60,5 @@ returns-2 c =
 pub merge-checked-spec : {M : Type 1} → statement M
 merge-checked-spec =
     tie.close
-    (tie.spec
-    index-set-requires
-    index-set-requires-2
-    check-numbers-requires
-    enum-known-refusal
-    enum-known-count
-    deliver-requires
-    returns
-    same-length
-    returns-2)
+    (tie.spec index-set-requires index-set-requires-2 (λ c κs. search needs) (λ c. search needs) (λ c. search needs)
+    deliver-requires returns (λ c. search needs) returns-2)

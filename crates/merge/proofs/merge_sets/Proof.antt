@@ -7,15 +7,6 @@ use borrow.Author.Needs.{needs}
 use Rattle.merge.proofs.merge_sets.Statement.{statement}
 use Rattle.merge.proofs.merge_sets.Tie as tie
 
-check-sets-requires : tie.Need-check-sets-requires
-check-sets-requires c κs = search needs
-
-enum-known-refusal : tie.Need-enum-known-refusal
-enum-known-refusal c = search needs
-
-enum-told : tie.Need-enum-told
-enum-told c = search needs
-
 merge-checked-requires : tie.Need-merge-checked-requires
 merge-checked-requires c κs =
     sym (ap verdictAnswer (c .before .enum-told .given .1)) ∙ c .before .before .before .check-sets .ensures
@@ -36,9 +27,6 @@ returns c =
     _
     _
     (sym (ap verdictAnswer (c .before .refusal .given .1)) ∙ c .before .before .before .check-sets .ensures))
-
-same-length : tie.Need-same-length
-same-length c = search needs
 
 returns-2 : tie.Need-returns-2
 returns-2 c =
@@ -64,11 +52,5 @@ returns-2 c =
 pub merge-sets-spec : {M : Type 1} → statement M
 merge-sets-spec =
     tie.close
-    (tie.spec
-    check-sets-requires
-    enum-known-refusal
-    enum-told
-    merge-checked-requires
-    returns
-    same-length
-    returns-2)
+    (tie.spec (λ c κs. search needs) (λ c. search needs) (λ c. search needs) merge-checked-requires returns
+    (λ c. search needs) returns-2)

@@ -7,15 +7,6 @@ use borrow.Author.Needs.{needs}
 use Rattle.report.proofs.add.Statement.{statement}
 use Rattle.report.proofs.add.Tie as tie
 
-check-sum-requires : tie.Need-check-sum-requires
-check-sum-requires c κs = search needs
-
-enum-told : tie.Need-enum-told
-enum-told c = search needs
-
-enum-told-2 : tie.Need-enum-told-2
-enum-told-2 c = search needs
-
 add-rows-requires : tie.Need-add-rows-requires
 add-rows-requires c κs = verdict-accepts _ _ (c .before .before .check-sum .ensures) (c .enum-told2 .given .1)
 
@@ -34,4 +25,4 @@ returns-2 c =
 pub add-spec : {M : Type 1} → statement M
 add-spec =
     tie.close
-    (tie.spec check-sum-requires enum-told enum-told-2 add-rows-requires returns returns-2)
+    (tie.spec (λ c κs. search needs) (λ c. search needs) (λ c. search needs) add-rows-requires returns returns-2)

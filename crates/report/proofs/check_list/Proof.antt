@@ -9,15 +9,6 @@ use borrow.Author.Needs.{needs}
 use Rattle.report.proofs.check_list.Statement.{statement}
 use Rattle.report.proofs.check_list.Tie as tie
 
-check-requires : tie.Need-check-requires
-check-requires c κs = search needs
-
-enum-known-refusal : tie.Need-enum-known-refusal
-enum-known-refusal c = search needs
-
-enum-told : tie.Need-enum-told
-enum-told c = search needs
-
 returns : tie.Need-returns
 unfolding reportRule
 returns c =
@@ -37,4 +28,4 @@ returns-3 c =
 
 pub check-list-spec : {M : Type 1} → statement M
 check-list-spec =
-    tie.close (tie.spec check-requires enum-known-refusal enum-told returns returns-2 returns-3)
+    tie.close (tie.spec (λ c κs. search needs) (λ c. search needs) (λ c. search needs) returns returns-2 returns-3)

@@ -21,33 +21,12 @@ abbrev μ-loop : tie.MeasureT-loop
 loop-holds : tie.Need-loop-holds Inv-loop μ-loop
 loop-holds c = (search needs, refl)
 
-mul-overflows : tie.Need-mul-overflows Inv-loop μ-loop
-mul-overflows c = search needs
-
-array-copy-out-overflows : tie.Need-array-copy-out-overflows Inv-loop μ-loop
-array-copy-out-overflows c = search needs
-
-mul-overflows-2 : tie.Need-mul-overflows-2 Inv-loop μ-loop
-mul-overflows-2 c = search needs
-
-array-copy-out-overflows-2 : tie.Need-array-copy-out-overflows-2 Inv-loop μ-loop
-array-copy-out-overflows-2 c = search needs
-
-overflows-requires : tie.Need-overflows-requires Inv-loop μ-loop
-overflows-requires c κs = search needs
-
 returns : tie.Need-returns Inv-loop μ-loop
 unfolding addRule
 returns c =
     let turn = c .before .before .before .before in
     let overflows = sym (c .before .overflows .ensures) ∙ c .if1 .taken in
     rw (sym (turn .before .loop .inv .1) ∙ overflows-here _ _ _ (turn .loop-test .taken) overflows)
-
-add-k : tie.Need-add-k Inv-loop μ-loop
-add-k c = search needs
-
-loop-less : tie.Need-loop-less Inv-loop μ-loop
-loop-less c = search needs
 
 loop-again : tie.Need-loop-again Inv-loop μ-loop
 loop-again c =
@@ -65,17 +44,5 @@ returns-2 c =
 pub check-sum-spec : {M : Type 1} → statement M
 check-sum-spec =
     tie.close
-    (tie.spec
-    Inv-loop
-    μ-loop
-    loop-holds
-    mul-overflows
-    array-copy-out-overflows
-    mul-overflows-2
-    array-copy-out-overflows-2
-    overflows-requires
-    returns
-    add-k
-    loop-less
-    loop-again
-    returns-2)
+    (tie.spec Inv-loop μ-loop loop-holds (λ c. search needs) (λ c. search needs) (λ c. search needs)
+    (λ c. search needs) (λ c κs. search needs) returns (λ c. search needs) (λ c. search needs) loop-again returns-2)

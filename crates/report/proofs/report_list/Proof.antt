@@ -10,18 +10,6 @@ use borrow.Author.Needs.{needs}
 use Rattle.report.proofs.report_list.Statement.{statement}
 use Rattle.report.proofs.report_list.Tie as tie
 
-check-list-requires : tie.Need-check-list-requires
-check-list-requires c κs = search needs
-
-enum-told : tie.Need-enum-told
-enum-told c = search needs
-
-enum-told-2 : tie.Need-enum-told-2
-enum-told-2 c = search needs
-
-start-requires : tie.Need-start-requires
-start-requires c κs = search needs
-
 gather-requires : tie.Need-gather-requires
 gather-requires c κs =
     let told = c .before in
@@ -46,11 +34,5 @@ returns-2 c =
 pub report-list-spec : {M : Type 1} → statement M
 report-list-spec =
     tie.close
-    (tie.spec
-    check-list-requires
-    enum-told
-    enum-told-2
-    start-requires
-    gather-requires
-    returns
-    returns-2)
+    (tie.spec (λ c κs. search needs) (λ c. search needs) (λ c. search needs) (λ c κs. search needs) gather-requires
+    returns returns-2)

@@ -27,9 +27,6 @@ line-found c =
 returns : tie.Need-returns
 returns c = script-refused _ _ _ (long-input-is-refused _ (c .if1 .taken))
 
-find-requires : tie.Need-find-requires
-find-requires c κs = search needs
-
 returns-2 : tie.Need-returns-2
 returns-2 c =
     let text = c .before .before .before .before .before .args .text .now in
@@ -46,15 +43,6 @@ slice-aggregate-read-profile c =
     (first-line-ends-in-text text (found .before .find .result) (found .before .before .if1 .left)
     (found .before .find .ensures)))
 
-read-profile-requires : tie.Need-read-profile-requires
-read-profile-requires c κs = search needs
-
-enum-told : tie.Need-enum-told
-enum-told c = search needs
-
-enum-known-profile : tie.Need-enum-known-profile
-enum-known-profile c = search needs
-
 add-store-items : tie.Need-add-store-items
 add-store-items c = omega (arith, line-found (c .before .before .before .before .before))
 
@@ -62,12 +50,6 @@ store-items-requires : tie.Need-store-items-requires
 store-items-requires c κs =
     let found = c .before .before .before .before .before .before in
     omega (arith, line-found found, found .before .before .if1 .left)
-
-enum-known-refusal : tie.Need-enum-known-refusal
-enum-known-refusal c = search needs
-
-enum-known-count : tie.Need-enum-known-count
-enum-known-count c = search needs
 
 returns-3 : tie.Need-returns-3
 returns-3 c =
@@ -78,9 +60,6 @@ returns-3 c =
     script-refused _ _ _
     (no-profile-is-refused text (found .before .find .result) (found .before .before .if1 .left)
     (found .before .find .ensures) (line-found found) faulty)
-
-same-length : tie.Need-same-length
-same-length c = search needs
 
 returns-4 : tie.Need-returns-4
 returns-4 c =
@@ -95,9 +74,6 @@ returns-4 c =
     let rule = profile-leaves-the-lines text end short (found .before .find .ensures) (line-found found) (first .0) in
     let items = items-of-the-lines text end short (found .before .find .ensures) (line-found found) in
     lines-refuse-the-script text _ _ _ _ rule items (call .store-items .ensures) _ (c .before .refusal .given .1)
-
-same-length-2 : tie.Need-same-length-2
-same-length-2 c = search needs
 
 returns-5 : tie.Need-returns-5
 returns-5 c =
@@ -117,20 +93,6 @@ returns-5 c =
 pub read-spec : {M : Type 1} → statement M
 read-spec =
     tie.close
-    (tie.spec
-    returns
-    find-requires
-    returns-2
-    slice-aggregate-read-profile
-    read-profile-requires
-    enum-told
-    enum-known-profile
-    add-store-items
-    store-items-requires
-    enum-known-refusal
-    enum-known-count
-    returns-3
-    same-length
-    returns-4
-    same-length-2
-    returns-5)
+    (tie.spec returns (λ c κs. search needs) returns-2 slice-aggregate-read-profile (λ c κs. search needs)
+    (λ c. search needs) (λ c. search needs) add-store-items store-items-requires (λ c. search needs)
+    (λ c. search needs) returns-3 (λ c. search needs) returns-4 (λ c. search needs) returns-5)

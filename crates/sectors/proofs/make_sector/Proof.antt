@@ -10,18 +10,12 @@ use Rattle.sectors.proofs.make_sector.Tie as tie
 returns : tie.Need-returns
 returns c = code-above-3-settles _ _ _ _ _ _ (c .if1 .taken)
 
-sector-size-requires : tie.Need-sector-size-requires
-sector-size-requires c κs = search needs
-
 returns-2 : tie.Need-returns-2
 returns-2 c =
     wrong-size-settles
     _ _ _ _ _ _
     (c .before .before .if1 .left)
     (λ e. c .if2 .taken (e ∙ sym (c .before .sector-size .ensures)))
-
-add-count : tie.Need-add-count
-add-count c = search needs
 
 returns-3 : tie.Need-returns-3
 returns-3 c =
@@ -30,12 +24,6 @@ returns-3 c =
     (c .before .before .before .if1 .left)
     (c .before .if2 .left ∙ c .before .before .sector-size .ensures)
     (c .if3 .taken)
-
-put-sector-requires : tie.Need-put-sector-requires
-put-sector-requires c κs = search needs
-
-same-length : tie.Need-same-length
-same-length c = search needs
 
 returns-4 : tie.Need-returns-4
 returns-4 c =
@@ -57,12 +45,5 @@ returns-4 c =
 pub make-sector-spec : {M : Type 1} → statement M
 make-sector-spec =
     tie.close
-    (tie.spec
-    returns
-    sector-size-requires
-    returns-2
-    add-count
-    returns-3
-    put-sector-requires
-    same-length
-    returns-4)
+    (tie.spec returns (λ c κs. search needs) returns-2 (λ c. search needs) returns-3 (λ c κs. search needs)
+    (λ c. search needs) returns-4)

@@ -7,21 +7,6 @@ use Rattle.sectors.proofs.SectorLaws.{opening-stored}
 use Rattle.sectors.proofs.open_field.Statement.{statement}
 use Rattle.sectors.proofs.open_field.Tie as tie
 
-repeat-requires : tie.Need-repeat-requires
-repeat-requires c κs = search needs
-
-repeat-requires-2 : tie.Need-repeat-requires-2
-repeat-requires-2 c κs = search needs
-
-mul-out : tie.Need-mul-out
-mul-out c = search needs
-
-slice-write-out : tie.Need-slice-write-out
-slice-write-out c = search needs
-
-add-result : tie.Need-add-result
-add-result c = search needs
-
 same-length : tie.Need-same-length
 same-length c = simp length-set (omega arith)
 
@@ -43,11 +28,5 @@ returns c =
 pub open-field-spec : {M : Type 1} → statement M
 open-field-spec =
     tie.close
-    (tie.spec
-    repeat-requires
-    repeat-requires-2
-    mul-out
-    slice-write-out
-    add-result
-    same-length
-    returns)
+    (tie.spec (λ c κs. search needs) (λ c κs. search needs) (λ c. search needs) (λ c. search needs)
+    (λ c. search needs) same-length returns)

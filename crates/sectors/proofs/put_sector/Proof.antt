@@ -5,27 +5,6 @@ use borrow.Author.Needs.{needs}
 use Rattle.sectors.proofs.put_sector.Statement.{statement}
 use Rattle.sectors.proofs.put_sector.Tie as tie
 
-open-field-requires : tie.Need-open-field-requires
-open-field-requires c κs = search needs
-
-put-identity-requires : tie.Need-put-identity-requires
-put-identity-requires c κs = search needs
-
-repeat-requires : tie.Need-repeat-requires
-repeat-requires c κs = search needs
-
-open-field-requires-2 : tie.Need-open-field-requires-2
-open-field-requires-2 c κs = search needs
-
-put-data-requires : tie.Need-put-data-requires
-put-data-requires c κs = search needs
-
-repeat-requires-2 : tie.Need-repeat-requires-2
-repeat-requires-2 c κs = search needs
-
-same-length : tie.Need-same-length
-same-length c = search needs
-
 returns : tie.Need-returns
 returns c =
     let at-data = c .before .before .before .before .before .before in
@@ -66,12 +45,5 @@ returns c =
 pub put-sector-spec : {M : Type 1} → statement M
 put-sector-spec =
     tie.close
-    (tie.spec
-    open-field-requires
-    put-identity-requires
-    repeat-requires
-    open-field-requires-2
-    put-data-requires
-    repeat-requires-2
-    same-length
-    returns)
+    (tie.spec (λ c κs. search needs) (λ c κs. search needs) (λ c κs. search needs) (λ c κs. search needs)
+    (λ c κs. search needs) (λ c κs. search needs) (λ c. search needs) returns)

@@ -41,21 +41,6 @@ the-stream c =
     ap (take (c .cells .given .0 .0)) (c .before .before .before .write .ensures .1)
     ∙ stream-written (start .args .profile) (start .args .items .now) (start .pre .1 .0) _ (count c) _ refl
 
-slice-aggregate-write : tie.Need-slice-aggregate-write
-slice-aggregate-write c = search needs
-
-write-requires : tie.Need-write-requires
-write-requires c κs = search needs
-
-enum-known-refusal : tie.Need-enum-known-refusal
-enum-known-refusal c = search needs
-
-refuse-requires : tie.Need-refuse-requires
-refuse-requires c κs = search needs
-
-enum-known-cells : tie.Need-enum-known-cells
-enum-known-cells c = search needs
-
 array-share-prefix-stream : tie.Need-array-share-prefix-stream
 array-share-prefix-stream c = omega (arith, few (c .before), c .before .before .before .before .write .kept .1 .1 .0)
 
@@ -77,9 +62,6 @@ report-requires c κs =
       start .pre .1 .1,
     )
 
-same-length : tie.Need-same-length
-same-length c = search needs
-
 returns : tie.Need-returns
 returns c =
     let refusal = c .before .before .before .before .before in
@@ -88,9 +70,6 @@ returns c =
     let rule = sym (ap countedAnswer (refusal .refusal .given .1)) ∙ answer written in
     rw (refused-script-text (start .args .profile) (start .args .items .now) (refusal .refusal .given .0 .0) rule)
     (c .before .before .refuse .ensures)
-
-same-length-2 : tie.Need-same-length-2
-same-length-2 c = search needs
 
 returns-2 : tie.Need-returns-2
 returns-2 c =
@@ -108,16 +87,6 @@ returns-2 c =
 pub print-list-spec : {M : Type 1} → statement M
 print-list-spec =
     tie.close
-    (tie.spec
-    slice-aggregate-write
-    write-requires
-    enum-known-refusal
-    refuse-requires
-    enum-known-cells
-    array-share-prefix-stream
-    slice-aggregate-report
-    report-requires
-    same-length
-    returns
-    same-length-2
-    returns-2)
+    (tie.spec (λ c. search needs) (λ c κs. search needs) (λ c. search needs) (λ c κs. search needs)
+    (λ c. search needs) array-share-prefix-stream slice-aggregate-report report-requires (λ c. search needs) returns
+    (λ c. search needs) returns-2)

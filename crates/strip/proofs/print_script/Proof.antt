@@ -19,27 +19,6 @@ true-profile : (c : tie.After-margin2)
 true-profile c =
     margin-accepted _ _ (sym (ap countedAnswer (c .margin2 .given .1)) ∙ c .before .before .margin .ensures)
 
-margin-requires : tie.Need-margin-requires
-margin-requires c κs = search needs
-
-enum-known-refusal : tie.Need-enum-known-refusal
-enum-known-refusal c = search needs
-
-refuse-requires : tie.Need-refuse-requires
-refuse-requires c κs = search needs
-
-enum-known-margin : tie.Need-enum-known-margin
-enum-known-margin c = search needs
-
-written-bytes-requires : tie.Need-written-bytes-requires
-written-bytes-requires c κs = search needs
-
-refuse-requires-2 : tie.Need-refuse-requires-2
-refuse-requires-2 c κs = search needs
-
-same-length : tie.Need-same-length
-same-length c = search needs
-
 returns : tie.Need-returns
 returns c =
     let counted = c .before .before .before .before .before in
@@ -56,9 +35,6 @@ print-list-requires c κs =
     let start = given .before .before .before .before .before in
     (true-profile given, (omega (arith, counted .written-bytes .ensures, c .before .if1 .left), start .pre))
 
-same-length-2 : tie.Need-same-length-2
-same-length-2 c = search needs
-
 returns-2 : tie.Need-returns-2
 returns-2 c =
     let refusal = c .before .before .before .before .before in
@@ -73,26 +49,9 @@ returns-2 c =
     (profile-refuses-script (args .profile) (args .items .now) r rule))
     (c .before .before .refuse .ensures)
 
-same-length-3 : tie.Need-same-length-3
-same-length-3 c = search needs
-
-returns-3 : tie.Need-returns-3
-returns-3 c = search needs
-
 pub print-script-spec : {M : Type 1} → statement M
 print-script-spec =
     tie.close
-    (tie.spec
-    margin-requires
-    enum-known-refusal
-    refuse-requires
-    enum-known-margin
-    written-bytes-requires
-    refuse-requires-2
-    same-length
-    returns
-    print-list-requires
-    same-length-2
-    returns-2
-    same-length-3
-    returns-3)
+    (tie.spec (λ c κs. search needs) (λ c. search needs) (λ c κs. search needs) (λ c. search needs)
+    (λ c κs. search needs) (λ c κs. search needs) (λ c. search needs) returns print-list-requires (λ c. search needs)
+    returns-2 (λ c. search needs) (λ c. search needs))

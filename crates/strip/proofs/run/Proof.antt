@@ -26,21 +26,6 @@ front : (c : tie.After-profile)
     ≡ take 513 (itemsIn (c .before .before .before .before .before .before .args .input .now))
 front c = items-stand-in-front _ _ _ _ _ _ (c .before .before .before .read .ensures) (c .profile .given .1)
 
-slice-aggregate-read : tie.Need-slice-aggregate-read
-slice-aggregate-read c = search needs
-
-read-requires : tie.Need-read-requires
-read-requires c κs = search needs
-
-enum-known-refusal : tie.Need-enum-known-refusal
-enum-known-refusal c = search needs
-
-refuse-requires : tie.Need-refuse-requires
-refuse-requires c κs = search needs
-
-enum-known-profile : tie.Need-enum-known-profile
-enum-known-profile c = search needs
-
 array-share-prefix-items : tie.Need-array-share-prefix-items
 array-share-prefix-items c = fits (c .before)
 
@@ -49,9 +34,6 @@ slice-aggregate-print-script c =
     let given = c .before .before in
     sym
     (length-take-le (given .profile .given .0 .1 .0) (given .before .before .before .read .last .1 .0) (fits given))
-
-print-script-requires : tie.Need-print-script-requires
-print-script-requires c κs = search needs
 
 returns : tie.Need-returns
 returns c =
@@ -89,14 +71,6 @@ returns-2 c =
 pub run-spec : {M : Type 1} → statement M
 run-spec =
     tie.close
-    (tie.spec
-    slice-aggregate-read
-    read-requires
-    enum-known-refusal
-    refuse-requires
-    enum-known-profile
-    array-share-prefix-items
-    slice-aggregate-print-script
-    print-script-requires
-    returns
+    (tie.spec (λ c. search needs) (λ c κs. search needs) (λ c. search needs) (λ c κs. search needs)
+    (λ c. search needs) array-share-prefix-items slice-aggregate-print-script (λ c κs. search needs) returns
     returns-2)

@@ -10,24 +10,6 @@ use Rattle.timing.specs.declared.cursor.Classed.{Classed}
 use Rattle.timing.proofs.class_number.Statement.{statement}
 use Rattle.timing.proofs.class_number.Tie as tie
 
-check-requires : tie.Need-check-requires
-check-requires c κs = search needs
-
-enum-known-refusal : tie.Need-enum-known-refusal
-enum-known-refusal c = search needs
-
-enum-told : tie.Need-enum-told
-enum-told c = search needs
-
-start-requires : tie.Need-start-requires
-start-requires c κs = search needs
-
-step-requires : tie.Need-step-requires
-step-requires c κs = search needs
-
-number-requires : tie.Need-number-requires
-number-requires c κs = search needs
-
 returns : tie.Need-returns
 unfolding classRule
 returns c =
@@ -47,12 +29,5 @@ returns-2 c =
 pub class-number-spec : {M : Type 1} → statement M
 class-number-spec =
     tie.close
-    (tie.spec
-    check-requires
-    enum-known-refusal
-    enum-told
-    start-requires
-    step-requires
-    number-requires
-    returns
-    returns-2)
+    (tie.spec (λ c κs. search needs) (λ c. search needs) (λ c. search needs) (λ c κs. search needs)
+    (λ c κs. search needs) (λ c κs. search needs) returns returns-2)

@@ -22,15 +22,6 @@ found
     accepted (c .before .k .given .0 .0) ≡ findRule (args .p) (args .intervals .now) (args .start)
 found c = sym (ap countedAnswer (c .before .k .given .1)) ∙ answered (c .before .before .before)
 
-search-requires : tie.Need-search-requires
-search-requires c κs = search needs
-
-enum-told : tie.Need-enum-told
-enum-told c = search needs
-
-enum-known-k : tie.Need-enum-known-k
-enum-known-k c = search needs
-
 look-at-requires : tie.Need-look-at-requires
 look-at-requires c κs = (c .before .before .before .before .before .pre, found-is-within _ _ _ 0 _ (found c))
 
@@ -46,4 +37,4 @@ returns-2 c = c .look-at .ensures ∙ found-is-looked-at _ _ _ _ (found (c .befo
 pub find-entry-spec : {M : Type 1} → statement M
 find-entry-spec =
     tie.close
-    (tie.spec search-requires enum-told enum-known-k look-at-requires returns returns-2)
+    (tie.spec (λ c κs. search needs) (λ c. search needs) (λ c. search needs) look-at-requires returns returns-2)

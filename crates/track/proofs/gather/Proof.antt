@@ -44,20 +44,11 @@ room c =
     let few = c .before .before .before .before .before .loop .inv .few in
     omega (arith, c .if1 .left)
 
-blank-requires : tie.Need-blank-requires Inv-loop μ-loop
-blank-requires c κs = search needs
-
 loop-holds : tie.Need-loop-holds Inv-loop μ-loop
 loop-holds c =
     let args = c .before .before .args in
     subst (λ (e : Entry). Gathered (args .p) (args .intervals .now) (replicate 32 e) 0 0) (sym (c .blank .ensures))
     (nothing-gathered (args .p) (args .intervals .now))
-
-find-entry-requires : tie.Need-find-entry-requires Inv-loop μ-loop
-find-entry-requires c κs = search needs
-
-enum-told : tie.Need-enum-told Inv-loop μ-loop
-enum-told c = search needs
 
 returns : tie.Need-returns Inv-loop μ-loop
 returns c =
@@ -65,21 +56,12 @@ returns c =
     all-gathered (turn .loop .inv)
     (end-means _ _ _ (sym (c .enum-told .given .1) ∙ c .before .before .find-entry .ensures))
 
-enum-known-next : tie.Need-enum-known-next Inv-loop μ-loop
-enum-known-next c = search needs
-
 loop-less : tie.Need-loop-less Inv-loop μ-loop
 loop-less c =
     let ahead = goes-ahead (passes c) in omega arith
 
 loop-again : tie.Need-loop-again Inv-loop μ-loop
 loop-again c = gathered-on (c .before .before .before .before .loop .inv) (passes c)
-
-enum-known-entry : tie.Need-enum-known-entry Inv-loop μ-loop
-enum-known-entry c = search needs
-
-nothing-requires : tie.Need-nothing-requires Inv-loop μ-loop
-nothing-requires c κs = search needs
 
 returns-2 : tie.Need-returns-2 Inv-loop μ-loop
 returns-2 c =
@@ -107,22 +89,6 @@ loop-again-2 c = gathered-entry (c .before .before .before .before .before .loop
 pub gather-spec : {M : Type 1} → statement M
 gather-spec =
     tie.close
-    (tie.spec
-    Inv-loop
-    μ-loop
-    blank-requires
-    loop-holds
-    find-entry-requires
-    enum-told
-    returns
-    enum-known-next
-    loop-less
-    loop-again
-    enum-known-entry
-    nothing-requires
-    returns-2
-    mul-entries
-    array-set-from-entries
-    add-count
-    loop-less-2
-    loop-again-2)
+    (tie.spec Inv-loop μ-loop (λ c κs. search needs) loop-holds (λ c κs. search needs) (λ c. search needs) returns
+    (λ c. search needs) loop-less loop-again (λ c. search needs) (λ c κs. search needs) returns-2 mul-entries
+    array-set-from-entries add-count loop-less-2 loop-again-2)

@@ -21,18 +21,6 @@ refusal-is-blank
 unfolding handedBack
 refusal-is-blank r a entries e = rw (sym e, number-is-not-zero r)
 
-check-requires : tie.Need-check-requires
-check-requires c κs = search needs
-
-enum-known-refusal : tie.Need-enum-known-refusal
-enum-known-refusal c = search needs
-
-nothing-requires : tie.Need-nothing-requires
-nothing-requires c κs = search needs
-
-enum-told : tie.Need-enum-told
-enum-told c = search needs
-
 gather-requires : tie.Need-gather-requires
 gather-requires c κs = verdict-accepts _ _ (c .before .before .check .ensures) (c .enum-told .given .1)
 
@@ -58,11 +46,5 @@ returns-2 c =
 pub index-track-spec : {M : Type 1} → statement M
 index-track-spec =
     tie.close
-    (tie.spec
-    check-requires
-    enum-known-refusal
-    nothing-requires
-    enum-told
-    gather-requires
-    returns
-    returns-2)
+    (tie.spec (λ c κs. search needs) (λ c. search needs) (λ c κs. search needs) (λ c. search needs) gather-requires
+    returns returns-2)

@@ -18,30 +18,6 @@ read c =
     let args = c .before .before .before .args in
     c .read-id .ensures ∙ ap (idRead (args .p)) (part-to-end (args .intervals .now) (args .k))
 
-mul-read-id : tie.Need-mul-read-id
-mul-read-id c = search needs
-
-sub-read-id : tie.Need-sub-read-id
-sub-read-id c = search needs
-
-part-read-id-start : tie.Need-part-read-id-start
-part-read-id-start c = search needs
-
-part-read-id-end : tie.Need-part-read-id-end
-part-read-id-end c = search needs
-
-read-id-requires : tie.Need-read-id-requires
-read-id-requires c κs = search needs
-
-enum-told : tie.Need-enum-told
-enum-told c = search needs
-
-add-t19 : tie.Need-add-t19
-add-t19 c = search needs
-
-enum-known-track : tie.Need-enum-known-track
-enum-known-track c = search needs
-
 add-find-data : tie.Need-add-find-data
 add-find-data c =
     let at-read = c .before .before .before in
@@ -49,9 +25,6 @@ add-find-data c =
     let ends =
     id-ends-within _ _ (begin .args .k) _ _ _ _ _ (sym (c .before .track .given .1) ∙ read at-read) (begin .pre .1) in
     omega (arith, begin .good)
-
-find-data-requires : tie.Need-find-data-requires
-find-data-requires c κs = search needs
 
 returns : tie.Need-returns
 returns c = no-id-no-entry _ _ _ (sym (c .enum-told .given .1) ∙ read (c .before .before))
@@ -64,16 +37,6 @@ returns-2 c =
 pub look-at-spec : {M : Type 1} → statement M
 look-at-spec =
     tie.close
-    (tie.spec
-    mul-read-id
-    sub-read-id
-    part-read-id-start
-    part-read-id-end
-    read-id-requires
-    enum-told
-    add-t19
-    enum-known-track
-    add-find-data
-    find-data-requires
-    returns
+    (tie.spec (λ c. search needs) (λ c. search needs) (λ c. search needs) (λ c. search needs) (λ c κs. search needs)
+    (λ c. search needs) (λ c. search needs) (λ c. search needs) add-find-data (λ c κs. search needs) returns
     returns-2)

@@ -6,11 +6,8 @@ use borrow.Author.Needs.{needs}
 use Rattle.track.proofs.nothing.Statement.{statement}
 use Rattle.track.proofs.nothing.Tie as tie
 
-blank-requires : tie.Need-blank-requires
-blank-requires c κs = search needs
-
 returns : tie.Need-returns
 returns c = (refl, ap (λ (e : Entry). replicate 32 e) (c .blank .ensures))
 
 pub nothing-spec : {M : Type 1} → statement M
-nothing-spec = tie.close (tie.spec blank-requires returns)
+nothing-spec = tie.close (tie.spec (λ c κs. search needs) returns)

@@ -52,9 +52,6 @@ module _ (start : Pen) (word : ℕ) (room : Room start 1) (small : word < 65536)
             ∙ begins table out start word (room .0) small;
       }
 
-add-t5 : tie.Need-add-t5
-add-t5 c = search needs
-
 returns : tie.Need-returns
 returns c =
     let entry = c .before .before .before in
@@ -91,4 +88,4 @@ returns-3 c =
 pub begin-word-spec : {M : Type 1} → statement M
 begin-word-spec =
     tie.close
-    (tie.spec add-t5 returns highest-one-requires window-at-requires pass-one-requires returns-2 returns-3)
+    (tie.spec (λ c. search needs) returns highest-one-requires window-at-requires pass-one-requires returns-2 returns-3)

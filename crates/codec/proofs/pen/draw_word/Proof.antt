@@ -164,22 +164,6 @@ returns c =
 pub draw-word-spec : {M : Type 1} → statement M
 draw-word-spec =
     tie.close
-    (tie.spec
-    Inv-loop
-    μ-loop
-    begin-word-requires
-    loop-holds
-    highest-one-requires
-    window-at-requires
-    cast-out
-    mul-out
-    element-copy-out-out
-    sub-out
-    mul-out-2
-    slice-write-out
-    pass-one-requires
-    loop-less
-    loop-again
-    add-t17
-    same-length
+    (tie.spec Inv-loop μ-loop begin-word-requires loop-holds highest-one-requires window-at-requires cast-out mul-out
+    element-copy-out-out sub-out mul-out-2 slice-write-out pass-one-requires loop-less loop-again add-t17 same-length
     returns)

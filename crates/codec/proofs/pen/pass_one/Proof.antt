@@ -5,17 +5,11 @@ use Rattle.codec.proofs.RestLaws.{place-below, its-weight}
 use Rattle.codec.proofs.pen.pass_one.Statement.{statement}
 use Rattle.codec.proofs.pen.pass_one.Tie as tie
 
-add-t4 : tie.Need-add-t4
-add-t4 c = search needs
-
 shl-t5 : tie.Need-shl-t5
 shl-t5 c =
     let pre = c .before .pre .0 in
     let low = place-below _ _ (pre .1) 16 (pre .0 .small) in
     omega arith
-
-sub-t6 : tie.Need-sub-t6
-sub-t6 c = search needs
 
 returns : tie.Need-returns
 returns c =
@@ -23,4 +17,4 @@ returns c =
     rw (its-weight _ _ (pre .0 .1) (pre .0 .0 .small), pre .1 .1)
 
 pub pass-one-spec : {M : Type 1} → statement M
-pass-one-spec = tie.close (tie.spec add-t4 shl-t5 sub-t6 returns)
+pass-one-spec = tie.close (tie.spec (λ c. search needs) shl-t5 (λ c. search needs) returns)

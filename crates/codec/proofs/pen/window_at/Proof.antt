@@ -8,21 +8,15 @@ use Rattle.codec.proofs.RestLaws.{place-below}
 use Rattle.codec.proofs.pen.window_at.Statement.{statement}
 use Rattle.codec.proofs.pen.window_at.Tie as tie
 
-mul-result : tie.Need-mul-result
-mul-result c = search needs
-
 sub-result : tie.Need-sub-result
 sub-result c =
     let pre = c .before .before .pre in
     let inside = place-below _ _ (pre .1) _ (pre .0 .below) in
     omega arith
 
-add-result : tie.Need-add-result
-add-result c = search needs
-
 returns : tie.Need-returns
 unfolding turned
 returns c = refl
 
 pub window-at-spec : {M : Type 1} → statement M
-window-at-spec = tie.close (tie.spec mul-result sub-result add-result returns)
+window-at-spec = tie.close (tie.spec (λ c. search needs) sub-result (λ c. search needs) returns)

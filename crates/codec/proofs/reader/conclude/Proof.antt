@@ -15,12 +15,6 @@ returns-2 : tie.Need-returns-2
 unfolding stripAnswer
 returns-2 c = rw (eq-eqb _ 4 (c .before .before .if1 .left), lt-ltb 6400 _ (c .if2 .taken))
 
-is-stray-requires : tie.Need-is-stray-requires
-is-stray-requires c κs = search needs
-
-stray-place-requires : tie.Need-stray-place-requires
-stray-place-requires c κs = search needs
-
 returns-3 : tie.Need-returns-3
 unfolding stripAnswer
 returns-3 c =
@@ -32,9 +26,6 @@ returns-3 c =
       le-ltb 6400 _ (few .if2 .left),
       c .stray-place .ensures,
     )
-
-cast-t9 : tie.Need-cast-t9
-cast-t9 c = search needs
 
 returns-4 : tie.Need-returns-4
 unfolding stripAnswer
@@ -50,4 +41,4 @@ returns-4 c =
 pub conclude-spec : {M : Type 1} → statement M
 conclude-spec =
     tie.close
-    (tie.spec returns returns-2 is-stray-requires stray-place-requires returns-3 cast-t9 returns-4)
+    (tie.spec returns returns-2 (λ c κs. search needs) (λ c κs. search needs) returns-3 (λ c. search needs) returns-4)

@@ -8,15 +8,6 @@ use borrow.Author.Needs.{needs}
 use Rattle.codec.proofs.reader.read.Statement.{statement}
 use Rattle.codec.proofs.reader.read.Tie as tie
 
-check-requires : tie.Need-check-requires
-check-requires c κs = search needs
-
-enum-known-refusal : tie.Need-enum-known-refusal
-enum-known-refusal c = search needs
-
-enum-told : tie.Need-enum-told
-enum-told c = search needs
-
 returns : tie.Need-returns
 unfolding readOutput
 returns c =
@@ -35,21 +26,8 @@ returns-2 c =
     let rule = verdict-refuses _ _ _ _ (c .before .before .before .check .ensures) (c .before .refusal .given .1) in
     (rule, refusal-keeps-the-buffer (c .before .refusal .given .0 .0) _ _ _ rule)
 
-same-length : tie.Need-same-length
-same-length c = search needs
-
-returns-3 : tie.Need-returns-3
-returns-3 c = search needs
-
 pub read-spec : {M : Type 1} → statement M
 read-spec =
     tie.close
-    (tie.spec
-    check-requires
-    enum-known-refusal
-    enum-told
-    returns
-    read-strip-requires
-    returns-2
-    same-length
-    returns-3)
+    (tie.spec (λ c κs. search needs) (λ c. search needs) (λ c. search needs) returns read-strip-requires returns-2
+    (λ c. search needs) (λ c. search needs))

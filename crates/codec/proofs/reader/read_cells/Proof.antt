@@ -22,15 +22,6 @@ answer-is
     countedAnswer (c .conclude .result) ≡ stripAnswer (pass .reading) (pass .used - 1)
 answer-is c = c .conclude .ensures ∙ ap (stripAnswer _) (c .before .last-place .ensures)
 
-cast-pass-over : tie.Need-cast-pass-over
-cast-pass-over c = search needs
-
-slice-aggregate-pass-over : tie.Need-slice-aggregate-pass-over
-slice-aggregate-pass-over c = search needs
-
-pass-over-requires : tie.Need-pass-over-requires
-pass-over-requires c κs = search needs
-
 last-place-requires : tie.Need-last-place-requires
 last-place-requires c κs =
     let first = c .before .before in
@@ -38,15 +29,6 @@ last-place-requires c κs =
     let pre = entry .pre in
     let small = used-is-small _ _ (now (entry .args .out)) (pre .0) (pre .1 .0) (pre .1 .1) _ (first .pass-over .ensures .0) in
     omega arith
-
-conclude-requires : tie.Need-conclude-requires
-conclude-requires c κs = search needs
-
-enum-known-refusal : tie.Need-enum-known-refusal
-enum-known-refusal c = search needs
-
-enum-known-n : tie.Need-enum-known-n
-enum-known-n c = search needs
 
 returns : tie.Need-returns
 unfolding readOutput
@@ -62,22 +44,10 @@ returns c =
     (c .if1 .taken) in
     (rule, refusal-keeps-the-buffer OutputTooShort _ _ _ rule)
 
-cast-pass-over-2 : tie.Need-cast-pass-over-2
-cast-pass-over-2 c = search needs
-
-pass-over-requires-2 : tie.Need-pass-over-requires-2
-pass-over-requires-2 c κs = search needs
-
-slice-relend-prefix-words-to-bytes : tie.Need-slice-relend-prefix-words-to-bytes
-slice-relend-prefix-words-to-bytes c = search needs
-
 slice-aggregate-words-to-bytes : tie.Need-slice-aggregate-words-to-bytes
 slice-aggregate-words-to-bytes c =
     let tested = c .before .before .before .before .before in
     sym (length-take-le _ _ (omega (arith, tested .if1 .left, c .before .before .before .pass-over2 .kept .1 .1 .1 .0)))
-
-words-to-bytes-requires : tie.Need-words-to-bytes-requires
-words-to-bytes-requires c κs = search needs
 
 returns-2 : tie.Need-returns-2
 unfolding readOutput
@@ -93,9 +63,6 @@ returns-2 c =
     strip-refuses _ _ (now (entry .args .out)) (pre .0) (pre .1 .0) (pre .1 .1) _ (first .pass-over .ensures .0) refusal
     refuses in
     (rule, refusal-keeps-the-buffer refusal _ _ _ rule)
-
-same-length : tie.Need-same-length
-same-length c = search needs
 
 returns-3 : tie.Need-returns-3
 returns-3 c =
@@ -117,20 +84,6 @@ returns-3 c =
 pub read-cells-spec : {M : Type 1} → statement M
 read-cells-spec =
     tie.close
-    (tie.spec
-    cast-pass-over
-    slice-aggregate-pass-over
-    pass-over-requires
-    last-place-requires
-    conclude-requires
-    enum-known-refusal
-    enum-known-n
-    returns
-    cast-pass-over-2
-    pass-over-requires-2
-    slice-relend-prefix-words-to-bytes
-    slice-aggregate-words-to-bytes
-    words-to-bytes-requires
-    returns-2
-    same-length
-    returns-3)
+    (tie.spec (λ c. search needs) (λ c. search needs) (λ c κs. search needs) last-place-requires
+    (λ c κs. search needs) (λ c. search needs) (λ c. search needs) returns (λ c. search needs) (λ c κs. search needs)
+    (λ c. search needs) slice-aggregate-words-to-bytes (λ c κs. search needs) returns-2 (λ c. search needs) returns-3)

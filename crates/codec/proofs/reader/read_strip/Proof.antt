@@ -10,15 +10,6 @@ use borrow.Author.Needs.{needs}
 use Rattle.codec.proofs.reader.read_strip.Statement.{statement}
 use Rattle.codec.proofs.reader.read_strip.Tie as tie
 
-check-edges-requires : tie.Need-check-edges-requires
-check-edges-requires c κs = search needs
-
-enum-known-refusal : tie.Need-enum-known-refusal
-enum-known-refusal c = search needs
-
-enum-told : tie.Need-enum-told
-enum-told c = search needs
-
 read-cells-requires : tie.Need-read-cells-requires
 read-cells-requires c κs =
     let told = c .before in
@@ -38,20 +29,8 @@ returns c =
     (sym (ap verdictAnswer (told .refusal .given .1)) ∙ checked .check-edges .ensures) in
     (rule, refusal-keeps-the-buffer refusal _ _ _ rule)
 
-same-length : tie.Need-same-length
-same-length c = search needs
-
-returns-2 : tie.Need-returns-2
-returns-2 c = search needs
-
 pub read-strip-spec : {M : Type 1} → statement M
 read-strip-spec =
     tie.close
-    (tie.spec
-    check-edges-requires
-    enum-known-refusal
-    enum-told
-    read-cells-requires
-    returns
-    same-length
-    returns-2)
+    (tie.spec (λ c κs. search needs) (λ c. search needs) (λ c. search needs) read-cells-requires returns
+    (λ c. search needs) (λ c. search needs))

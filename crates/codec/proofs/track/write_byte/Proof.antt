@@ -9,16 +9,10 @@ use Rattle.codec.specs.machine.Track.{writing, wroteByte}
 use Rattle.codec.proofs.track.write_byte.Statement.{statement}
 use Rattle.codec.proofs.track.write_byte.Tie as tie
 
-made-word-requires : tie.Need-made-word-requires
-made-word-requires c κs = search needs
-
 draw-word-requires : tie.Need-draw-word-requires
 unfolding wroteByte
 draw-word-requires c κs =
     let pre = c .before .before .before .pre in (pre .0, rw (c .before .made-word .ensures) (pre .1))
-
-same-length : tie.Need-same-length
-same-length c = search needs
 
 returns : tie.Need-returns
 unfolding wroteByte
@@ -31,4 +25,4 @@ returns c =
     ∙ ap (λ (w : ℕ). drawn (now (args .table)) start (topBits 16 w)) (made .made-word .ensures))
 
 pub write-byte-spec : {M : Type 1} → statement M
-write-byte-spec = tie.close (tie.spec made-word-requires draw-word-requires same-length returns)
+write-byte-spec = tie.close (tie.spec (λ c κs. search needs) draw-word-requires (λ c. search needs) returns)

@@ -53,12 +53,6 @@ abbrev μ-loop : tie.MeasureT-loop
 loop-holds : tie.Need-loop-holds Inv-loop μ-loop
 loop-holds c = let room = c .before .before .pre .0 in (omega arith, (room .0, omega arith), refl)
 
-mul-write-byte : tie.Need-mul-write-byte Inv-loop μ-loop
-mul-write-byte c = omega arith
-
-shared-slice-read-write-byte : tie.Need-shared-slice-read-write-byte Inv-loop μ-loop
-shared-slice-read-write-byte c = omega arith
-
 write-byte-requires : tie.Need-write-byte-requires Inv-loop μ-loop
 write-byte-requires c κs =
     let on = c .before .before .before .loop .inv in
@@ -66,12 +60,6 @@ write-byte-requires c κs =
     let inside = c .before .before .loop-test .taken in
     let pre = c .before .before .before .before .before .before .pre in
     ((room .0, omega arith), holds-at-place _ _ _ _ _ inside on (pre .1))
-
-add-k : tie.Need-add-k Inv-loop μ-loop
-add-k c = omega arith
-
-loop-less : tie.Need-loop-less Inv-loop μ-loop
-loop-less c = omega arith
 
 loop-again : tie.Need-loop-again Inv-loop μ-loop
 loop-again c =
@@ -94,15 +82,5 @@ returns c =
 pub write-bytes-spec : {M : Type 1} → statement M
 write-bytes-spec =
     tie.close
-    (tie.spec
-    Inv-loop
-    μ-loop
-    loop-holds
-    mul-write-byte
-    shared-slice-read-write-byte
-    write-byte-requires
-    add-k
-    loop-less
-    loop-again
-    same-length
-    returns)
+    (tie.spec Inv-loop μ-loop loop-holds (λ c. omega arith) (λ c. omega arith) write-byte-requires (λ c. omega arith)
+    (λ c. omega arith) loop-again same-length returns)

@@ -14,9 +14,6 @@ use Rattle.codec.proofs.track.write_closing.Tie as tie
 one-less : (n m : ℕ) → n ≡ m → 1 ≤ m → n - 1 + 1 ≡ m
 one-less n m e h = omega arith
 
-closing-word-requires : tie.Need-closing-word-requires
-closing-word-requires c κs = search needs
-
 draw-word-requires : tie.Need-draw-word-requires
 draw-word-requires c κs =
     let pre = c .before .before .before .pre in (pre .0, rw (c .before .closing-word .ensures) (pre .1))
@@ -35,9 +32,6 @@ sub-result c =
       ap (λ (d : Drawing). d .pen .cells) all,
     )
 
-same-length : tie.Need-same-length
-same-length c = search needs
-
 returns : tie.Need-returns
 returns c =
     let drew = c .before .before .before in
@@ -53,4 +47,4 @@ returns c =
 
 pub write-closing-spec : {M : Type 1} → statement M
 write-closing-spec =
-    tie.close (tie.spec closing-word-requires draw-word-requires sub-result same-length returns)
+    tie.close (tie.spec (λ c κs. search needs) draw-word-requires sub-result (λ c. search needs) returns)

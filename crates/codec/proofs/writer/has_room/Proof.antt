@@ -29,18 +29,9 @@ returns c =
     let few = cells-at-most bytes in
     sym (le-leb (length (writtenCells bytes)) (start .room) (omega (arith, entry .pre .1)))
 
-count-cells-requires : tie.Need-count-cells-requires
-count-cells-requires c κs = search needs
-
 returns-2 : tie.Need-returns-2
 returns-2 c = rw (c .count-cells .ensures)
 
 pub has-room-spec : {M : Type 1} → statement M
 has-room-spec =
-    tie.close
-    (tie.spec
-    mul-if1
-    add-if1
-    returns
-    count-cells-requires
-    returns-2)
+    tie.close (tie.spec mul-if1 add-if1 returns (λ c κs. search needs) returns-2)

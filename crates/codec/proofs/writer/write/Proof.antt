@@ -7,24 +7,6 @@ use borrow.Author.Needs.{needs}
 use Rattle.codec.proofs.writer.write.Statement.{statement}
 use Rattle.codec.proofs.writer.write.Tie as tie
 
-check-requires : tie.Need-check-requires
-check-requires c κs = search needs
-
-enum-known-refusal : tie.Need-enum-known-refusal
-enum-known-refusal c = search needs
-
-enum-told : tie.Need-enum-told
-enum-told c = search needs
-
-check-list-requires : tie.Need-check-list-requires
-check-list-requires c κs = search needs
-
-enum-known-refusal-2 : tie.Need-enum-known-refusal-2
-enum-known-refusal-2 c = search needs
-
-enum-told-2 : tie.Need-enum-told-2
-enum-told-2 c = search needs
-
 write-list-requires : tie.Need-write-list-requires
 write-list-requires c κs =
     let listed = c .before .before .before in
@@ -49,24 +31,9 @@ returns-2 c =
     ∙ verdict-passes _ _ _ (told .before .before .check .ensures) (told .enum-told .given .1) in
     (rule, refusal-keeps-the-buffer (c .before .refusal2 .given .0 .0) _ _ _ rule)
 
-same-length : tie.Need-same-length
-same-length c = search needs
-
-returns-3 : tie.Need-returns-3
-returns-3 c = search needs
-
 pub write-spec : {M : Type 1} → statement M
 write-spec =
     tie.close
-    (tie.spec
-    check-requires
-    enum-known-refusal
-    enum-told
-    check-list-requires
-    enum-known-refusal-2
-    enum-told-2
-    write-list-requires
-    returns
-    returns-2
-    same-length
-    returns-3)
+    (tie.spec (λ c κs. search needs) (λ c. search needs) (λ c. search needs) (λ c κs. search needs)
+    (λ c. search needs) (λ c. search needs) write-list-requires returns returns-2 (λ c. search needs)
+    (λ c. search needs))

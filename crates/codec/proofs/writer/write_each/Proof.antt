@@ -62,23 +62,11 @@ Inv-loop table items out₀ part₀ k₀ out part k =
 abbrev μ-loop : tie.MeasureT-loop
 μ-loop table items out₀ part₀ k₀ out part k = length items - k
 
-fresh-track-requires : tie.Need-fresh-track-requires Inv-loop μ-loop
-fresh-track-requires c κs = search needs
-
-fresh-requires : tie.Need-fresh-requires Inv-loop μ-loop
-fresh-requires c κs = search needs
-
 loop-holds : tie.Need-loop-holds Inv-loop μ-loop
 unfolding written
 loop-holds c =
     let few = c .before .before .before .before .pre .0 in
     rw (c .fresh .ensures, c .before .fresh-track .ensures) (omega arith, (omega arith, omega arith), refl)
-
-mul-write-item : tie.Need-mul-write-item Inv-loop μ-loop
-mul-write-item c = omega arith
-
-shared-slice-read-write-item : tie.Need-shared-slice-read-write-item Inv-loop μ-loop
-shared-slice-read-write-item c = omega arith
 
 write-item-requires : tie.Need-write-item-requires Inv-loop μ-loop
 write-item-requires c κs =
@@ -87,12 +75,6 @@ write-item-requires c κs =
     let inside = c .before .before .loop-test .taken in
     let pre = c .before .before .before .before .before .before .before .before .pre in
     ((room .0, omega arith), item-holds _ _ _ _ _ _ inside on (pre .1))
-
-add-k : tie.Need-add-k Inv-loop μ-loop
-add-k c = omega arith
-
-loop-less : tie.Need-loop-less Inv-loop μ-loop
-loop-less c = omega arith
 
 loop-again : tie.Need-loop-again Inv-loop μ-loop
 loop-again c =
@@ -120,17 +102,5 @@ returns c =
 pub write-each-spec : {M : Type 1} → statement M
 write-each-spec =
     tie.close
-    (tie.spec
-    Inv-loop
-    μ-loop
-    fresh-track-requires
-    fresh-requires
-    loop-holds
-    mul-write-item
-    shared-slice-read-write-item
-    write-item-requires
-    add-k
-    loop-less
-    loop-again
-    same-length
-    returns)
+    (tie.spec Inv-loop μ-loop (λ c κs. search needs) (λ c κs. search needs) loop-holds (λ c. omega arith)
+    (λ c. omega arith) write-item-requires (λ c. omega arith) (λ c. omega arith) loop-again same-length returns)

@@ -34,15 +34,6 @@ module _ (table : List ℕ) (s : Writing) (check : Check) (item : ℕ)
   unfolding wrote
   byte-holds e = rw (item-bytes-of-byte check item e) at holds
 
-after-item-requires : tie.Need-after-item-requires
-after-item-requires c κs = search needs
-
-is-check-requires : tie.Need-is-check-requires
-is-check-requires c κs = search needs
-
-high-requires : tie.Need-high-requires
-high-requires c κs = search needs
-
 write-byte-requires : tie.Need-write-byte-requires
 write-byte-requires c κs =
     let tested = c .before .before .before in
@@ -50,9 +41,6 @@ write-byte-requires c κs =
     let room = entry .pre .0 in
     let check = sym (tested .is-check .ensures) ∙ c .before .before .if1 .taken in
     ((room .0, omega arith), rw (c .before .high .ensures) (high-holds _ _ _ _ (entry .pre .1) check))
-
-low-requires : tie.Need-low-requires
-low-requires c κs = search needs
 
 write-byte-requires-2 : tie.Need-write-byte-requires-2
 write-byte-requires-2 c κs =
@@ -67,9 +55,6 @@ write-byte-requires-2 c κs =
       rw (high .write-byte .ensures, c .before .low .ensures, high .before .before .high .ensures)
           (low-holds _ _ _ _ (entry .pre .1) check),
     )
-
-same-length : tie.Need-same-length
-same-length c = search needs
 
 returns : tie.Need-returns
 unfolding wrote
@@ -97,9 +82,6 @@ write-byte-requires-3 c κs =
     let other = sym (c .before .before .is-check .ensures) ∙ c .before .if1 .left in
     ((room .0, omega arith), byte-holds _ _ _ _ (entry .pre .1) other)
 
-same-length-2 : tie.Need-same-length-2
-same-length-2 c = search needs
-
 returns-2 : tie.Need-returns-2
 unfolding wrote
 returns-2 c =
@@ -116,15 +98,6 @@ returns-2 c =
 pub write-item-spec : {M : Type 1} → statement M
 write-item-spec =
     tie.close
-    (tie.spec
-    after-item-requires
-    is-check-requires
-    high-requires
-    write-byte-requires
-    low-requires
-    write-byte-requires-2
-    same-length
-    returns
-    write-byte-requires-3
-    same-length-2
+    (tie.spec (λ c κs. search needs) (λ c κs. search needs) (λ c κs. search needs) write-byte-requires
+    (λ c κs. search needs) write-byte-requires-2 (λ c. search needs) returns write-byte-requires-3 (λ c. search needs)
     returns-2)

@@ -20,18 +20,12 @@ use Rattle.codec.proofs.writer.write_items.Tie as tie
 own-bytes : (items : List ℕ) (bytes : ℕ) → bytes ≡ writtenBytes items → bytes ≡ length items → written items ≡ items
 own-bytes items bytes counted few = written-of-no-check items (one-byte-each-is-no-check items (sym counted ∙ few))
 
-fresh-track-requires : tie.Need-fresh-track-requires
-fresh-track-requires c κs = search needs
-
 write-bytes-requires : tie.Need-write-bytes-requires
 write-bytes-requires c κs =
     let entry = c .before .before .before .before .before in
     let few = entry .pre .0 .1 in
     let own = own-bytes _ _ (entry .pre .0 .0) (c .before .before .if1 .taken) in
     rw (c .before .fresh-track .ensures) ((omega arith, omega arith), rw own at (entry .pre .1))
-
-same-length : tie.Need-same-length
-same-length c = search needs
 
 returns : tie.Need-returns
 returns c =
@@ -49,23 +43,11 @@ returns c =
       all ∙ ap (wrote table (writing freshTrack old)) (sym own),
     )
 
-write-each-requires : tie.Need-write-each-requires
-write-each-requires c κs = search needs
-
-same-length-2 : tie.Need-same-length-2
-same-length-2 c = search needs
-
 returns-2 : tie.Need-returns-2
 returns-2 c = c .before .before .write-each .ensures
 
 pub write-items-spec : {M : Type 1} → statement M
 write-items-spec =
     tie.close
-    (tie.spec
-    fresh-track-requires
-    write-bytes-requires
-    same-length
-    returns
-    write-each-requires
-    same-length-2
-    returns-2)
+    (tie.spec (λ c κs. search needs) write-bytes-requires (λ c. search needs) returns (λ c κs. search needs)
+    (λ c. search needs) returns-2)

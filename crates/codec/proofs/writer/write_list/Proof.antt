@@ -8,9 +8,6 @@ use borrow.Author.Needs.{needs}
 use Rattle.codec.proofs.writer.write_list.Statement.{statement}
 use Rattle.codec.proofs.writer.write_list.Tie as tie
 
-written-bytes-requires : tie.Need-written-bytes-requires
-written-bytes-requires c κs = search needs
-
 has-room-requires : tie.Need-has-room-requires
 has-room-requires c κs = (c .before .before .before .pre .1, c .written-bytes .ensures)
 
@@ -23,9 +20,6 @@ write-stream-requires c κs =
     let room = sym (tested .before .has-room .ensures) ∙ tested .if1 .taken in
     let places = stream-fits (entry .args .p) (written (now (entry .args .items))) (now (entry .args .out)) room in
     (pre .0, (pre .1, (counted .written-bytes .ensures, places)))
-
-same-length : tie.Need-same-length
-same-length c = search needs
 
 returns : tie.Need-returns
 returns c =
@@ -55,4 +49,4 @@ returns-2 c =
 
 pub write-list-spec : {M : Type 1} → statement M
 write-list-spec =
-    tie.close (tie.spec written-bytes-requires has-room-requires write-stream-requires same-length returns returns-2)
+    tie.close (tie.spec (λ c κs. search needs) has-room-requires write-stream-requires (λ c. search needs) returns returns-2)

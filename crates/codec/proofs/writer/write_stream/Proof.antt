@@ -19,9 +19,6 @@ use Rattle.codec.proofs.writer.write_stream.Tie as tie
 all-bytes : (items : List ℕ) → listRule items .number ≡ 0 → everywhere isByte (written items) ≡ true
 all-bytes items accepts = written-are-bytes items (listed items accepts .none-foreign)
 
-length-table-requires : tie.Need-length-table-requires
-length-table-requires c κs = search needs
-
 write-items-requires : tie.Need-write-items-requires
 write-items-requires c κs =
     let made = c .before .before in
@@ -45,9 +42,6 @@ write-closing-requires c κs =
           _ (made .length-table .ensures) _ (wrote .write-items .ensures .1) (pre .1 .1),
     )
 
-same-length : tie.Need-same-length
-same-length c = search needs
-
 returns : tie.Need-returns
 returns c =
     let closed = c .before .before .write-closing .ensures in
@@ -60,10 +54,4 @@ returns c =
 
 pub write-stream-spec : {M : Type 1} → statement M
 write-stream-spec =
-    tie.close
-    (tie.spec
-    length-table-requires
-    write-items-requires
-    write-closing-requires
-    same-length
-    returns)
+    tie.close (tie.spec (λ c κs. search needs) write-items-requires write-closing-requires (λ c. search needs) returns)

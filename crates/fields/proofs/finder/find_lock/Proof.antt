@@ -7,15 +7,6 @@ use borrow.Author.Needs.{needs}
 use Rattle.fields.proofs.finder.find_lock.Statement.{statement}
 use Rattle.fields.proofs.finder.find_lock.Tie as tie
 
-check-requires : tie.Need-check-requires
-check-requires c κs = search needs
-
-enum-known-refusal : tie.Need-enum-known-refusal
-enum-known-refusal c = search needs
-
-enum-told : tie.Need-enum-told
-enum-told c = search needs
-
 search-requires : tie.Need-search-requires
 search-requires c κs = verdict-accepts _ _ (c .before .before .check .ensures) (c .enum-told .given .1)
 
@@ -31,4 +22,4 @@ returns-2 c =
 pub find-lock-spec : {M : Type 1} → statement M
 find-lock-spec =
     tie.close
-    (tie.spec check-requires enum-known-refusal enum-told search-requires returns returns-2)
+    (tie.spec (λ c κs. search needs) (λ c. search needs) (λ c. search needs) search-requires returns returns-2)

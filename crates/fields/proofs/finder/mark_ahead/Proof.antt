@@ -23,21 +23,9 @@ module _ (cs : List Class) (first : List ℕ) where
   unfolding anywhere
   second-decides second e = rw e (sym (or-false (beginsWith second cs)))
 
-slice-aggregate-begins-with : tie.Need-slice-aggregate-begins-with
-slice-aggregate-begins-with c = search needs
-
-begins-with-requires : tie.Need-begins-with-requires
-begins-with-requires c κs = search needs
-
 returns : tie.Need-returns
 unfolding markAhead lockPatterns
 returns c = first-is-ahead _ _ _ (sym (c .before .begins-with .ensures) ∙ c .if1 .taken)
-
-slice-aggregate-begins-with-2 : tie.Need-slice-aggregate-begins-with-2
-slice-aggregate-begins-with-2 c = search needs
-
-begins-with-requires-2 : tie.Need-begins-with-requires-2
-begins-with-requires-2 c κs = search needs
 
 returns-2 : tie.Need-returns-2
 unfolding markAhead lockPatterns
@@ -48,10 +36,4 @@ returns-2 c =
 pub mark-ahead-spec : {M : Type 1} → statement M
 mark-ahead-spec =
     tie.close
-    (tie.spec
-    slice-aggregate-begins-with
-    begins-with-requires
-    returns
-    slice-aggregate-begins-with-2
-    begins-with-requires-2
-    returns-2)
+    (tie.spec (λ c. search needs) (λ c κs. search needs) returns (λ c. search needs) (λ c κs. search needs) returns-2)

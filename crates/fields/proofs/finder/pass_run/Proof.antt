@@ -23,29 +23,11 @@ Inv-loop intervals from last cursor₀ k₀ cursor k =
 abbrev μ-loop : tie.MeasureT-loop
 μ-loop intervals from last cursor₀ k₀ cursor k = last - k
 
-sub-last : tie.Need-sub-last Inv-loop μ-loop
-sub-last c = omega arith
-
 loop-holds : tie.Need-loop-holds Inv-loop μ-loop
 loop-holds c = let pre = c .before .pre in (omega arith, pre .1, pre .0, λ start first run. run)
 
-mul-interval : tie.Need-mul-interval Inv-loop μ-loop
-mul-interval c = omega arith
-
-shared-slice-read-interval : tie.Need-shared-slice-read-interval Inv-loop μ-loop
-shared-slice-read-interval c = omega arith
-
 meets-two-requires : tie.Need-meets-two-requires Inv-loop μ-loop
 meets-two-requires c κs = c .before .before .loop .inv .2
-
-past-requires : tie.Need-past-requires Inv-loop μ-loop
-past-requires c κs = search needs
-
-add-k : tie.Need-add-k Inv-loop μ-loop
-add-k c = omega arith
-
-loop-less : tie.Need-loop-less Inv-loop μ-loop
-loop-less c = omega arith
 
 loop-again : tie.Need-loop-again Inv-loop μ-loop
 loop-again c =
@@ -78,17 +60,5 @@ returns-2 c =
 pub pass-run-spec : {M : Type 1} → statement M
 pass-run-spec =
     tie.close
-    (tie.spec
-    Inv-loop
-    μ-loop
-    sub-last
-    loop-holds
-    mul-interval
-    shared-slice-read-interval
-    meets-two-requires
-    past-requires
-    add-k
-    loop-less
-    loop-again
-    returns
-    returns-2)
+    (tie.spec Inv-loop μ-loop (λ c. omega arith) loop-holds (λ c. omega arith) (λ c. omega arith) meets-two-requires
+    (λ c κs. search needs) (λ c. omega arith) (λ c. omega arith) loop-again returns returns-2)

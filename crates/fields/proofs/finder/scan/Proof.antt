@@ -40,29 +40,11 @@ abbrev μ-scan : tie.MeasureT-scan
 scan-holds : tie.Need-scan-holds Inv-loop μ-loop Inv-scan μ-scan
 scan-holds c = (omega arith, omega arith, omega arith, c .before .pre, search-starts _ _)
 
-add-k : tie.Need-add-k Inv-loop μ-loop Inv-scan μ-scan
-add-k c = omega arith
-
 loop-holds : tie.Need-loop-holds Inv-loop μ-loop Inv-scan μ-scan
 loop-holds c = (omega arith, omega arith, omega arith, c .before .scan .inv .3, λ start searched. searched)
 
-mul-interval : tie.Need-mul-interval Inv-loop μ-loop Inv-scan μ-scan
-mul-interval c = omega arith
-
-shared-slice-read-interval : tie.Need-shared-slice-read-interval Inv-loop μ-loop Inv-scan μ-scan
-shared-slice-read-interval c = omega arith
-
-add-next : tie.Need-add-next Inv-loop μ-loop Inv-scan μ-scan
-add-next c = omega arith
-
 meets-two-requires : tie.Need-meets-two-requires Inv-loop μ-loop Inv-scan μ-scan
 meets-two-requires c κs = c .before .before .loop .inv .3
-
-run-first-requires : tie.Need-run-first-requires Inv-loop μ-loop Inv-scan μ-scan
-run-first-requires c κs = search needs
-
-past-requires : tie.Need-past-requires Inv-loop μ-loop Inv-scan μ-scan
-past-requires c κs = search needs
 
 loop-again : tie.Need-loop-again Inv-loop μ-loop Inv-scan μ-scan
 loop-again c =
@@ -78,9 +60,6 @@ loop-again c =
       λ start searched.
           looked-at (inv .4 start searched) (omega arith) (inv .0) (omega arith) (met .result) (met .ensures),
     )
-
-add-if2 : tie.Need-add-if2 Inv-loop μ-loop Inv-scan μ-scan
-add-if2 c = omega arith
 
 scan-again : tie.Need-scan-again Inv-loop μ-loop Inv-scan μ-scan
 scan-again c =
@@ -127,40 +106,13 @@ returns-2 c =
 
 -- ---- each turn leaves fewer intervals
 
-loop-less : tie.Need-loop-less Inv-loop μ-loop Inv-scan μ-scan
-loop-less c = omega arith
-
-scan-less : tie.Need-scan-less Inv-loop μ-loop Inv-scan μ-scan
-scan-less c = omega arith
-
 scan-less-2 : tie.Need-scan-less-2 Inv-loop μ-loop Inv-scan μ-scan
 scan-less-2 c = omega (arith, c .before .before .before .pass-run .ensures .low)
 
 pub scan-spec : {M : Type 1} → statement M
 scan-spec =
     tie.close
-    (tie.spec
-    Inv-loop
-    μ-loop
-    Inv-scan
-    μ-scan
-    scan-holds
-    add-k
-    loop-holds
-    mul-interval
-    shared-slice-read-interval
-    add-next
-    meets-two-requires
-    run-first-requires
-    past-requires
-    loop-less
-    loop-again
-    add-if2
-    scan-less
-    scan-again
-    pass-run-requires
-    mark-ahead-requires
-    scan-less-2
-    scan-again-2
-    returns
-    returns-2)
+    (tie.spec Inv-loop μ-loop Inv-scan μ-scan scan-holds (λ c. omega arith) loop-holds (λ c. omega arith)
+    (λ c. omega arith) (λ c. omega arith) meets-two-requires (λ c κs. search needs) (λ c κs. search needs)
+    (λ c. omega arith) loop-again (λ c. omega arith) (λ c. omega arith) scan-again pass-run-requires
+    mark-ahead-requires scan-less-2 scan-again-2 returns returns-2)

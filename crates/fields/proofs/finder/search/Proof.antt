@@ -80,31 +80,10 @@ found c = sym (ap countedAnswer (c .k .given .1)) ∙ scanned (c .before .before
 returns : tie.Need-returns
 returns c = past-end-is-adrift _ _ _ (c .if1 .taken)
 
-start-requires : tie.Need-start-requires
-start-requires c κs = search needs
-
-mul-scan : tie.Need-mul-scan
-mul-scan c = search needs
-
-sub-scan : tie.Need-sub-scan
-sub-scan c = search needs
-
-part-scan-start : tie.Need-part-scan-start
-part-scan-start c = search needs
-
-part-scan-end : tie.Need-part-scan-end
-part-scan-end c = search needs
-
 scan-requires : tie.Need-scan-requires
 scan-requires c κs =
     let begin = c .before .before .before .before in
     rw (c .before .start .ensures) (accepted-ascends (begin .args .p) (begin .pre))
-
-enum-known-refusal : tie.Need-enum-known-refusal
-enum-known-refusal c = search needs
-
-enum-known-k : tie.Need-enum-known-k
-enum-known-k c = search needs
 
 add-t16 : tie.Need-add-t16
 add-t16 c =
@@ -124,16 +103,5 @@ returns-3 c = place-is-counted _ _ _ _ (found (c .before))
 pub search-spec : {M : Type 1} → statement M
 search-spec =
     tie.close
-    (tie.spec
-    returns
-    start-requires
-    mul-scan
-    sub-scan
-    part-scan-start
-    part-scan-end
-    scan-requires
-    enum-known-refusal
-    enum-known-k
-    add-t16
-    returns-2
-    returns-3)
+    (tie.spec returns (λ c κs. search needs) (λ c. search needs) (λ c. search needs) (λ c. search needs)
+    (λ c. search needs) scan-requires (λ c. search needs) (λ c. search needs) add-t16 returns-2 returns-3)

@@ -9,19 +9,10 @@ use borrow.Author.Needs.{needs}
 use Rattle.fields.proofs.finder.three_marks_ahead.Statement.{statement}
 use Rattle.fields.proofs.finder.three_marks_ahead.Tie as tie
 
-start-requires : tie.Need-start-requires
-start-requires c κs = search needs
-
-slice-aggregate-begins-with : tie.Need-slice-aggregate-begins-with
-slice-aggregate-begins-with c = search needs
-
-begins-with-requires : tie.Need-begins-with-requires
-begins-with-requires c κs = search needs
-
 returns : tie.Need-returns
 unfolding threeMarks classesOf
 returns c = rw (← c .before .before .start .ensures) (c .begins-with .ensures)
 
 pub three-marks-ahead-spec : {M : Type 1} → statement M
 three-marks-ahead-spec =
-    tie.close (tie.spec start-requires slice-aggregate-begins-with begins-with-requires returns)
+    tie.close (tie.spec (λ c κs. search needs) (λ c. search needs) (λ c κs. search needs) returns)

@@ -11,15 +11,6 @@ returns : tie.Need-returns
 unfolding endRule
 returns c = rw (lt-ltb _ _ (c .if1 .taken))
 
-is-stray-requires : tie.Need-is-stray-requires
-is-stray-requires c κs = search needs
-
-last-place-requires : tie.Need-last-place-requires
-last-place-requires c κs = search needs
-
-stray-place-requires : tie.Need-stray-place-requires
-stray-place-requires c κs = search needs
-
 returns-2 : tie.Need-returns-2
 unfolding endRule
 returns-2 c =
@@ -37,4 +28,4 @@ returns-3 c =
 pub conclude-spec : {M : Type 1} → statement M
 conclude-spec =
     tie.close
-    (tie.spec returns is-stray-requires last-place-requires stray-place-requires returns-2 returns-3)
+    (tie.spec returns (λ c κs. search needs) (λ c κs. search needs) (λ c κs. search needs) returns-2 returns-3)

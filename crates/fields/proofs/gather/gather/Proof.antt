@@ -14,9 +14,6 @@ use borrow.Author.Needs.{needs}
 use Rattle.fields.proofs.gather.gather.Statement.{statement}
 use Rattle.fields.proofs.gather.gather.Tie as tie
 
-pass-over-requires : tie.Need-pass-over-requires
-pass-over-requires c κs = search needs
-
 slice-aggregate-check-edges : tie.Need-slice-aggregate-check-edges
 slice-aggregate-check-edges c =
     let read = c .before .before .before in
@@ -33,23 +30,11 @@ check-edges-requires c κs =
     let small = used-is-small _ _ _ (pre .0) (pre .1 .0) (pre .1 .1) _ (read .pass-over .ensures .0) in
     (pre .0, omega (arith, length-take used (entry .args .intervals .now)))
 
-enum-known-refusal : tie.Need-enum-known-refusal
-enum-known-refusal c = search needs
-
-enum-told : tie.Need-enum-told
-enum-told c = search needs
-
-slice-relend-prefix-words-to-bytes : tie.Need-slice-relend-prefix-words-to-bytes
-slice-relend-prefix-words-to-bytes c = search needs
-
 slice-aggregate-words-to-bytes : tie.Need-slice-aggregate-words-to-bytes
 slice-aggregate-words-to-bytes c =
     let read = c .before .before .before .before .before .before .before .before in
     let pre = read .before .before .before .before .pre in
     sym (length-take-le _ _ (omega (arith, pre .1 .2, read .pass-over .kept .1 .1 .1 .0)))
-
-words-to-bytes-requires : tie.Need-words-to-bytes-requires
-words-to-bytes-requires c κs = search needs
 
 conclude-requires : tie.Need-conclude-requires
 conclude-requires c κs =
@@ -57,9 +42,6 @@ conclude-requires c κs =
     let pre = read .before .before .before .before .pre in
     let small = used-is-small _ _ _ (pre .0) (pre .1 .0) (pre .1 .1) _ (read .pass-over .ensures .0) in
     omega arith
-
-same-length : tie.Need-same-length
-same-length c = search needs
 
 returns : tie.Need-returns
 returns c =
@@ -74,9 +56,6 @@ returns c =
     (sym (ap verdictAnswer (told .refusal .given .1))
     ∙ checked .check-edges .ensures
     ∙ ap edgeRule (classes-of-take (entry .args .p) (read .pass-over .result .used) (entry .args .intervals .now))))
-
-same-length-2 : tie.Need-same-length-2
-same-length-2 c = search needs
 
 returns-2 : tie.Need-returns-2
 returns-2 c =
@@ -101,17 +80,6 @@ returns-2 c =
 pub gather-spec : {M : Type 1} → statement M
 gather-spec =
     tie.close
-    (tie.spec
-    pass-over-requires
-    slice-aggregate-check-edges
-    check-edges-requires
-    enum-known-refusal
-    enum-told
-    slice-relend-prefix-words-to-bytes
-    slice-aggregate-words-to-bytes
-    words-to-bytes-requires
-    conclude-requires
-    same-length
-    returns
-    same-length-2
-    returns-2)
+    (tie.spec (λ c κs. search needs) slice-aggregate-check-edges check-edges-requires (λ c. search needs)
+    (λ c. search needs) (λ c. search needs) slice-aggregate-words-to-bytes (λ c κs. search needs) conclude-requires
+    (λ c. search needs) returns (λ c. search needs) returns-2)

@@ -31,15 +31,6 @@ returns c =
     let args = c .before .before .before .args in
     no-room-is-turned-away (args .items .now) (args .out .now) (args .used) (c .if1 .taken)
 
-copy-requires : tie.Need-copy-requires
-copy-requires c κs = search needs
-
-holds-requires : tie.Need-holds-requires
-holds-requires c κs = search needs
-
-same-length : tie.Need-same-length
-same-length c = search needs
-
 returns-2 : tie.Need-returns-2
 returns-2 c =
     let tested = c .before .before .before .before .before in
@@ -48,4 +39,4 @@ returns-2 c =
     (rw (c .holds .ensures) (full .0), c .before .before .before .copy .ensures ∙ full .1)
 
 pub deliver-spec : {M : Type 1} → statement M
-deliver-spec = tie.close (tie.spec returns copy-requires holds-requires same-length returns-2)
+deliver-spec = tie.close (tie.spec returns (λ c κs. search needs) (λ c κs. search needs) (λ c. search needs) returns-2)

@@ -7,24 +7,6 @@ use borrow.Author.Needs.{needs}
 use Rattle.fields.proofs.reader.fill.Statement.{statement}
 use Rattle.fields.proofs.reader.fill.Tie as tie
 
-cast-gather : tie.Need-cast-gather
-cast-gather c = search needs
-
-gather-requires : tie.Need-gather-requires
-gather-requires c κs = search needs
-
-enum-known-refusal : tie.Need-enum-known-refusal
-enum-known-refusal c = search needs
-
-enum-known-used : tie.Need-enum-known-used
-enum-known-used c = search needs
-
-holds-requires : tie.Need-holds-requires
-holds-requires c κs = search needs
-
-same-length : tie.Need-same-length
-same-length c = search needs
-
 returns : tie.Need-returns
 returns c =
     let gathered = c .before .before .before .before .before in
@@ -33,9 +15,6 @@ returns c =
       gather-refuses _ _ (c .before .refusal .given .0 .0) (args .items .now) e .0,
       λ zero. absurd (gather-refuses-in-place _ _ (c .before .refusal .given .0 .0) _ e zero),
     )
-
-same-length-2 : tie.Need-same-length-2
-same-length-2 c = search needs
 
 returns-2 : tie.Need-returns-2
 returns-2 c =
@@ -51,13 +30,5 @@ returns-2 c =
 pub fill-spec : {M : Type 1} → statement M
 fill-spec =
     tie.close
-    (tie.spec
-    cast-gather
-    gather-requires
-    enum-known-refusal
-    enum-known-used
-    holds-requires
-    same-length
-    returns
-    same-length-2
-    returns-2)
+    (tie.spec (λ c. search needs) (λ c κs. search needs) (λ c. search needs) (λ c. search needs)
+    (λ c κs. search needs) (λ c. search needs) returns (λ c. search needs) returns-2)

@@ -9,12 +9,6 @@ use borrow.Author.Needs.{needs}
 use Rattle.fields.proofs.reader.holds.Statement.{statement}
 use Rattle.fields.proofs.reader.holds.Tie as tie
 
-fresh-requires : tie.Need-fresh-requires
-fresh-requires c κs = search needs
-
-after-bytes-requires : tie.Need-after-bytes-requires
-after-bytes-requires c κs = search needs
-
 returns : tie.Need-returns
 unfolding holdsAfter
 returns c =
@@ -24,4 +18,4 @@ returns c =
     ∙ ap (λ (k : Check). afterBytes k items) (c .before .before .fresh .ensures))
 
 pub holds-spec : {M : Type 1} → statement M
-holds-spec = tie.close (tie.spec fresh-requires after-bytes-requires returns)
+holds-spec = tie.close (tie.spec (λ c κs. search needs) (λ c κs. search needs) returns)

@@ -8,15 +8,6 @@ use borrow.Author.Needs.{needs}
 use Rattle.fields.proofs.reader.read_field.Statement.{statement}
 use Rattle.fields.proofs.reader.read_field.Tie as tie
 
-check-requires : tie.Need-check-requires
-check-requires c κs = search needs
-
-enum-known-refusal : tie.Need-enum-known-refusal
-enum-known-refusal c = search needs
-
-enum-told : tie.Need-enum-told
-enum-told c = search needs
-
 returns : tie.Need-returns
 returns c =
     let fair =
@@ -40,9 +31,6 @@ returns-2 c =
     (c .before .refusal .given .0 .0)
     (sym (ap verdictAnswer (c .before .refusal .given .1)) ∙ c .before .before .before .check .ensures)
 
-same-length : tie.Need-same-length
-same-length c = search needs
-
 returns-3 : tie.Need-returns-3
 returns-3 c =
     let tested = c .before .before .before .before in
@@ -61,12 +49,5 @@ returns-3 c =
 pub read-field-spec : {M : Type 1} → statement M
 read-field-spec =
     tie.close
-    (tie.spec
-    check-requires
-    enum-known-refusal
-    enum-told
-    returns
-    read-checked-requires
-    returns-2
-    same-length
-    returns-3)
+    (tie.spec (λ c κs. search needs) (λ c. search needs) (λ c. search needs) returns read-checked-requires returns-2
+    (λ c. search needs) returns-3)

@@ -10,15 +10,6 @@ use borrow.Author.Needs.{needs}
 use Rattle.fields.proofs.reader.read_in_place.Statement.{statement}
 use Rattle.fields.proofs.reader.read_in_place.Tie as tie
 
-check-requires : tie.Need-check-requires
-check-requires c κs = search needs
-
-enum-known-refusal : tie.Need-enum-known-refusal
-enum-known-refusal c = search needs
-
-enum-told : tie.Need-enum-told
-enum-told c = search needs
-
 returns : tie.Need-returns
 returns c =
     let checked = c .before .before .before in
@@ -43,9 +34,6 @@ returns-2 c =
     let e = sym (ap verdictAnswer (c .before .refusal .given .1)) ∙ checked .check .ensures in
     (profile-refuses _ _ _ old r e .0, λ accepts. absurd (profile-refuses-in-place _ _ _ old r e accepts))
 
-same-length : tie.Need-same-length
-same-length c = search needs
-
 returns-3 : tie.Need-returns-3
 returns-3 c =
     let filled = c .before .before in
@@ -61,12 +49,5 @@ returns-3 c =
 pub read-in-place-spec : {M : Type 1} → statement M
 read-in-place-spec =
     tie.close
-    (tie.spec
-    check-requires
-    enum-known-refusal
-    enum-told
-    returns
-    fill-requires
-    returns-2
-    same-length
-    returns-3)
+    (tie.spec (λ c κs. search needs) (λ c. search needs) (λ c. search needs) returns fill-requires returns-2
+    (λ c. search needs) returns-3)

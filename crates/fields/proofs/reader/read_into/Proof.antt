@@ -9,32 +9,11 @@ use borrow.Author.Needs.{needs}
 use Rattle.fields.proofs.reader.read_into.Statement.{statement}
 use Rattle.fields.proofs.reader.read_into.Tie as tie
 
-cast-gather : tie.Need-cast-gather
-cast-gather c = search needs
-
-gather-requires : tie.Need-gather-requires
-gather-requires c κs = search needs
-
-enum-known-refusal : tie.Need-enum-known-refusal
-enum-known-refusal c = search needs
-
-enum-known-used : tie.Need-enum-known-used
-enum-known-used c = search needs
-
-slice-reshare-prefix-deliver : tie.Need-slice-reshare-prefix-deliver
-slice-reshare-prefix-deliver c = search needs
-
 slice-aggregate-deliver : tie.Need-slice-aggregate-deliver
 slice-aggregate-deliver c =
     let gathered = c .before .before .before .before .before .before in
     let pre = gathered .before .before .before .before .before .pre in
     sym (length-take-le _ _ (omega (arith, pre .1 .2, gathered .gather .kept .1 .1 .1 .0)))
-
-deliver-requires : tie.Need-deliver-requires
-deliver-requires c κs = search needs
-
-same-length : tie.Need-same-length
-same-length c = search needs
 
 returns : tie.Need-returns
 returns c =
@@ -42,12 +21,6 @@ returns c =
     let args = gathered .before .before .before .before .before .args in
     gather-refuses _ _ (c .before .refusal .given .0 .0) (args .out .now)
     (sym (ap countedAnswer (c .before .refusal .given .1)) ∙ gathered .gather .ensures .0)
-
-same-length-2 : tie.Need-same-length-2
-same-length-2 c = search needs
-
-same-length-3 : tie.Need-same-length-3
-same-length-3 c = search needs
 
 returns-2 : tie.Need-returns-2
 returns-2 c =
@@ -64,16 +37,6 @@ returns-2 c =
 pub read-into-spec : {M : Type 1} → statement M
 read-into-spec =
     tie.close
-    (tie.spec
-    cast-gather
-    gather-requires
-    enum-known-refusal
-    enum-known-used
-    slice-reshare-prefix-deliver
-    slice-aggregate-deliver
-    deliver-requires
-    same-length
-    returns
-    same-length-2
-    same-length-3
+    (tie.spec (λ c. search needs) (λ c κs. search needs) (λ c. search needs) (λ c. search needs) (λ c. search needs)
+    slice-aggregate-deliver (λ c κs. search needs) (λ c. search needs) returns (λ c. search needs) (λ c. search needs)
     returns-2)

@@ -55,15 +55,6 @@ used-in-list
     ≤ length (c .before .before .before .before .before .before .before .before .before .args .intervals .now)
 used-in-list c = within _ _ _ _ _ (used-is c)
 
-read-field-requires : tie.Need-read-field-requires
-read-field-requires c κs = search needs
-
-enum-told : tie.Need-enum-told
-enum-told c = search needs
-
-enum-known-used : tie.Need-enum-known-used
-enum-known-used c = search needs
-
 mul-result : tie.Need-mul-result
 mul-result c =
     let start = c .before .before .before .before .before .before .before .before .before in
@@ -75,21 +66,12 @@ sub-result c = used-in-list c
 part-result-start : tie.Need-part-result-start
 part-result-start c = used-in-list c
 
-part-result-end : tie.Need-part-result-end
-part-result-end c = search needs
-
-same-length : tie.Need-same-length
-same-length c = search needs
-
 returns : tie.Need-returns
 returns c =
     let read = c .before .before .before .before in
     let none =
     sym (ap used-of (c .enum-told .given .1)) ∙ ap (λ (a : FieldAnswer). a .used) (read .read-field .ensures .0) in
     (whole-stands _ _ _ _ 0 none _ _ refl, (rest-is _ _ _ _ 0 none, read .read-field .ensures .1))
-
-same-length-2 : tie.Need-same-length-2
-same-length-2 c = search needs
 
 returns-2 : tie.Need-returns-2
 returns-2 c =
@@ -100,15 +82,5 @@ returns-2 c =
 pub read-rest-spec : {M : Type 1} → statement M
 read-rest-spec =
     tie.close
-    (tie.spec
-    read-field-requires
-    enum-told
-    enum-known-used
-    mul-result
-    sub-result
-    part-result-start
-    part-result-end
-    same-length
-    returns
-    same-length-2
-    returns-2)
+    (tie.spec (λ c κs. search needs) (λ c. search needs) (λ c. search needs) mul-result sub-result part-result-start
+    (λ c. search needs) (λ c. search needs) returns (λ c. search needs) returns-2)

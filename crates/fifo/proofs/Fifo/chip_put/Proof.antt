@@ -6,12 +6,6 @@ use borrow.Author.Needs.{needs}
 use Rattle.fifo.proofs.Fifo.chip_put.Statement.{statement}
 use Rattle.fifo.proofs.Fifo.chip_put.Tie as tie
 
-given-requires : tie.Need-given-requires
-given-requires c κs = search needs
-
-append-requires : tie.Need-append-requires
-append-requires c κs = search needs
-
 returns : tie.Need-returns
 unfolding putRule
 returns c = c .given .ensures ∙ rw (mode-of-zero-is-write _ (c .before .if1 .taken))
@@ -21,4 +15,4 @@ unfolding putRule
 returns-2 c = c .append .ensures ∙ rw (mode-of-other-is-read _ (c .before .if1 .left))
 
 pub chip-put-spec : {M : Type 1} → statement M
-chip-put-spec = tie.close (tie.spec given-requires append-requires returns returns-2)
+chip-put-spec = tie.close (tie.spec (λ c κs. search needs) (λ c κs. search needs) returns returns-2)

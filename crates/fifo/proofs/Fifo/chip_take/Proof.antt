@@ -6,12 +6,6 @@ use borrow.Author.Needs.{needs}
 use Rattle.fifo.proofs.Fifo.chip_take.Statement.{statement}
 use Rattle.fifo.proofs.Fifo.chip_take.Tie as tie
 
-shift-requires : tie.Need-shift-requires
-shift-requires c κs = search needs
-
-given-requires : tie.Need-given-requires
-given-requires c κs = search needs
-
 returns : tie.Need-returns
 unfolding takeRule
 returns c = c .shift .ensures ∙ rw (mode-of-zero-is-write _ (c .before .if1 .taken))
@@ -21,4 +15,4 @@ unfolding takeRule
 returns-2 c = c .given .ensures ∙ rw (mode-of-other-is-read _ (c .before .if1 .left))
 
 pub chip-take-spec : {M : Type 1} → statement M
-chip-take-spec = tie.close (tie.spec shift-requires given-requires returns returns-2)
+chip-take-spec = tie.close (tie.spec (λ c κs. search needs) (λ c κs. search needs) returns returns-2)

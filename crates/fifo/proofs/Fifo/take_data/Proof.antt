@@ -6,12 +6,6 @@ use borrow.Author.Needs.{needs}
 use Rattle.fifo.proofs.Fifo.take_data.Statement.{statement}
 use Rattle.fifo.proofs.Fifo.take_data.Tie as tie
 
-given-requires : tie.Need-given-requires
-given-requires c κs = search needs
-
-shift-requires : tie.Need-shift-requires
-shift-requires c κs = search needs
-
 returns : tie.Need-returns
 unfolding takeRule
 returns c = c .given .ensures ∙ rw (mode-of-zero-is-write _ (c .before .if1 .taken))
@@ -21,4 +15,4 @@ unfolding takeRule
 returns-2 c = c .shift .ensures ∙ rw (mode-of-other-is-read _ (c .before .if1 .left))
 
 pub take-data-spec : {M : Type 1} → statement M
-take-data-spec = tie.close (tie.spec given-requires shift-requires returns returns-2)
+take-data-spec = tie.close (tie.spec (λ c κs. search needs) (λ c κs. search needs) returns returns-2)

@@ -8,30 +8,6 @@ use borrow.Author.Needs.{needs}
 use Rattle.fifo.proofs.steps.append.Statement.{statement}
 use Rattle.fifo.proofs.steps.append.Tie as tie
 
-is-item-requires : tie.Need-is-item-requires
-is-item-requires c κs = search needs
-
-with-items-requires : tie.Need-with-items-requires
-with-items-requires c κs = search needs
-
-given-requires : tie.Need-given-requires
-given-requires c κs = search needs
-
-with-items-requires-2 : tie.Need-with-items-requires-2
-with-items-requires-2 c κs = search needs
-
-given-requires-2 : tie.Need-given-requires-2
-given-requires-2 c κs = search needs
-
-with-fault-requires : tie.Need-with-fault-requires
-with-fault-requires c κs = search needs
-
-given-requires-3 : tie.Need-given-requires-3
-given-requires-3 c κs = search needs
-
-not-an-item-requires : tie.Need-not-an-item-requires
-not-an-item-requires c κs = search needs
-
 returns : tie.Need-returns
 unfolding heldItems
 returns c =
@@ -73,16 +49,6 @@ returns-4 c =
 pub append-spec : {M : Type 1} → statement M
 append-spec =
     tie.close
-    (tie.spec
-    is-item-requires
-    with-items-requires
-    given-requires
-    with-items-requires-2
-    given-requires-2
-    with-fault-requires
-    given-requires-3
-    not-an-item-requires
-    returns
-    returns-2
-    returns-3
-    returns-4)
+    (tie.spec (λ c κs. search needs) (λ c κs. search needs) (λ c κs. search needs) (λ c κs. search needs)
+    (λ c κs. search needs) (λ c κs. search needs) (λ c κs. search needs) (λ c κs. search needs) returns returns-2
+    returns-3 returns-4)

@@ -10,30 +10,6 @@ use borrow.Author.Needs.{needs}
 use Rattle.fifo.proofs.steps.shift.Statement.{statement}
 use Rattle.fifo.proofs.steps.shift.Tie as tie
 
-with-fault-requires : tie.Need-with-fault-requires
-with-fault-requires c κs = search needs
-
-given-requires : tie.Need-given-requires
-given-requires c κs = search needs
-
-is-mark-requires : tie.Need-is-mark-requires
-is-mark-requires c κs = search needs
-
-without-first-requires : tie.Need-without-first-requires
-without-first-requires c κs = search needs
-
-with-fault-requires-2 : tie.Need-with-fault-requires-2
-with-fault-requires-2 c κs = search needs
-
-given-requires-2 : tie.Need-given-requires-2
-given-requires-2 c κs = search needs
-
-without-first-requires-2 : tie.Need-without-first-requires-2
-without-first-requires-2 c κs = search needs
-
-given-requires-3 : tie.Need-given-requires-3
-given-requires-3 c κs = search needs
-
 returns : tie.Need-returns
 unfolding taking
 returns c =
@@ -70,15 +46,6 @@ returns-3 c =
 pub shift-spec : {M : Type 1} → statement M
 shift-spec =
     tie.close
-    (tie.spec
-    with-fault-requires
-    given-requires
-    is-mark-requires
-    without-first-requires
-    with-fault-requires-2
-    given-requires-2
-    without-first-requires-2
-    given-requires-3
-    returns
-    returns-2
+    (tie.spec (λ c κs. search needs) (λ c κs. search needs) (λ c κs. search needs) (λ c κs. search needs)
+    (λ c κs. search needs) (λ c κs. search needs) (λ c κs. search needs) (λ c κs. search needs) returns returns-2
     returns-3)

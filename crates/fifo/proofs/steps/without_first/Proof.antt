@@ -9,12 +9,6 @@ use borrow.Author.Needs.{needs}
 use Rattle.fifo.proofs.steps.without_first.Statement.{statement}
 use Rattle.fifo.proofs.steps.without_first.Tie as tie
 
-with-items-requires : tie.Need-with-items-requires
-with-items-requires c κs = search needs
-
-with-items-requires-2 : tie.Need-with-items-requires-2
-with-items-requires-2 c κs = search needs
-
 returns : tie.Need-returns
 unfolding heldItems
 returns c =
@@ -33,4 +27,4 @@ returns-2 c =
 
 pub without-first-spec : {M : Type 1} → statement M
 without-first-spec =
-    tie.close (tie.spec with-items-requires with-items-requires-2 returns returns-2)
+    tie.close (tie.spec (λ c κs. search needs) (λ c κs. search needs) returns returns-2)

@@ -9,9 +9,6 @@ use Rattle.images.proofs.TallyLaws.{sixteen-at-most}
 use Rattle.images.proofs.count.count_byte.Statement.{statement}
 use Rattle.images.proofs.count.count_byte.Tie as tie
 
-made-word-requires : tie.Need-made-word-requires
-made-word-requires c κs = search needs
-
 cast-ones : tie.Need-cast-ones
 cast-ones c =
     let args = c .before .args in
@@ -26,4 +23,4 @@ unfolding talliedByte
 returns c = rw (c .before .made-word .ensures) (search needs)
 
 pub count-byte-spec : {M : Type 1} → statement M
-count-byte-spec = tie.close (tie.spec made-word-requires cast-ones add-t4 returns)
+count-byte-spec = tie.close (tie.spec (λ c κs. search needs) cast-ones add-t4 returns)

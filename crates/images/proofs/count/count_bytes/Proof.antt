@@ -34,12 +34,6 @@ abbrev μ-loop : tie.MeasureT-loop
 loop-holds : tie.Need-loop-holds Inv-loop μ-loop
 loop-holds c = (omega arith, refl)
 
-mul-count-byte : tie.Need-mul-count-byte Inv-loop μ-loop
-mul-count-byte c = omega arith
-
-shared-slice-read-count-byte : tie.Need-shared-slice-read-count-byte Inv-loop μ-loop
-shared-slice-read-count-byte c = omega arith
-
 count-byte-requires : tie.Need-count-byte-requires Inv-loop μ-loop
 count-byte-requires c κs =
     let turn = c .before in
@@ -48,12 +42,6 @@ count-byte-requires c κs =
     small-on-the-way (entry .args .start) (head .tally) (now (entry .args .bytes)) (head .k) (turn .loop-test .taken)
     (head .inv .1)
     (entry .pre)
-
-add-k : tie.Need-add-k Inv-loop μ-loop
-add-k c = omega arith
-
-loop-less : tie.Need-loop-less Inv-loop μ-loop
-loop-less c = omega arith
 
 loop-again : tie.Need-loop-again Inv-loop μ-loop
 loop-again c =
@@ -76,14 +64,5 @@ returns c =
 pub count-bytes-spec : {M : Type 1} → statement M
 count-bytes-spec =
     tie.close
-    (tie.spec
-    Inv-loop
-    μ-loop
-    loop-holds
-    mul-count-byte
-    shared-slice-read-count-byte
-    count-byte-requires
-    add-k
-    loop-less
-    loop-again
-    returns)
+    (tie.spec Inv-loop μ-loop loop-holds (λ c. omega arith) (λ c. omega arith) count-byte-requires (λ c. omega arith)
+    (λ c. omega arith) loop-again returns)

@@ -33,23 +33,11 @@ module _ (items : List ℕ) (accepted : listRule items .number ≡ 0) (tally : T
   after-zero : (tally .previous % 2 ≡ 1 → ⊥) → tally .cells + 2 ≡ length (writtenCells (written items))
   after-zero e = rw (ne-eqb (tally .previous % 2) 1 e) at whole
 
-count-items-requires : tie.Need-count-items-requires
-count-items-requires c κs = search needs
-
-cast-cells : tie.Need-cast-cells
-cast-cells c = search needs
-
-add-result : tie.Need-add-result
-add-result c = search needs
-
 returns : tie.Need-returns
 returns c =
     let counted = c .before .before .before in
     let entry = counted .before .before in
     after-one (now (entry .args .items)) (entry .pre .0) _ (counted .count-items .ensures) (c .if1 .taken)
-
-add-result-2 : tie.Need-add-result-2
-add-result-2 c = search needs
 
 returns-2 : tie.Need-returns-2
 returns-2 c =
@@ -59,4 +47,4 @@ returns-2 c =
 
 pub count-cells-spec : {M : Type 1} → statement M
 count-cells-spec =
-    tie.close (tie.spec count-items-requires cast-cells add-result returns add-result-2 returns-2)
+    tie.close (tie.spec (λ c κs. search needs) (λ c. search needs) (λ c. search needs) returns (λ c. search needs) returns-2)

@@ -49,20 +49,11 @@ Inv-loop items part₀ k₀ part k =
 abbrev μ-loop : tie.MeasureT-loop
 μ-loop items part₀ k₀ part k = length items - k
 
-fresh-requires : tie.Need-fresh-requires Inv-loop μ-loop
-fresh-requires c κs = search needs
-
 loop-holds : tie.Need-loop-holds Inv-loop μ-loop
 unfolding written
 loop-holds c =
     let items = now (c .before .before .args .items) in
     (omega arith, ap (λ (s : Check). tallied noTally (writtenFrom s items)) (c .fresh .ensures))
-
-mul-count-item : tie.Need-mul-count-item Inv-loop μ-loop
-mul-count-item c = omega arith
-
-shared-slice-read-count-item : tie.Need-shared-slice-read-count-item Inv-loop μ-loop
-shared-slice-read-count-item c = omega arith
 
 count-item-requires : tie.Need-count-item-requires Inv-loop μ-loop
 count-item-requires c κs =
@@ -72,12 +63,6 @@ count-item-requires c κs =
     next-fits (now (entry .args .items)) (head .k) (head .part .tally) (head .part .check) (turn .loop-test .taken)
     (head .inv .1)
     (entry .pre)
-
-add-k : tie.Need-add-k Inv-loop μ-loop
-add-k c = omega arith
-
-loop-less : tie.Need-loop-less Inv-loop μ-loop
-loop-less c = omega arith
 
 loop-again : tie.Need-loop-again Inv-loop μ-loop
 loop-again c =
@@ -101,15 +86,5 @@ returns c =
 pub count-each-spec : {M : Type 1} → statement M
 count-each-spec =
     tie.close
-    (tie.spec
-    Inv-loop
-    μ-loop
-    fresh-requires
-    loop-holds
-    mul-count-item
-    shared-slice-read-count-item
-    count-item-requires
-    add-k
-    loop-less
-    loop-again
-    returns)
+    (tie.spec Inv-loop μ-loop (λ c κs. search needs) loop-holds (λ c. omega arith) (λ c. omega arith)
+    count-item-requires (λ c. omega arith) (λ c. omega arith) loop-again returns)

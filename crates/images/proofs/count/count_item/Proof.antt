@@ -41,15 +41,6 @@ module _ (t : Tally) (c : Check) (n : ℕ) where
       let least = tally-at-least afterHigh (lowByte (c .register) ∷ []) in
       omega arith
 
-after-item-requires : tie.Need-after-item-requires
-after-item-requires c κs = search needs
-
-is-check-requires : tie.Need-is-check-requires
-is-check-requires c κs = search needs
-
-high-requires : tie.Need-high-requires
-high-requires c κs = search needs
-
 count-byte-requires : tie.Need-count-byte-requires
 count-byte-requires c κs =
     let tested = c .before .before in
@@ -59,9 +50,6 @@ count-byte-requires c κs =
     (high-fits (start .tally) (start .check) (entry .args .item)
     (sym (tested .is-check .ensures) ∙ c .before .if1 .taken)
     (entry .pre))
-
-low-requires : tie.Need-low-requires
-low-requires c κs = search needs
 
 count-byte-requires-2 : tie.Need-count-byte-requires-2
 count-byte-requires-2 c κs =
@@ -112,13 +100,5 @@ returns-2 c =
 pub count-item-spec : {M : Type 1} → statement M
 count-item-spec =
     tie.close
-    (tie.spec
-    after-item-requires
-    is-check-requires
-    high-requires
-    count-byte-requires
-    low-requires
-    count-byte-requires-2
-    returns
-    count-byte-requires-3
-    returns-2)
+    (tie.spec (λ c κs. search needs) (λ c κs. search needs) (λ c κs. search needs) count-byte-requires
+    (λ c κs. search needs) count-byte-requires-2 returns count-byte-requires-3 returns-2)

@@ -31,13 +31,10 @@ returns c =
     c .count-bytes .ensures
     ∙ ap (tallied noTally) (sym (own items (sym (entry .pre .1) ∙ c .before .if1 .taken)))
 
-count-each-requires : tie.Need-count-each-requires
-count-each-requires c κs = search needs
-
 returns-2 : tie.Need-returns-2
 returns-2 c = c .count-each .ensures
 
 pub count-items-spec : {M : Type 1} → statement M
 count-items-spec =
     tie.close
-    (tie.spec count-bytes-requires returns count-each-requires returns-2)
+    (tie.spec count-bytes-requires returns (λ c κs. search needs) returns-2)

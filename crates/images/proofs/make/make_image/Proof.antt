@@ -5,15 +5,6 @@ use borrow.Author.Needs.{needs}
 use Rattle.images.proofs.make.make_image.Statement.{statement}
 use Rattle.images.proofs.make.make_image.Tie as tie
 
-check-list-requires : tie.Need-check-list-requires
-check-list-requires c κs = search needs
-
-enum-known-refusal : tie.Need-enum-known-refusal
-enum-known-refusal c = search needs
-
-enum-told : tie.Need-enum-told
-enum-told c = search needs
-
 make-words-requires : tie.Need-make-words-requires
 make-words-requires c κs =
     let listed = c .before .before .before in
@@ -26,20 +17,8 @@ returns c =
     let rule = verdict-refuses _ _ _ _ (tested .check-list .ensures) (c .before .refusal .given .1) in
     (rule, refusal-keeps-the-buffer (c .before .refusal .given .0 .0) _ _ _ rule)
 
-same-length : tie.Need-same-length
-same-length c = search needs
-
-returns-2 : tie.Need-returns-2
-returns-2 c = search needs
-
 pub make-image-spec : {M : Type 1} → statement M
 make-image-spec =
     tie.close
-    (tie.spec
-    check-list-requires
-    enum-known-refusal
-    enum-told
-    make-words-requires
-    returns
-    same-length
-    returns-2)
+    (tie.spec (λ c κs. search needs) (λ c. search needs) (λ c. search needs) make-words-requires returns
+    (λ c. search needs) (λ c. search needs))

@@ -4,22 +4,10 @@ use borrow.Author.Needs.{needs}
 use Rattle.images.proofs.make.make_words.Statement.{statement}
 use Rattle.images.proofs.make.make_words.Tie as tie
 
-written-bytes-requires : tie.Need-written-bytes-requires
-written-bytes-requires c κs = search needs
-
 returns : tie.Need-returns
 returns c =
     let counted = c .before in
     make-refuses _ _ (counted .before .before .before .pre) _ (counted .written-bytes .ensures) (c .if1 .taken)
-
-fresh-requires : tie.Need-fresh-requires
-fresh-requires c κs = search needs
-
-write-bytes-requires : tie.Need-write-bytes-requires
-write-bytes-requires c κs = search needs
-
-slice-relend-prefix-turn-into-words : tie.Need-slice-relend-prefix-turn-into-words
-slice-relend-prefix-turn-into-words c = search needs
 
 slice-aggregate-turn-into-words : tie.Need-slice-aggregate-turn-into-words
 slice-aggregate-turn-into-words c =
@@ -28,12 +16,6 @@ slice-aggregate-turn-into-words c =
     let begun = stored .before .before in
     let entry = begun .before .before .before .before .before in
     front-count _ _ (entry .pre) _ _ _ (begun .fresh .ensures) (wrote .0) (wrote .1) (search needs)
-
-turn-into-words-requires : tie.Need-turn-into-words-requires
-turn-into-words-requires c κs = search needs
-
-same-length : tie.Need-same-length
-same-length c = search needs
 
 returns-2 : tie.Need-returns-2
 returns-2 c =
@@ -48,13 +30,5 @@ returns-2 c =
 pub make-words-spec : {M : Type 1} → statement M
 make-words-spec =
     tie.close
-    (tie.spec
-    written-bytes-requires
-    returns
-    fresh-requires
-    write-bytes-requires
-    slice-relend-prefix-turn-into-words
-    slice-aggregate-turn-into-words
-    turn-into-words-requires
-    same-length
-    returns-2)
+    (tie.spec (λ c κs. search needs) returns (λ c κs. search needs) (λ c κs. search needs) (λ c. search needs)
+    slice-aggregate-turn-into-words (λ c κs. search needs) (λ c. search needs) returns-2)

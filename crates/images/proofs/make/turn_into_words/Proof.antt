@@ -34,30 +34,12 @@ Inv-loop bytes₀ table previous₀ k₀ bytes previous k =
 abbrev μ-loop : tie.MeasureT-loop
 μ-loop bytes₀ table previous₀ k₀ bytes previous k = length bytes - k
 
-code-words-requires : tie.Need-code-words-requires Inv-loop μ-loop
-code-words-requires c κs = search needs
-
 loop-holds : tie.Need-loop-holds Inv-loop μ-loop
 unfolding imageOf lastBit
 loop-holds c = (omega arith, refl, refl)
 
-mul-byte : tie.Need-mul-byte Inv-loop μ-loop
-mul-byte c = omega arith
-
-slice-read-byte : tie.Need-slice-read-byte Inv-loop μ-loop
-slice-read-byte c = omega arith
-
 word-of-requires : tie.Need-word-of-requires Inv-loop μ-loop
 word-of-requires c κs = c .before .before .before .before .code-words .ensures
-
-mul-bytes : tie.Need-mul-bytes Inv-loop μ-loop
-mul-bytes c = omega arith
-
-slice-write-bytes : tie.Need-slice-write-bytes Inv-loop μ-loop
-slice-write-bytes c = omega arith
-
-add-k : tie.Need-add-k Inv-loop μ-loop
-add-k c = omega arith
 
 loop-less : tie.Need-loop-less Inv-loop μ-loop
 loop-less c = simp length-set (omega arith)
@@ -90,18 +72,5 @@ returns c =
 pub turn-into-words-spec : {M : Type 1} → statement M
 turn-into-words-spec =
     tie.close
-    (tie.spec
-    Inv-loop
-    μ-loop
-    code-words-requires
-    loop-holds
-    mul-byte
-    slice-read-byte
-    word-of-requires
-    mul-bytes
-    slice-write-bytes
-    add-k
-    loop-less
-    loop-again
-    same-length
-    returns)
+    (tie.spec Inv-loop μ-loop (λ c κs. search needs) loop-holds (λ c. omega arith) (λ c. omega arith) word-of-requires
+    (λ c. omega arith) (λ c. omega arith) (λ c. omega arith) loop-less loop-again same-length returns)

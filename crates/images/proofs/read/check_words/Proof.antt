@@ -7,12 +7,6 @@ use Rattle.images.proofs.read.check_words.Tie as tie
 returns : tie.Need-returns
 returns c = rule-of-too-many _ (c .if1 .taken)
 
-find-unruly-requires : tie.Need-find-unruly-requires
-find-unruly-requires c κs = search needs
-
-cast-t6 : tie.Need-cast-t6
-cast-t6 c = search needs
-
 returns-2 : tie.Need-returns-2
 returns-2 c =
     rule-of-unruly _ _ (c .before .before .if1 .left) (c .before .find-unruly .ensures) (c .if2 .taken)
@@ -22,4 +16,4 @@ returns-3 c =
     rule-of-ruly _ _ (c .before .before .if1 .left) (c .before .find-unruly .ensures) (c .if2 .left)
 
 pub check-words-spec : {M : Type 1} → statement M
-check-words-spec = tie.close (tie.spec returns find-unruly-requires cast-t6 returns-2 returns-3)
+check-words-spec = tie.close (tie.spec returns (λ c κs. search needs) (λ c. search needs) returns-2 returns-3)

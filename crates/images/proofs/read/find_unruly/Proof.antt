@@ -60,30 +60,12 @@ Inv-loop words table previous₀ k₀ previous k =
 abbrev μ-loop : tie.MeasureT-loop
 μ-loop words table previous₀ k₀ previous k = length words - k
 
-code-words-requires : tie.Need-code-words-requires Inv-loop μ-loop
-code-words-requires c κs = search needs
-
 loop-holds : tie.Need-loop-holds Inv-loop μ-loop
 unfolding unrulyIn lastBit
 loop-holds c = (omega arith, zero-add _)
 
-mul-word : tie.Need-mul-word Inv-loop μ-loop
-mul-word c = omega arith
-
-shared-slice-read-word : tie.Need-shared-slice-read-word Inv-loop μ-loop
-shared-slice-read-word c = omega arith
-
-byte-of-requires : tie.Need-byte-of-requires Inv-loop μ-loop
-byte-of-requires c κs = search needs
-
 word-of-requires : tie.Need-word-of-requires Inv-loop μ-loop
 word-of-requires c κs = c .before .before .before .before .before .code-words .ensures
-
-add-k : tie.Need-add-k Inv-loop μ-loop
-add-k c = omega arith
-
-loop-less : tie.Need-loop-less Inv-loop μ-loop
-loop-less c = omega arith
 
 loop-again : tie.Need-loop-again Inv-loop μ-loop
 loop-again c =
@@ -112,17 +94,5 @@ returns-2 c =
 pub find-unruly-spec : {M : Type 1} → statement M
 find-unruly-spec =
     tie.close
-    (tie.spec
-    Inv-loop
-    μ-loop
-    code-words-requires
-    loop-holds
-    mul-word
-    shared-slice-read-word
-    byte-of-requires
-    word-of-requires
-    add-k
-    loop-less
-    loop-again
-    returns
-    returns-2)
+    (tie.spec Inv-loop μ-loop (λ c κs. search needs) loop-holds (λ c. omega arith) (λ c. omega arith)
+    (λ c κs. search needs) word-of-requires (λ c. omega arith) (λ c. omega arith) loop-again returns returns-2)

@@ -48,12 +48,6 @@ module _ (words old : List ℕ) (ruly : wordsRule words .number ≡ 0) where
 returns : tie.Need-returns
 returns c = read-refuses _ _ (c .before .before .before .pre) (c .if1 .taken)
 
-store-bytes-requires : tie.Need-store-bytes-requires
-store-bytes-requires c κs = search needs
-
-same-length : tie.Need-same-length
-same-length c = search needs
-
 returns-2 : tie.Need-returns-2
 returns-2 c =
     let tested = c .before .before .before .before in
@@ -61,4 +55,4 @@ returns-2 c =
     read-accepts _ _ (tested .before .before .before .pre) _ (tested .if1 .left) stored
 
 pub read-words-spec : {M : Type 1} → statement M
-read-words-spec = tie.close (tie.spec returns store-bytes-requires same-length returns-2)
+read-words-spec = tie.close (tie.spec returns (λ c κs. search needs) (λ c. search needs) returns-2)

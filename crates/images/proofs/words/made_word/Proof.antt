@@ -12,12 +12,9 @@ returns c = word-of-A1 _ _ (c .if1 .taken)
 returns-2 : tie.Need-returns-2
 returns-2 c = word-of-C2 _ _ (c .if2 .taken)
 
-spread-word-requires : tie.Need-spread-word-requires
-spread-word-requires c κs = search needs
-
 returns-3 : tie.Need-returns-3
 returns-3 c =
     c .spread-word .ensures ∙ spread-is-word _ _ (c .before .before .if1 .left) (c .before .if2 .left)
 
 pub made-word-spec : {M : Type 1} → statement M
-made-word-spec = tie.close (tie.spec returns returns-2 spread-word-requires returns-3)
+made-word-spec = tie.close (tie.spec returns returns-2 (λ c κs. search needs) returns-3)

@@ -11,21 +11,6 @@ returns c = word-of-A1 _ _ (c .if1 .taken)
 returns-2 : tie.Need-returns-2
 returns-2 c = word-of-C2 _ _ (c .if2 .taken)
 
-mul-result : tie.Need-mul-result
-mul-result c = search needs
-
-add-result : tie.Need-add-result
-add-result c = search needs
-
-cast-result : tie.Need-cast-result
-cast-result c = search needs
-
-mul-result-2 : tie.Need-mul-result-2
-mul-result-2 c = search needs
-
-element-copy-out-result : tie.Need-element-copy-out-result
-element-copy-out-result c = search needs
-
 returns-3 : tie.Need-returns-3
 returns-3 c =
     let tested = c .before in
@@ -36,12 +21,5 @@ returns-3 c =
 pub word-of-spec : {M : Type 1} → statement M
 word-of-spec =
     tie.close
-    (tie.spec
-    returns
-    returns-2
-    mul-result
-    add-result
-    cast-result
-    mul-result-2
-    element-copy-out-result
-    returns-3)
+    (tie.spec returns returns-2 (λ c. search needs) (λ c. search needs) (λ c. search needs) (λ c. search needs)
+    (λ c. search needs) returns-3)

@@ -44,34 +44,13 @@ closed-turn c =
 loop-holds : tie.Need-loop-holds Inv-loop μ-loop
 loop-holds c = (begins _ _ _ _ _, c .before .before .pre .0)
 
-shared-slice-read-shift : tie.Need-shared-slice-read-shift Inv-loop μ-loop
-shared-slice-read-shift c = search needs
-
-shift-requires : tie.Need-shift-requires Inv-loop μ-loop
-shift-requires c κs = search needs
-
 add-place : tie.Need-add-place Inv-loop μ-loop
 add-place c =
     let within = c .before .before .before .loop .inv .0 .within in
     omega (arith, c .before .before .before .before .before .before .pre .1)
 
-add-k : tie.Need-add-k Inv-loop μ-loop
-add-k c = search needs
-
-is-whole-requires : tie.Need-is-whole-requires Inv-loop μ-loop
-is-whole-requires c κs = search needs
-
-cast-put : tie.Need-cast-put Inv-loop μ-loop
-cast-put c = search needs
-
 word-requires : tie.Need-word-requires Inv-loop μ-loop
 word-requires c κs = leb-true 17 _ (sym (c .before .before .before .is-whole .ensures) ∙ c .before .before .if1 .taken)
-
-put-requires : tie.Need-put-requires Inv-loop μ-loop
-put-requires c κs = search needs
-
-cast-close : tie.Need-cast-close Inv-loop μ-loop
-cast-close c = search needs
 
 close-requires : tie.Need-close-requires Inv-loop μ-loop
 close-requires c κs =
@@ -94,14 +73,8 @@ returns c =
     ≡ turn .before .before .before .args .from + turn .loop .k + 1 = omega arith in
     rw next at (turn-is-full _ _ _ _ _ (closed-turn (c .before .before)) (c .if2 .taken))
 
-loop-less : tie.Need-loop-less Inv-loop μ-loop
-loop-less c = search needs
-
 loop-again : tie.Need-loop-again Inv-loop μ-loop
 loop-again c = (closed-turn (c .before .before), c .if2 .left)
-
-loop-less-2 : tie.Need-loop-less-2 Inv-loop μ-loop
-loop-less-2 c = search needs
 
 loop-again-2 : tie.Need-loop-again-2 Inv-loop μ-loop
 loop-again-2 c =
@@ -127,27 +100,7 @@ returns-2 c = turn-ends _ _ _ _ _ (c .before .loop .inv .0) (c .loop-test .left)
 pub shift-in-spec : {M : Type 1} → statement M
 shift-in-spec =
     tie.close
-    (tie.spec
-    Inv-loop
-    μ-loop
-    loop-holds
-    shared-slice-read-shift
-    shift-requires
-    add-place
-    add-k
-    is-whole-requires
-    cast-put
-    word-requires
-    put-requires
-    cast-close
-    close-requires
-    add-t22
-    same-length
-    returns
-    loop-less
-    loop-again
-    loop-less-2
-    loop-again-2
-    add-t23
-    same-length-2
+    (tie.spec Inv-loop μ-loop loop-holds (λ c. search needs) (λ c κs. search needs) add-place (λ c. search needs)
+    (λ c κs. search needs) (λ c. search needs) word-requires (λ c κs. search needs) (λ c. search needs) close-requires
+    add-t22 same-length returns (λ c. search needs) loop-again (λ c. search needs) loop-again-2 add-t23 same-length-2
     returns-2)

@@ -35,29 +35,11 @@ abbrev μ-loop : tie.MeasureT-loop
 loop-holds : tie.Need-loop-holds Inv-loop μ-loop
 loop-holds c = (omega arith, refl, refl, refl)
 
-mul-interval : tie.Need-mul-interval Inv-loop μ-loop
-mul-interval c = search needs
-
-shared-slice-read-interval : tie.Need-shared-slice-read-interval Inv-loop μ-loop
-shared-slice-read-interval c = search needs
-
-units-requires : tie.Need-units-requires Inv-loop μ-loop
-units-requires c κs = search needs
-
 slice-write-units : tie.Need-slice-write-units Inv-loop μ-loop
 slice-write-units c =
     let inside = c .before .before in
     let turn = inside .before in
     omega (arith, turn .loop .inv .1, turn .before .before .before .pre)
-
-past-requires : tie.Need-past-requires Inv-loop μ-loop
-past-requires c κs = search needs
-
-add-k : tie.Need-add-k Inv-loop μ-loop
-add-k c = search needs
-
-loop-less : tie.Need-loop-less Inv-loop μ-loop
-loop-less c = search needs
 
 loop-again : tie.Need-loop-again Inv-loop μ-loop
 loop-again c =
@@ -102,17 +84,5 @@ returns c =
 pub units-of-spec : {M : Type 1} → statement M
 units-of-spec =
     tie.close
-    (tie.spec
-    Inv-loop
-    μ-loop
-    loop-holds
-    mul-interval
-    shared-slice-read-interval
-    units-requires
-    slice-write-units
-    past-requires
-    add-k
-    loop-less
-    loop-again
-    same-length
-    returns)
+    (tie.spec Inv-loop μ-loop loop-holds (λ c. search needs) (λ c. search needs) (λ c κs. search needs)
+    slice-write-units (λ c κs. search needs) (λ c. search needs) (λ c. search needs) loop-again same-length returns)

@@ -34,23 +34,8 @@ abbrev μ-loop : tie.MeasureT-loop
 loop-holds : tie.Need-loop-holds Inv-loop μ-loop
 loop-holds c = (omega arith, c .before .pre, refl)
 
-mul-interval : tie.Need-mul-interval Inv-loop μ-loop
-mul-interval c = search needs
-
-shared-slice-read-interval : tie.Need-shared-slice-read-interval Inv-loop μ-loop
-shared-slice-read-interval c = search needs
-
 meets-cell-requires : tie.Need-meets-cell-requires Inv-loop μ-loop
 meets-cell-requires c κs = c .before .before .loop .inv .1
-
-past-requires : tie.Need-past-requires Inv-loop μ-loop
-past-requires c κs = search needs
-
-add-k : tie.Need-add-k Inv-loop μ-loop
-add-k c = search needs
-
-loop-less : tie.Need-loop-less Inv-loop μ-loop
-loop-less c = search needs
 
 loop-again : tie.Need-loop-again Inv-loop μ-loop
 unfolding everywhere
@@ -82,15 +67,5 @@ returns c =
 pub all-cells-spec : {M : Type 1} → statement M
 all-cells-spec =
     tie.close
-    (tie.spec
-    Inv-loop
-    μ-loop
-    loop-holds
-    mul-interval
-    shared-slice-read-interval
-    meets-cell-requires
-    past-requires
-    add-k
-    loop-less
-    loop-again
-    returns)
+    (tie.spec Inv-loop μ-loop loop-holds (λ c. search needs) (λ c. search needs) meets-cell-requires
+    (λ c κs. search needs) (λ c. search needs) (λ c. search needs) loop-again returns)

@@ -11,9 +11,6 @@ use Rattle.intervals.proofs.NearLaws.{all-cells-are-fair}
 use Rattle.intervals.proofs.edges.check_edges.Statement.{statement}
 use Rattle.intervals.proofs.edges.check_edges.Tie as tie
 
-start-requires : tie.Need-start-requires
-start-requires c κs = search needs
-
 all-cells-requires : tie.Need-all-cells-requires
 all-cells-requires c κs = rw (c .start .ensures) (accepted-ascends _ (c .before .before .pre .0))
 
@@ -26,12 +23,6 @@ returns c =
     ∙ ap (λ (start : Cursor). edgeRule (classesFrom start (args .intervals .now))) (told .before .start .ensures)
     ∙ ap edgeRule (sym (classes-from-start (args .p) (args .intervals .now)))
 
-start-requires-2 : tie.Need-start-requires-2
-start-requires-2 c κs = search needs
-
-find-outside-requires : tie.Need-find-outside-requires
-find-outside-requires c κs = search needs
-
 returns-2 : tie.Need-returns-2
 returns-2 c =
     let args = c .before .before .before .before .before .before .args in
@@ -42,4 +33,4 @@ returns-2 c =
 pub check-edges-spec : {M : Type 1} → statement M
 check-edges-spec =
     tie.close
-    (tie.spec start-requires all-cells-requires returns start-requires-2 find-outside-requires returns-2)
+    (tie.spec (λ c κs. search needs) all-cells-requires returns (λ c κs. search needs) (λ c κs. search needs) returns-2)

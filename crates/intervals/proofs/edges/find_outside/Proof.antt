@@ -26,18 +26,6 @@ loop-holds : tie.Need-loop-holds Inv-loop μ-loop
 unfolding edgeRule
 loop-holds c = (omega arith, refl)
 
-mul-step : tie.Need-mul-step Inv-loop μ-loop
-mul-step c = search needs
-
-shared-slice-read-step : tie.Need-shared-slice-read-step Inv-loop μ-loop
-shared-slice-read-step c = search needs
-
-step-requires : tie.Need-step-requires Inv-loop μ-loop
-step-requires c κs = search needs
-
-number-requires : tie.Need-number-requires Inv-loop μ-loop
-number-requires c κs = search needs
-
 cast-t11 : tie.Need-cast-t11 Inv-loop μ-loop
 cast-t11 c = omega (arith, c .before .before .before .before .loop-test .taken, c .before .before .before .before .before .before .before .pre)
 
@@ -50,9 +38,6 @@ returns c =
     ∙ ap (edgeRuleFrom _) (sym (classes-here _ _ _ (step .before .before .loop-test .taken)))
     ∙ turn .loop .inv .1
 
-number-requires-2 : tie.Need-number-requires-2 Inv-loop μ-loop
-number-requires-2 c κs = search needs
-
 cast-t13 : tie.Need-cast-t13 Inv-loop μ-loop
 cast-t13 c = omega (arith, c .before .before .before .before .before .before .loop-test .taken, c .before .before .before .before .before .before .before .before .before .pre)
 
@@ -64,12 +49,6 @@ returns-2 c =
     sym (wide-is-refused _ _ _ (class ∙ sym (c .before .number2 .ensures) ∙ c .if2 .taken))
     ∙ ap (edgeRuleFrom _) (sym (classes-here _ _ _ (step .before .before .loop-test .taken)))
     ∙ turn .loop .inv .1
-
-add-k : tie.Need-add-k Inv-loop μ-loop
-add-k c = search needs
-
-loop-less : tie.Need-loop-less Inv-loop μ-loop
-loop-less c = search needs
 
 loop-again : tie.Need-loop-again Inv-loop μ-loop
 loop-again c =
@@ -100,20 +79,6 @@ returns-3 c =
 pub find-outside-spec : {M : Type 1} → statement M
 find-outside-spec =
     tie.close
-    (tie.spec
-    Inv-loop
-    μ-loop
-    loop-holds
-    mul-step
-    shared-slice-read-step
-    step-requires
-    number-requires
-    cast-t11
-    returns
-    number-requires-2
-    cast-t13
-    returns-2
-    add-k
-    loop-less
-    loop-again
-    returns-3)
+    (tie.spec Inv-loop μ-loop loop-holds (λ c. search needs) (λ c. search needs) (λ c κs. search needs)
+    (λ c κs. search needs) cast-t11 returns (λ c κs. search needs) cast-t13 returns-2 (λ c. search needs)
+    (λ c. search needs) loop-again returns-3)

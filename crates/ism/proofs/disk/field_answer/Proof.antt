@@ -22,21 +22,6 @@ abbrev fieldGiven : ℕ → ℕ → ℕ → IsmAnswer
 fieldGiven count used holds =
     record { number = 0; place = 0; count = count; used = used; holds = holds; clearance = 0 }
 
-enum-known-read : tie.Need-enum-known-read
-enum-known-read c = search needs
-
-cast-t9 : tie.Need-cast-t9
-cast-t9 c = search needs
-
-enum-known-read-2 : tie.Need-enum-known-read-2
-enum-known-read-2 c = search needs
-
-number-requires : tie.Need-number-requires
-number-requires c κs = search needs
-
-place-requires : tie.Need-place-requires
-place-requires c κs = search needs
-
 returns : tie.Need-returns
 returns c =
     let given = c .before .read .given .0 in
@@ -51,11 +36,5 @@ returns-2 c =
 pub field-answer-spec : {M : Type 1} → statement M
 field-answer-spec =
     tie.close
-    (tie.spec
-    enum-known-read
-    cast-t9
-    enum-known-read-2
-    number-requires
-    place-requires
-    returns
-    returns-2)
+    (tie.spec (λ c. search needs) (λ c. search needs) (λ c. search needs) (λ c κs. search needs)
+    (λ c κs. search needs) returns returns-2)

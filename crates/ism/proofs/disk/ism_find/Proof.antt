@@ -9,15 +9,6 @@ use borrow.Author.Needs.{needs}
 use Rattle.ism.proofs.disk.ism_find.Statement.{statement}
 use Rattle.ism.proofs.disk.ism_find.Tie as tie
 
-profile-requires : tie.Need-profile-requires
-profile-requires c κs = search needs
-
-find-lock-requires : tie.Need-find-lock-requires
-find-lock-requires c κs = search needs
-
-answer-requires : tie.Need-answer-requires
-answer-requires c κs = search needs
-
 returns : tie.Need-returns
 returns c =
     let start = c .before .before .before .before .args in
@@ -27,4 +18,4 @@ returns c =
     ∙ ap (λ (q : Profile). findRule q (now (start .intervals)) (start .start)) (c .before .before .profile .ensures))
 
 pub ism-find-spec : {M : Type 1} → statement M
-ism-find-spec = tie.close (tie.spec profile-requires find-lock-requires answer-requires returns)
+ism-find-spec = tie.close (tie.spec (λ c κs. search needs) (λ c κs. search needs) (λ c κs. search needs) returns)

@@ -64,18 +64,6 @@ used-in-list
     ≤ length (now (c .before .before .before .before .before .before .before .before .args .intervals))
 used-in-list c = rw (ap (λ (a : IsmAnswer). a .used) (answered c)) (used-is-within _ _ _ _)
 
-profile-requires : tie.Need-profile-requires
-profile-requires c κs = search needs
-
-read-field-requires : tie.Need-read-field-requires
-read-field-requires c κs = search needs
-
-field-answer-requires : tie.Need-field-answer-requires
-field-answer-requires c κs = search needs
-
-same-length : tie.Need-same-length
-same-length c = search needs
-
 returns : tie.Need-returns
 returns c =
     let field = c .before .before in
@@ -93,9 +81,6 @@ least-requires c κs =
 
 with-clearance-requires : tie.Need-with-clearance-requires
 with-clearance-requires c κs = c .before .before .if1 .left
-
-same-length-2 : tie.Need-same-length-2
-same-length-2 c = search needs
 
 returns-2 : tie.Need-returns-2
 returns-2 c =
@@ -115,14 +100,5 @@ returns-2 c =
 pub ism-read-field-spec : {M : Type 1} → statement M
 ism-read-field-spec =
     tie.close
-    (tie.spec
-    profile-requires
-    read-field-requires
-    field-answer-requires
-    same-length
-    returns
-    slice-aggregate-least
-    least-requires
-    with-clearance-requires
-    same-length-2
-    returns-2)
+    (tie.spec (λ c κs. search needs) (λ c κs. search needs) (λ c κs. search needs) (λ c. search needs) returns
+    slice-aggregate-least least-requires with-clearance-requires (λ c. search needs) returns-2)

@@ -4,48 +4,6 @@ use borrow.Author.Needs.{needs}
 use Rattle.ism.proofs.drive.given.Statement.{statement}
 use Rattle.ism.proofs.drive.given.Tie as tie
 
-array-copy-out-row : tie.Need-array-copy-out-row
-array-copy-out-row c = search needs
-
-row-requires : tie.Need-row-requires
-row-requires c κs = search needs
-
-array-copy-out-row-2 : tie.Need-array-copy-out-row-2
-array-copy-out-row-2 c = search needs
-
-row-requires-2 : tie.Need-row-requires-2
-row-requires-2 c κs = search needs
-
-array-copy-out-row-3 : tie.Need-array-copy-out-row-3
-array-copy-out-row-3 c = search needs
-
-row-requires-3 : tie.Need-row-requires-3
-row-requires-3 c κs = search needs
-
-array-copy-out-row-4 : tie.Need-array-copy-out-row-4
-array-copy-out-row-4 c = search needs
-
-row-requires-4 : tie.Need-row-requires-4
-row-requires-4 c κs = search needs
-
-array-copy-out-row-5 : tie.Need-array-copy-out-row-5
-array-copy-out-row-5 c = search needs
-
-row-requires-5 : tie.Need-row-requires-5
-row-requires-5 c κs = search needs
-
-enum-told : tie.Need-enum-told
-enum-told c = search needs
-
-enum-known-verdict : tie.Need-enum-known-verdict
-enum-known-verdict c = search needs
-
-number-requires : tie.Need-number-requires
-number-requires c κs = search needs
-
-place-requires : tie.Need-place-requires
-place-requires c κs = search needs
-
 returns : tie.Need-returns
 returns c =
     let at-5 = c .before .before in
@@ -83,20 +41,7 @@ returns-2 c =
 pub given-spec : {M : Type 1} → statement M
 given-spec =
     tie.close
-    (tie.spec
-    array-copy-out-row
-    row-requires
-    array-copy-out-row-2
-    row-requires-2
-    array-copy-out-row-3
-    row-requires-3
-    array-copy-out-row-4
-    row-requires-4
-    array-copy-out-row-5
-    row-requires-5
-    enum-told
-    enum-known-verdict
-    number-requires
-    place-requires
-    returns
-    returns-2)
+    (tie.spec (λ c. search needs) (λ c κs. search needs) (λ c. search needs) (λ c κs. search needs)
+    (λ c. search needs) (λ c κs. search needs) (λ c. search needs) (λ c κs. search needs) (λ c. search needs)
+    (λ c κs. search needs) (λ c. search needs) (λ c. search needs) (λ c κs. search needs) (λ c κs. search needs)
+    returns returns-2)

@@ -6,21 +6,6 @@ use borrow.Author.Needs.{needs}
 use Rattle.ism.proofs.drive.ism_add_reports.Statement.{statement}
 use Rattle.ism.proofs.drive.ism_add_reports.Tie as tie
 
-rows-requires : tie.Need-rows-requires
-rows-requires c κs = search needs
-
-rows-requires-2 : tie.Need-rows-requires-2
-rows-requires-2 c κs = search needs
-
-check-sum-requires : tie.Need-check-sum-requires
-check-sum-requires c κs = search needs
-
-add-requires : tie.Need-add-requires
-add-requires c κs = search needs
-
-given-requires : tie.Need-given-requires
-given-requires c κs = search needs
-
 returns : tie.Need-returns
 returns c =
     let second = c .before .before .before .rows2 .ensures in
@@ -32,4 +17,4 @@ returns c =
 pub ism-add-reports-spec : {M : Type 1} → statement M
 ism-add-reports-spec =
     tie.close
-    (tie.spec rows-requires rows-requires-2 check-sum-requires add-requires given-requires returns)
+    (tie.spec (λ c κs. search needs) (λ c κs. search needs) (λ c κs. search needs) (λ c κs. search needs) (λ c κs. search needs) returns)

@@ -9,21 +9,6 @@ use borrow.Author.Needs.{needs}
 use Rattle.ism.proofs.drive.ism_drive_report.Statement.{statement}
 use Rattle.ism.proofs.drive.ism_drive_report.Tie as tie
 
-profile-requires : tie.Need-profile-requires
-profile-requires c κs = search needs
-
-check-list-requires : tie.Need-check-list-requires
-check-list-requires c κs = search needs
-
-profile-requires-2 : tie.Need-profile-requires-2
-profile-requires-2 c κs = search needs
-
-report-list-requires : tie.Need-report-list-requires
-report-list-requires c κs = search needs
-
-given-requires : tie.Need-given-requires
-given-requires c κs = search needs
-
 returns : tie.Need-returns
 returns c =
     let first = c .before .before .before .before in
@@ -39,10 +24,5 @@ returns c =
 pub ism-drive-report-spec : {M : Type 1} → statement M
 ism-drive-report-spec =
     tie.close
-    (tie.spec
-    profile-requires
-    check-list-requires
-    profile-requires-2
-    report-list-requires
-    given-requires
-    returns)
+    (tie.spec (λ c κs. search needs) (λ c κs. search needs) (λ c κs. search needs) (λ c κs. search needs)
+    (λ c κs. search needs) returns)

@@ -3,36 +3,6 @@ use borrow.Author.Needs.{needs}
 use Rattle.ism.proofs.drive.rows.Statement.{statement}
 use Rattle.ism.proofs.drive.rows.Tie as tie
 
-array-copy-out-numbers : tie.Need-array-copy-out-numbers
-array-copy-out-numbers c = search needs
-
-numbers-requires : tie.Need-numbers-requires
-numbers-requires c κs = search needs
-
-array-copy-out-numbers-2 : tie.Need-array-copy-out-numbers-2
-array-copy-out-numbers-2 c = search needs
-
-numbers-requires-2 : tie.Need-numbers-requires-2
-numbers-requires-2 c κs = search needs
-
-array-copy-out-numbers-3 : tie.Need-array-copy-out-numbers-3
-array-copy-out-numbers-3 c = search needs
-
-numbers-requires-3 : tie.Need-numbers-requires-3
-numbers-requires-3 c κs = search needs
-
-array-copy-out-numbers-4 : tie.Need-array-copy-out-numbers-4
-array-copy-out-numbers-4 c = search needs
-
-numbers-requires-4 : tie.Need-numbers-requires-4
-numbers-requires-4 c κs = search needs
-
-array-copy-out-numbers-5 : tie.Need-array-copy-out-numbers-5
-array-copy-out-numbers-5 c = search needs
-
-numbers-requires-5 : tie.Need-numbers-requires-5
-numbers-requires-5 c κs = search needs
-
 returns : tie.Need-returns
 returns c =
     let at-4 = c .before .before in
@@ -50,15 +20,6 @@ returns c =
 pub rows-spec : {M : Type 1} → statement M
 rows-spec =
     tie.close
-    (tie.spec
-    array-copy-out-numbers
-    numbers-requires
-    array-copy-out-numbers-2
-    numbers-requires-2
-    array-copy-out-numbers-3
-    numbers-requires-3
-    array-copy-out-numbers-4
-    numbers-requires-4
-    array-copy-out-numbers-5
-    numbers-requires-5
-    returns)
+    (tie.spec (λ c. search needs) (λ c κs. search needs) (λ c. search needs) (λ c κs. search needs)
+    (λ c. search needs) (λ c κs. search needs) (λ c. search needs) (λ c κs. search needs) (λ c. search needs)
+    (λ c κs. search needs) returns)

@@ -6,15 +6,6 @@ use borrow.Author.Needs.{needs}
 use Rattle.ism.proofs.image.ism_make_image.Statement.{statement}
 use Rattle.ism.proofs.image.ism_make_image.Tie as tie
 
-make-image-requires : tie.Need-make-image-requires
-make-image-requires c κs = search needs
-
-answer-requires : tie.Need-answer-requires
-answer-requires c κs = search needs
-
-same-length : tie.Need-same-length
-same-length c = search needs
-
 returns : tie.Need-returns
 returns c =
     let made = c .before .before .before .make-image .ensures in
@@ -22,4 +13,4 @@ returns c =
 
 pub ism-make-image-spec : {M : Type 1} → statement M
 ism-make-image-spec =
-    tie.close (tie.spec make-image-requires answer-requires same-length returns)
+    tie.close (tie.spec (λ c κs. search needs) (λ c κs. search needs) (λ c. search needs) returns)

@@ -6,15 +6,6 @@ use borrow.Author.Needs.{needs}
 use Rattle.ism.proofs.image.ism_read_image.Statement.{statement}
 use Rattle.ism.proofs.image.ism_read_image.Tie as tie
 
-read-image-requires : tie.Need-read-image-requires
-read-image-requires c κs = search needs
-
-answer-requires : tie.Need-answer-requires
-answer-requires c κs = search needs
-
-same-length : tie.Need-same-length
-same-length c = search needs
-
 returns : tie.Need-returns
 returns c =
     let made = c .before .before .before .read-image .ensures in
@@ -22,4 +13,4 @@ returns c =
 
 pub ism-read-image-spec : {M : Type 1} → statement M
 ism-read-image-spec =
-    tie.close (tie.spec read-image-requires answer-requires same-length returns)
+    tie.close (tie.spec (λ c κs. search needs) (λ c κs. search needs) (λ c. search needs) returns)

@@ -57,35 +57,8 @@ Inv-loop entries all₀ k₀ all k = (k ≤ 32) × ((first : IsmIndexEntry) × (
 abbrev μ-loop : tie.MeasureT-loop
 μ-loop entries all₀ k₀ all k = 32 - k
 
-array-copy-out-converted : tie.Need-array-copy-out-converted Inv-loop μ-loop
-array-copy-out-converted c = search needs
-
-converted-requires : tie.Need-converted-requires Inv-loop μ-loop
-converted-requires c κs = search needs
-
 loop-holds : tie.Need-loop-holds Inv-loop μ-loop
 loop-holds c = (omega arith, (c .converted .result, refl))
-
-mul-converted : tie.Need-mul-converted Inv-loop μ-loop
-mul-converted c = search needs
-
-array-copy-out-converted-2 : tie.Need-array-copy-out-converted-2 Inv-loop μ-loop
-array-copy-out-converted-2 c = search needs
-
-converted-requires-2 : tie.Need-converted-requires-2 Inv-loop μ-loop
-converted-requires-2 c κs = search needs
-
-mul-all : tie.Need-mul-all Inv-loop μ-loop
-mul-all c = search needs
-
-array-set-from-all : tie.Need-array-set-from-all Inv-loop μ-loop
-array-set-from-all c = search needs
-
-add-k : tie.Need-add-k Inv-loop μ-loop
-add-k c = search needs
-
-loop-less : tie.Need-loop-less Inv-loop μ-loop
-loop-less c = search needs
 
 loop-again : tie.Need-loop-again Inv-loop μ-loop
 loop-again c =
@@ -111,18 +84,6 @@ returns c =
 pub all-converted-spec : {M : Type 1} → statement M
 all-converted-spec =
     tie.close
-    (tie.spec
-    Inv-loop
-    μ-loop
-    array-copy-out-converted
-    converted-requires
-    loop-holds
-    mul-converted
-    array-copy-out-converted-2
-    converted-requires-2
-    mul-all
-    array-set-from-all
-    add-k
-    loop-less
-    loop-again
-    returns)
+    (tie.spec Inv-loop μ-loop (λ c. search needs) (λ c κs. search needs) loop-holds (λ c. search needs)
+    (λ c. search needs) (λ c κs. search needs) (λ c. search needs) (λ c. search needs) (λ c. search needs)
+    (λ c. search needs) loop-again returns)

@@ -3,15 +3,6 @@ use borrow.Author.Needs.{needs}
 use Rattle.ism.proofs.index.converted.Statement.{statement}
 use Rattle.ism.proofs.index.converted.Tie as tie
 
-enum-known-field : tie.Need-enum-known-field
-enum-known-field c = search needs
-
-cast-t8 : tie.Need-cast-t8
-cast-t8 c = search needs
-
-enum-told : tie.Need-enum-told
-enum-told c = search needs
-
 returns : tie.Need-returns
 returns c = rw (c .before .field .given .1)
 
@@ -19,4 +10,4 @@ returns-2 : tie.Need-returns-2
 returns-2 c = rw (c .enum-told .given .1)
 
 pub converted-spec : {M : Type 1} → statement M
-converted-spec = tie.close (tie.spec enum-known-field cast-t8 enum-told returns returns-2)
+converted-spec = tie.close (tie.spec (λ c. search needs) (λ c. search needs) (λ c. search needs) returns returns-2)

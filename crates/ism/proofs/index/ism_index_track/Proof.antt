@@ -9,15 +9,6 @@ use borrow.Author.Needs.{needs}
 use Rattle.ism.proofs.index.ism_index_track.Statement.{statement}
 use Rattle.ism.proofs.index.ism_index_track.Tie as tie
 
-profile-requires : tie.Need-profile-requires
-profile-requires c κs = search needs
-
-index-track-requires : tie.Need-index-track-requires
-index-track-requires c κs = search needs
-
-given-requires : tie.Need-given-requires
-given-requires c κs = search needs
-
 returns : tie.Need-returns
 returns c =
     let at-index = c .before .before in
@@ -31,4 +22,4 @@ returns c =
 
 pub ism-index-track-spec : {M : Type 1} → statement M
 ism-index-track-spec =
-    tie.close (tie.spec profile-requires index-track-requires given-requires returns)
+    tie.close (tie.spec (λ c κs. search needs) (λ c κs. search needs) (λ c κs. search needs) returns)

@@ -10,18 +10,6 @@ use borrow.Author.Needs.{needs}
 use Rattle.ism.proofs.passes.merged_answer.Statement.{statement}
 use Rattle.ism.proofs.passes.merged_answer.Tie as tie
 
-enum-known-merged : tie.Need-enum-known-merged
-enum-known-merged c = search needs
-
-enum-known-merged-2 : tie.Need-enum-known-merged-2
-enum-known-merged-2 c = search needs
-
-number-requires : tie.Need-number-requires
-number-requires c κs = search needs
-
-place-requires : tie.Need-place-requires
-place-requires c κs = search needs
-
 returns : tie.Need-returns
 returns c = sym (ap (λ (x : Merged). givenMerge (mergedAnswer x)) (c .before .merged .given .1))
 
@@ -34,10 +22,4 @@ returns-2 c =
 pub merged-answer-spec : {M : Type 1} → statement M
 merged-answer-spec =
     tie.close
-    (tie.spec
-    enum-known-merged
-    enum-known-merged-2
-    number-requires
-    place-requires
-    returns
-    returns-2)
+    (tie.spec (λ c. search needs) (λ c. search needs) (λ c κs. search needs) (λ c κs. search needs) returns returns-2)

@@ -4,21 +4,9 @@ use Rattle.items.specs.Written.{afterMark, afterData, afterByte}
 use Rattle.items.proofs.Check.after_byte.Statement.{statement}
 use Rattle.items.proofs.Check.after_byte.Tie as tie
 
-is-mark-requires : tie.Need-is-mark-requires
-is-mark-requires c κs = search needs
-
-before-mark-requires : tie.Need-before-mark-requires
-before-mark-requires c κs = search needs
-
-feed-requires : tie.Need-feed-requires
-feed-requires c κs = search needs
-
 returns : tie.Need-returns
 unfolding afterByte afterMark
 returns c = rw (← c .before .before .before .is-mark .ensures, c .before .before .if1 .taken) (cc)
-
-feed-requires-2 : tie.Need-feed-requires-2
-feed-requires-2 c κs = search needs
 
 returns-2 : tie.Need-returns-2
 unfolding afterByte afterData
@@ -27,10 +15,5 @@ returns-2 c = rw (← c .before .before .is-mark .ensures, c .before .if1 .left)
 pub after-byte-spec : {M : Type 1} → statement M
 after-byte-spec =
     tie.close
-    (tie.spec
-    is-mark-requires
-    before-mark-requires
-    feed-requires
-    returns
-    feed-requires-2
+    (tie.spec (λ c κs. search needs) (λ c κs. search needs) (λ c κs. search needs) returns (λ c κs. search needs)
     returns-2)

@@ -5,19 +5,10 @@ use Rattle.items.proofs.WrittenLaws.{after-item-of-check, after-item-of
 use Rattle.items.proofs.Check.after_item.Statement.{statement}
 use Rattle.items.proofs.Check.after_item.Tie as tie
 
-is-check-requires : tie.Need-is-check-requires
-is-check-requires c κs = search needs
-
-after-check-requires : tie.Need-after-check-requires
-after-check-requires c κs = search needs
-
 returns : tie.Need-returns
 returns c =
     c .after-check .ensures
     ∙ sym (after-item-of-check _ _ (sym (c .before .before .is-check .ensures) ∙ c .before .if1 .taken))
-
-after-byte-requires : tie.Need-after-byte-requires
-after-byte-requires c κs = search needs
 
 returns-2 : tie.Need-returns-2
 returns-2 c =
@@ -25,4 +16,4 @@ returns-2 c =
     ∙ sym (after-item-of-byte _ _ (sym (c .before .before .is-check .ensures) ∙ c .before .if1 .left))
 
 pub after-item-spec : {M : Type 1} → statement M
-after-item-spec = tie.close (tie.spec is-check-requires after-check-requires returns after-byte-requires returns-2)
+after-item-spec = tie.close (tie.spec (λ c κs. search needs) (λ c κs. search needs) returns (λ c κs. search needs) returns-2)

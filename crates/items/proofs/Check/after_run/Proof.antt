@@ -28,35 +28,8 @@ abbrev μ-loop : tie.MeasureT-loop
 sub-last : tie.Need-sub-last Inv-loop μ-loop
 sub-last c = omega (arith, c .before .pre)
 
-mul-after-byte : tie.Need-mul-after-byte Inv-loop μ-loop
-mul-after-byte c = search needs
-
-shared-slice-read-after-byte : tie.Need-shared-slice-read-after-byte Inv-loop μ-loop
-shared-slice-read-after-byte c = search needs
-
-after-byte-requires : tie.Need-after-byte-requires Inv-loop μ-loop
-after-byte-requires c κs = search needs
-
-add-k : tie.Need-add-k Inv-loop μ-loop
-add-k c = search needs
-
 loop-holds : tie.Need-loop-holds Inv-loop μ-loop
 loop-holds c = (omega arith, omega (arith, c .before .before .before .pre), refl)
-
-mul-high : tie.Need-mul-high Inv-loop μ-loop
-mul-high c = search needs
-
-shared-slice-read-high : tie.Need-shared-slice-read-high Inv-loop μ-loop
-shared-slice-read-high c = search needs
-
-add-low : tie.Need-add-low Inv-loop μ-loop
-add-low c = search needs
-
-mul-low : tie.Need-mul-low Inv-loop μ-loop
-mul-low c = search needs
-
-shared-slice-read-low : tie.Need-shared-slice-read-low Inv-loop μ-loop
-shared-slice-read-low c = search needs
 
 -- what the loop keeps, from the function's start on
 kept-from-start : (c : tie.At-loop Inv-loop μ-loop)
@@ -78,12 +51,6 @@ returns c =
 feed-two-requires : tie.Need-feed-two-requires Inv-loop μ-loop
 feed-two-requires c κs = both-small _ _ (omega (arith, c .if1 .left))
 
-add-k-2 : tie.Need-add-k-2 Inv-loop μ-loop
-add-k-2 c = search needs
-
-loop-less : tie.Need-loop-less Inv-loop μ-loop
-loop-less c = search needs
-
 loop-again : tie.Need-loop-again Inv-loop μ-loop
 loop-again c =
     let turn = c .before .before .before .before in
@@ -104,23 +71,6 @@ returns-2 c = ((c .before .loop .inv .0, c .before .loop .inv .1), kept-from-sta
 pub after-run-spec : {M : Type 1} → statement M
 after-run-spec =
     tie.close
-    (tie.spec
-    Inv-loop
-    μ-loop
-    sub-last
-    mul-after-byte
-    shared-slice-read-after-byte
-    after-byte-requires
-    add-k
-    loop-holds
-    mul-high
-    shared-slice-read-high
-    add-low
-    mul-low
-    shared-slice-read-low
-    returns
-    feed-two-requires
-    add-k-2
-    loop-less
-    loop-again
-    returns-2)
+    (tie.spec Inv-loop μ-loop sub-last (λ c. search needs) (λ c. search needs) (λ c κs. search needs)
+    (λ c. search needs) loop-holds (λ c. search needs) (λ c. search needs) (λ c. search needs) (λ c. search needs)
+    (λ c. search needs) returns feed-two-requires (λ c. search needs) (λ c. search needs) loop-again returns-2)

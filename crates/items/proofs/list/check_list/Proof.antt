@@ -7,17 +7,8 @@ use Rattle.items.proofs.list.check_list.Tie as tie
 returns : tie.Need-returns
 returns c = rule-of-too-many _ (c .if1 .taken)
 
-written-bytes-requires : tie.Need-written-bytes-requires
-written-bytes-requires c κs = search needs
-
 returns-2 : tie.Need-returns-2
 returns-2 c = rule-of-too-many-bytes _ _ (c .before .written-bytes .ensures) (c .if2 .taken)
-
-find-foreign-requires : tie.Need-find-foreign-requires
-find-foreign-requires c κs = search needs
-
-cast-t7 : tie.Need-cast-t7
-cast-t7 c = search needs
 
 returns-3 : tie.Need-returns-3
 returns-3 c =
@@ -34,11 +25,4 @@ returns-4 c =
 pub check-list-spec : {M : Type 1} → statement M
 check-list-spec =
     tie.close
-    (tie.spec
-    returns
-    written-bytes-requires
-    returns-2
-    find-foreign-requires
-    cast-t7
-    returns-3
-    returns-4)
+    (tie.spec returns (λ c κs. search needs) returns-2 (λ c κs. search needs) (λ c. search needs) returns-3 returns-4)

@@ -29,17 +29,8 @@ entry-of c = c .before .before
 loop-holds : tie.Need-loop-holds Inv-loop μ-loop
 loop-holds c = (zero-le, zero-add (lowest isForeign (now (c .before .args .items))))
 
-mul-is-item : tie.Need-mul-is-item Inv-loop μ-loop
-mul-is-item c = omega arith
-
 shared-slice-read-is-item : tie.Need-shared-slice-read-is-item Inv-loop μ-loop
 shared-slice-read-is-item c = c .before .loop-test .taken
-
-is-item-requires : tie.Need-is-item-requires Inv-loop μ-loop
-is-item-requires c κs = search needs
-
-add-k : tie.Need-add-k Inv-loop μ-loop
-add-k c = omega arith
 
 loop-less : tie.Need-loop-less Inv-loop μ-loop
 loop-less c = falls _ _ (c .before .before .before .loop-test .taken)
@@ -72,15 +63,5 @@ returns-2 c =
 pub find-foreign-spec : {M : Type 1} → statement M
 find-foreign-spec =
     tie.close
-    (tie.spec
-    Inv-loop
-    μ-loop
-    loop-holds
-    mul-is-item
-    shared-slice-read-is-item
-    is-item-requires
-    add-k
-    loop-less
-    loop-again
-    returns
-    returns-2)
+    (tie.spec Inv-loop μ-loop loop-holds (λ c. omega arith) shared-slice-read-is-item (λ c κs. search needs)
+    (λ c. omega arith) loop-less loop-again returns returns-2)

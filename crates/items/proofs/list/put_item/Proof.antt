@@ -28,30 +28,6 @@ module _ (old : List ℕ) (at : ℕ) (check : Check) (n : ℕ) where
   unfolding storedAt
   one-store-is-byte one e p = rw (item-bytes-of-byte check n e) p
 
-is-check-requires : tie.Need-is-check-requires
-is-check-requires c κs = search needs
-
-high-requires : tie.Need-high-requires
-high-requires c κs = search needs
-
-low-requires : tie.Need-low-requires
-low-requires c κs = search needs
-
-put-requires : tie.Need-put-requires
-put-requires c κs = search needs
-
-add-put : tie.Need-add-put
-add-put c = search needs
-
-put-requires-2 : tie.Need-put-requires-2
-put-requires-2 c κs = search needs
-
-put-requires-3 : tie.Need-put-requires-3
-put-requires-3 c κs = search needs
-
-same-length : tie.Need-same-length
-same-length c = search needs
-
 returns : tie.Need-returns
 returns c =
     let second = c .before .before in
@@ -70,9 +46,6 @@ returns-2 c =
     let given = c .before .before .before .before .before .before .args in
     sym (stored-past-end (now (given .out)) (given .at) (itemBytes (given .check) (given .n)) (c .if2 .left))
 
-same-length-2 : tie.Need-same-length-2
-same-length-2 c = search needs
-
 returns-3 : tie.Need-returns-3
 returns-3 c =
     let tested = c .before .before .before .before in
@@ -83,16 +56,6 @@ returns-3 c =
 pub put-item-spec : {M : Type 1} → statement M
 put-item-spec =
     tie.close
-    (tie.spec
-    is-check-requires
-    high-requires
-    low-requires
-    put-requires
-    add-put
-    put-requires-2
-    put-requires-3
-    same-length
-    returns
-    returns-2
-    same-length-2
-    returns-3)
+    (tie.spec (λ c κs. search needs) (λ c κs. search needs) (λ c κs. search needs) (λ c κs. search needs)
+    (λ c. search needs) (λ c κs. search needs) (λ c κs. search needs) (λ c. search needs) returns returns-2
+    (λ c. search needs) returns-3)

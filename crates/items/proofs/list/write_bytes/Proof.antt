@@ -12,18 +12,6 @@ use Rattle.items.proofs.WrittenLaws.{written-from-of-no-check}
 use Rattle.items.proofs.list.write_bytes.Statement.{statement}
 use Rattle.items.proofs.list.write_bytes.Tie as tie
 
-written-bytes-requires : tie.Need-written-bytes-requires
-written-bytes-requires c κs = search needs
-
-put-all-requires : tie.Need-put-all-requires
-put-all-requires c κs = search needs
-
-after-bytes-requires : tie.Need-after-bytes-requires
-after-bytes-requires c κs = search needs
-
-same-length : tie.Need-same-length
-same-length c = search needs
-
 returns : tie.Need-returns
 returns c =
     let tested = c .before .before .before .before .before in
@@ -36,24 +24,11 @@ returns c =
       (counted, c .before .before .before .put-all .ensures ∙ ap (storedAt (now (start .out)) 0) (sym own)),
     )
 
-write-each-requires : tie.Need-write-each-requires
-write-each-requires c κs = search needs
-
-same-length-2 : tie.Need-same-length-2
-same-length-2 c = search needs
-
 returns-2 : tie.Need-returns-2
 returns-2 c = c .before .before .write-each .ensures
 
 pub write-bytes-spec : {M : Type 1} → statement M
 write-bytes-spec =
     tie.close
-    (tie.spec
-    written-bytes-requires
-    put-all-requires
-    after-bytes-requires
-    same-length
-    returns
-    write-each-requires
-    same-length-2
-    returns-2)
+    (tie.spec (λ c κs. search needs) (λ c κs. search needs) (λ c κs. search needs) (λ c. search needs) returns
+    (λ c κs. search needs) (λ c. search needs) returns-2)

@@ -64,20 +64,8 @@ entry-of c = c .before .before .before
 loop-holds : tie.Need-loop-holds Inv-loop μ-loop
 loop-holds c = (zero-le, zero-add (writtenBytes (now (c .before .before .args .items))), refl, refl)
 
-mul-n : tie.Need-mul-n Inv-loop μ-loop
-mul-n c = omega arith
-
 shared-slice-read-n : tie.Need-shared-slice-read-n Inv-loop μ-loop
 shared-slice-read-n c = c .before .loop-test .taken
-
-put-item-requires : tie.Need-put-item-requires Inv-loop μ-loop
-put-item-requires c κs = search needs
-
-after-item-requires : tie.Need-after-item-requires Inv-loop μ-loop
-after-item-requires c κs = search needs
-
-bytes-of-requires : tie.Need-bytes-of-requires Inv-loop μ-loop
-bytes-of-requires c κs = search needs
 
 add-at : tie.Need-add-at Inv-loop μ-loop
 add-at c =
@@ -91,9 +79,6 @@ add-at c =
     let room : head .at + c .bytes-of .result < 2 ^ 64 =
     omega (arith, written-bytes-from items (head .k) inside, written-bytes-bounds items) in
     record { fits = room }
-
-add-k : tie.Need-add-k Inv-loop μ-loop
-add-k c = omega arith
 
 loop-less : tie.Need-loop-less Inv-loop μ-loop
 loop-less c = falls _ _ (turn-of c .loop-test .taken)
@@ -141,18 +126,5 @@ returns c =
 pub write-each-spec : {M : Type 1} → statement M
 write-each-spec =
     tie.close
-    (tie.spec
-    Inv-loop
-    μ-loop
-    loop-holds
-    mul-n
-    shared-slice-read-n
-    put-item-requires
-    after-item-requires
-    bytes-of-requires
-    add-at
-    add-k
-    loop-less
-    loop-again
-    same-length
-    returns)
+    (tie.spec Inv-loop μ-loop loop-holds (λ c. omega arith) shared-slice-read-n (λ c κs. search needs)
+    (λ c κs. search needs) (λ c κs. search needs) add-at (λ c. omega arith) loop-less loop-again same-length returns)

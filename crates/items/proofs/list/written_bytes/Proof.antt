@@ -29,14 +29,8 @@ entry-of c = c .before .before
 loop-holds : tie.Need-loop-holds Inv-loop μ-loop
 loop-holds c = (zero-le, zero-add (writtenBytes (now (c .before .args .items))))
 
-mul-bytes-of : tie.Need-mul-bytes-of Inv-loop μ-loop
-mul-bytes-of c = omega arith
-
 shared-slice-read-bytes-of : tie.Need-shared-slice-read-bytes-of Inv-loop μ-loop
 shared-slice-read-bytes-of c = c .before .loop-test .taken
-
-bytes-of-requires : tie.Need-bytes-of-requires Inv-loop μ-loop
-bytes-of-requires c κs = search needs
 
 add-count : tie.Need-add-count Inv-loop μ-loop
 add-count c =
@@ -45,9 +39,6 @@ add-count c =
     let items : List ℕ = now (entry-of (turn .before) .args .items) in
     let counted : c .bytes-of .result ≡ bytesOf (getD items (head .k) 0) = c .bytes-of .ensures in
     omega (arith, written-bytes-from items (head .k) (turn .loop-test .taken), written-bytes-bounds items)
-
-add-k : tie.Need-add-k Inv-loop μ-loop
-add-k c = omega arith
 
 loop-less : tie.Need-loop-less Inv-loop μ-loop
 loop-less c = falls _ _ (turn-of c .loop-test .taken)
@@ -68,15 +59,5 @@ returns c =
 pub written-bytes-spec : {M : Type 1} → statement M
 written-bytes-spec =
     tie.close
-    (tie.spec
-    Inv-loop
-    μ-loop
-    loop-holds
-    mul-bytes-of
-    shared-slice-read-bytes-of
-    bytes-of-requires
-    add-count
-    add-k
-    loop-less
-    loop-again
-    returns)
+    (tie.spec Inv-loop μ-loop loop-holds (λ c. omega arith) shared-slice-read-bytes-of (λ c κs. search needs)
+    add-count (λ c. omega arith) loop-less loop-again returns)

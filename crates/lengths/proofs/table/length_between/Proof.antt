@@ -26,12 +26,6 @@ add-t9 c =
     let k = kept _ (pre .0) in
     omega (arith, zeros-take-little k _ (pre .1), k)
 
-point-requires : tie.Need-point-requires
-point-requires c κs = search needs
-
-point-requires-2 : tie.Need-point-requires-2
-point-requires-2 c κs = search needs
-
 in-half-clocks-requires : tie.Need-in-half-clocks-requires
 in-half-clocks-requires c κs =
     let k = kept _ (c .before .before .before .before .pre .0) in
@@ -65,12 +59,5 @@ returns c =
 pub length-between-spec : {M : Type 1} → statement M
 length-between-spec =
     tie.close
-    (tie.spec
-    mul-t8
-    add-t9
-    point-requires
-    point-requires-2
-    in-half-clocks-requires
-    in-half-clocks-requires-2
-    shifted-requires
-    returns)
+    (tie.spec mul-t8 add-t9 (λ c κs. search needs) (λ c κs. search needs) in-half-clocks-requires
+    in-half-clocks-requires-2 shifted-requires returns)

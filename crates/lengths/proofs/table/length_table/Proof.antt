@@ -60,26 +60,8 @@ abbrev μ-loop : tie.MeasureT-loop
 loop-holds : tie.Need-loop-holds Inv-loop μ-loop
 loop-holds c = (omega arith, sym (stored-none _ 0))
 
-add-zeros : tie.Need-add-zeros Inv-loop μ-loop
-add-zeros c = search needs
-
 length-between-requires : tie.Need-length-between-requires Inv-loop μ-loop
 length-between-requires c κs = (c .before .before .pre, omega arith)
-
-cast-table : tie.Need-cast-table Inv-loop μ-loop
-cast-table c = search needs
-
-mul-table : tie.Need-mul-table Inv-loop μ-loop
-mul-table c = search needs
-
-array-write-table : tie.Need-array-write-table Inv-loop μ-loop
-array-write-table c = search needs
-
-add-k : tie.Need-add-k Inv-loop μ-loop
-add-k c = search needs
-
-loop-less : tie.Need-loop-less Inv-loop μ-loop
-loop-less c = search needs
 
 loop-again : tie.Need-loop-again Inv-loop μ-loop
 unfolding lengthAt
@@ -97,16 +79,5 @@ returns c =
 pub length-table-spec : {M : Type 1} → statement M
 length-table-spec =
     tie.close
-    (tie.spec
-    Inv-loop
-    μ-loop
-    loop-holds
-    add-zeros
-    length-between-requires
-    cast-table
-    mul-table
-    array-write-table
-    add-k
-    loop-less
-    loop-again
-    returns)
+    (tie.spec Inv-loop μ-loop loop-holds (λ c. search needs) length-between-requires (λ c. search needs)
+    (λ c. search needs) (λ c. search needs) (λ c. search needs) (λ c. search needs) loop-again returns)

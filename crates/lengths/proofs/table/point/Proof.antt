@@ -19,12 +19,6 @@ unfolding point
 after-zero p true = refl
 after-zero p false = refl
 
-either-requires : tie.Need-either-requires
-either-requires c κs = search needs
-
-either-requires-2 : tie.Need-either-requires-2
-either-requires-2 c κs = search needs
-
 returns : tie.Need-returns
 returns c =
     let args = c .before .before .args in
@@ -36,4 +30,4 @@ returns-2 c =
     rw (c .before .if1 .left) (ap (λ (e : Clocks). e .0) (c .either2 .ensures) ∙ after-zero (args .p) (args .after))
 
 pub point-spec : {M : Type 1} → statement M
-point-spec = tie.close (tie.spec either-requires either-requires-2 returns returns-2)
+point-spec = tie.close (tie.spec (λ c κs. search needs) (λ c κs. search needs) returns returns-2)

@@ -14,17 +14,8 @@ use Rattle.lengths.proofs.table.shifted.Tie as tie
 use Rattle.lengths.proofs.table.shifted.Reads as reads
 use Rattle.lengths.proofs.table.shifted.Lts as lts
 
-cast-shift : tie.Need-cast-shift
-cast-shift c = search needs
-
-cast-shift-2 : tie.Need-cast-shift-2
-cast-shift-2 c = search needs
-
 sub-shift : tie.Need-sub-shift
 sub-shift c = shift-fits _ _ _ (c .before .before .pre .0) (c .before .before .pre .1)
-
-cast-t5 : tie.Need-cast-t5
-cast-t5 c = search needs
 
 add-t6 : tie.Need-add-t6
 add-t6 c = shifted-fits _ _ _ (c .before .before .before .pre .0) (c .before .before .before .pre .1)
@@ -40,4 +31,4 @@ returns c =
 
 pub shifted-spec : {M : Type 1} → statement M
 shifted-spec =
-    tie.close (tie.spec cast-shift cast-shift-2 sub-shift cast-t5 add-t6 cast-t7 returns)
+    tie.close (tie.spec (λ c. search needs) (λ c. search needs) sub-shift (λ c. search needs) add-t6 cast-t7 returns)

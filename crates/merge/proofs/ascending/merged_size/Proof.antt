@@ -31,18 +31,6 @@ abbrev μ-loop : tie.MeasureT-loop
 loop-holds : tie.Need-loop-holds Inv-loop μ-loop
 loop-holds c = (omega arith, omega arith, c .before .before .pre .2, zero-add _)
 
-mul-taken-size : tie.Need-mul-taken-size Inv-loop μ-loop
-mul-taken-size c = omega arith
-
-element-copy-out-taken-size : tie.Need-element-copy-out-taken-size Inv-loop μ-loop
-element-copy-out-taken-size c = search needs
-
-mul-taken-size-2 : tie.Need-mul-taken-size-2 Inv-loop μ-loop
-mul-taken-size-2 c = omega arith
-
-element-copy-out-taken-size-2 : tie.Need-element-copy-out-taken-size-2 Inv-loop μ-loop
-element-copy-out-taken-size-2 c = search needs
-
 taken-size-requires : tie.Need-taken-size-requires Inv-loop μ-loop
 taken-size-requires c κs =
     let turn = c .before .before in
@@ -61,12 +49,6 @@ add-size c =
     let b = getD (args .b .now) n 0 in
     let short = taken-is-short (args .first .now) (args .second .now) a b in
     omega (arith, c .taken-size .ensures, short)
-
-add-n : tie.Need-add-n Inv-loop μ-loop
-add-n c = omega arith
-
-loop-less : tie.Need-loop-less Inv-loop μ-loop
-loop-less c = omega arith
 
 loop-again : tie.Need-loop-again Inv-loop μ-loop
 loop-again c =
@@ -103,17 +85,5 @@ returns c =
 pub merged-size-spec : {M : Type 1} → statement M
 merged-size-spec =
     tie.close
-    (tie.spec
-    Inv-loop
-    μ-loop
-    loop-holds
-    mul-taken-size
-    element-copy-out-taken-size
-    mul-taken-size-2
-    element-copy-out-taken-size-2
-    taken-size-requires
-    add-size
-    add-n
-    loop-less
-    loop-again
-    returns)
+    (tie.spec Inv-loop μ-loop loop-holds (λ c. omega arith) (λ c. search needs) (λ c. omega arith) (λ c. search needs)
+    taken-size-requires add-size (λ c. omega arith) (λ c. omega arith) loop-again returns)

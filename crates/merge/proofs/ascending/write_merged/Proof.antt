@@ -36,18 +36,6 @@ loop-holds c =
     let pre = c .before .before .before .pre in
     (omega arith, refl, omega (arith, whole, pre .3), pre .2, refl)
 
-mul-put-taken : tie.Need-mul-put-taken Inv-loop μ-loop
-mul-put-taken c = omega arith
-
-element-copy-out-put-taken : tie.Need-element-copy-out-put-taken Inv-loop μ-loop
-element-copy-out-put-taken c = search needs
-
-mul-put-taken-2 : tie.Need-mul-put-taken-2 Inv-loop μ-loop
-mul-put-taken-2 c = omega arith
-
-element-copy-out-put-taken-2 : tie.Need-element-copy-out-put-taken-2 Inv-loop μ-loop
-element-copy-out-put-taken-2 c = search needs
-
 put-taken-requires : tie.Need-put-taken-requires Inv-loop μ-loop
 put-taken-requires c κs =
     let turn = c .before .before .before in
@@ -59,12 +47,6 @@ put-taken-requires c κs =
       at-peace-here _ _ _ _ (pre .0) (pre .1) _ inside (turn .before .loop .inv .3),
       omega (arith, sum, turn .before .loop .inv .1, turn .before .loop .inv .2),
     )
-
-add-n : tie.Need-add-n Inv-loop μ-loop
-add-n c = omega arith
-
-loop-less : tie.Need-loop-less Inv-loop μ-loop
-loop-less c = omega arith
 
 loop-again : tie.Need-loop-again Inv-loop μ-loop
 loop-again c =
@@ -102,17 +84,5 @@ returns c =
 pub write-merged-spec : {M : Type 1} → statement M
 write-merged-spec =
     tie.close
-    (tie.spec
-    Inv-loop
-    μ-loop
-    loop-holds
-    mul-put-taken
-    element-copy-out-put-taken
-    mul-put-taken-2
-    element-copy-out-put-taken-2
-    put-taken-requires
-    add-n
-    loop-less
-    loop-again
-    same-length
-    returns)
+    (tie.spec Inv-loop μ-loop loop-holds (λ c. omega arith) (λ c. search needs) (λ c. omega arith) (λ c. search needs)
+    put-taken-requires (λ c. omega arith) (λ c. omega arith) loop-again same-length returns)

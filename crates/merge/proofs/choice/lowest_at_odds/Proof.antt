@@ -26,18 +26,6 @@ abbrev μ-loop : tie.MeasureT-loop
 loop-holds : tie.Need-loop-holds Inv-loop μ-loop
 loop-holds c = (omega arith, zero-add _)
 
-mul-at-odds : tie.Need-mul-at-odds Inv-loop μ-loop
-mul-at-odds c = omega arith
-
-element-copy-out-at-odds : tie.Need-element-copy-out-at-odds Inv-loop μ-loop
-element-copy-out-at-odds c = search needs
-
-mul-at-odds-2 : tie.Need-mul-at-odds-2 Inv-loop μ-loop
-mul-at-odds-2 c = omega arith
-
-element-copy-out-at-odds-2 : tie.Need-element-copy-out-at-odds-2 Inv-loop μ-loop
-element-copy-out-at-odds-2 c = search needs
-
 at-odds-requires : tie.Need-at-odds-requires Inv-loop μ-loop
 at-odds-requires c κs =
     let turn = c .before .before in
@@ -52,12 +40,6 @@ returns c =
     let here = entries-at-odds _ _ _ _ (start .pre .0) (start .pre .1) _ inside in
     lowest-is-here _ _ inside (sym here ∙ sym (c .before .at-odds .ensures) ∙ c .if1 .taken)
     ∙ turn .before .loop .inv .1
-
-add-n : tie.Need-add-n Inv-loop μ-loop
-add-n c = omega arith
-
-loop-less : tie.Need-loop-less Inv-loop μ-loop
-loop-less c = omega arith
 
 loop-again : tie.Need-loop-again Inv-loop μ-loop
 loop-again c =
@@ -76,17 +58,5 @@ returns-2 c = lowest-at-end _ _ (c .loop-test .left) ∙ c .before .loop .inv .1
 pub lowest-at-odds-spec : {M : Type 1} → statement M
 lowest-at-odds-spec =
     tie.close
-    (tie.spec
-    Inv-loop
-    μ-loop
-    loop-holds
-    mul-at-odds
-    element-copy-out-at-odds
-    mul-at-odds-2
-    element-copy-out-at-odds-2
-    at-odds-requires
-    returns
-    add-n
-    loop-less
-    loop-again
-    returns-2)
+    (tie.spec Inv-loop μ-loop loop-holds (λ c. omega arith) (λ c. search needs) (λ c. omega arith) (λ c. search needs)
+    at-odds-requires returns (λ c. omega arith) (λ c. omega arith) loop-again returns-2)

@@ -24,9 +24,6 @@ returns-2 c =
       place-shows-one _ _ (c .before .if1 .left) (no-twice-is-other _ _ (single .0)),
     )
 
-add-a-sum : tie.Need-add-a-sum
-add-a-sum c = search needs
-
 shared-slice-read-if3 : tie.Need-shared-slice-read-if3
 shared-slice-read-if3 c =
     let start = c .before .before .before in
@@ -43,9 +40,6 @@ returns-3 c =
       place-shows-one _ _ (c .before .before .if2 .left) (no-twice-is-other _ _ (single .1)),
       ne-eqb _ 0 (c .if3 .taken),
     )
-
-add-b-sum : tie.Need-add-b-sum
-add-b-sum c = search needs
 
 shared-slice-read-result : tie.Need-shared-slice-read-result
 shared-slice-read-result c =
@@ -67,12 +61,5 @@ returns-4 c =
 pub takes-second-spec : {M : Type 1} → statement M
 takes-second-spec =
     tie.close
-    (tie.spec
-    returns
-    returns-2
-    add-a-sum
-    shared-slice-read-if3
-    returns-3
-    add-b-sum
-    shared-slice-read-result
-    returns-4)
+    (tie.spec returns returns-2 (λ c. search needs) shared-slice-read-if3 returns-3 (λ c. search needs)
+    shared-slice-read-result returns-4)

@@ -25,30 +25,6 @@ abbrev μ-loop : tie.MeasureT-loop
 loop-holds : tie.Need-loop-holds Inv-loop μ-loop
 loop-holds c = (omega arith, omega arith, zero-add _)
 
-mul-in-either : tie.Need-mul-in-either Inv-loop μ-loop
-mul-in-either c = search needs
-
-element-copy-out-in-either : tie.Need-element-copy-out-in-either Inv-loop μ-loop
-element-copy-out-in-either c = search needs
-
-mul-in-either-2 : tie.Need-mul-in-either-2 Inv-loop μ-loop
-mul-in-either-2 c = search needs
-
-element-copy-out-in-either-2 : tie.Need-element-copy-out-in-either-2 Inv-loop μ-loop
-element-copy-out-in-either-2 c = search needs
-
-in-either-requires : tie.Need-in-either-requires Inv-loop μ-loop
-in-either-requires c κs = search needs
-
-add-count : tie.Need-add-count Inv-loop μ-loop
-add-count c = omega arith
-
-add-n : tie.Need-add-n Inv-loop μ-loop
-add-n c = omega arith
-
-loop-less : tie.Need-loop-less Inv-loop μ-loop
-loop-less c = omega arith
-
 loop-again : tie.Need-loop-again Inv-loop μ-loop
 unfolding entryInEither
 loop-again c =
@@ -82,17 +58,6 @@ returns c = count-at-end _ _ _ (c .loop-test .left) ∙ c .before .loop .inv .2
 pub count-numbers-spec : {M : Type 1} → statement M
 count-numbers-spec =
     tie.close
-    (tie.spec
-    Inv-loop
-    μ-loop
-    loop-holds
-    mul-in-either
-    element-copy-out-in-either
-    mul-in-either-2
-    element-copy-out-in-either-2
-    in-either-requires
-    add-count
-    add-n
-    loop-less
-    loop-again
+    (tie.spec Inv-loop μ-loop loop-holds (λ c. search needs) (λ c. search needs) (λ c. search needs)
+    (λ c. search needs) (λ c κs. search needs) (λ c. omega arith) (λ c. omega arith) (λ c. omega arith) loop-again
     returns)

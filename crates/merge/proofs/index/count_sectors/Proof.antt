@@ -25,12 +25,6 @@ abbrev μ-loop : tie.MeasureT-loop
 loop-holds : tie.Need-loop-holds Inv-loop μ-loop
 loop-holds c = (omega arith, omega arith, refl)
 
-sector-end-requires : tie.Need-sector-end-requires Inv-loop μ-loop
-sector-end-requires c κs = search needs
-
-enum-known-refusal : tie.Need-enum-known-refusal Inv-loop μ-loop
-enum-known-refusal c = search needs
-
 returns : tie.Need-returns Inv-loop μ-loop
 returns c =
     let turn = c .before .before .before .before in
@@ -42,12 +36,6 @@ returns c =
     (turn .before .loop .count)
     (sym (ap countedAnswer (c .before .refusal .given .1)) ∙ c .before .before .before .sector-end .ensures)
     ∙ turn .before .loop .inv .2
-
-enum-known-end : tie.Need-enum-known-end Inv-loop μ-loop
-enum-known-end c = search needs
-
-add-count : tie.Need-add-count Inv-loop μ-loop
-add-count c = omega arith
 
 loop-less : tie.Need-loop-less Inv-loop μ-loop
 loop-less c =
@@ -86,15 +74,5 @@ returns-2 c =
 pub count-sectors-spec : {M : Type 1} → statement M
 count-sectors-spec =
     tie.close
-    (tie.spec
-    Inv-loop
-    μ-loop
-    loop-holds
-    sector-end-requires
-    enum-known-refusal
-    returns
-    enum-known-end
-    add-count
-    loop-less
-    loop-again
-    returns-2)
+    (tie.spec Inv-loop μ-loop loop-holds (λ c κs. search needs) (λ c. search needs) returns (λ c. search needs)
+    (λ c. omega arith) loop-less loop-again returns-2)

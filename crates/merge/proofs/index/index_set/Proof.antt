@@ -27,12 +27,6 @@ loop-holds c =
     let fresh = c .before .pre .2 in
     (omega arith, c .before .pre .0, ap length fresh, rw fresh (fresh-indexes (c .before .args .set .now)))
 
-add-code : tie.Need-add-code Inv-loop μ-loop
-add-code c = search needs
-
-shared-slice-read-number : tie.Need-shared-slice-read-number Inv-loop μ-loop
-shared-slice-read-number c = search needs
-
 cast-number : tie.Need-cast-number Inv-loop μ-loop
 cast-number c = omega (arith, c .shared-slice-known2 .given (c .before .before .loop .start))
 
@@ -45,9 +39,6 @@ element-copy-out-entry c = omega (arith, c .shared-slice-known2 .given (c .befor
 cast-entry : tie.Need-cast-entry Inv-loop μ-loop
 cast-entry c = omega (arith, c .before .before .before .before .before .pre .1)
 
-entry-requires : tie.Need-entry-requires Inv-loop μ-loop
-entry-requires c κs = search needs
-
 mul-index : tie.Need-mul-index Inv-loop μ-loop
 mul-index c =
     omega (arith, c .before .before .shared-slice-known2 .given (c .before .before .before .before .loop .start))
@@ -56,17 +47,11 @@ element-write-index : tie.Need-element-write-index Inv-loop μ-loop
 element-write-index c =
     omega (arith, c .before .before .shared-slice-known2 .given (c .before .before .before .before .loop .start))
 
-add-start : tie.Need-add-start Inv-loop μ-loop
-add-start c = search needs
-
 shared-slice-read-sector-size : tie.Need-shared-slice-read-sector-size Inv-loop μ-loop
 shared-slice-read-sector-size c =
     let turn = c .before .before .before .before in
     let whole = whole-here _ _ (turn .loop-test .taken) (turn .before .loop .inv .1) in
     omega (arith, whole .ends)
-
-sector-size-requires : tie.Need-sector-size-requires Inv-loop μ-loop
-sector-size-requires c κs = search needs
 
 add-start-2 : tie.Need-add-start-2 Inv-loop μ-loop
 add-start-2 c =
@@ -125,23 +110,6 @@ returns c =
 pub index-set-spec : {M : Type 1} → statement M
 index-set-spec =
     tie.close
-    (tie.spec
-    Inv-loop
-    μ-loop
-    loop-holds
-    add-code
-    shared-slice-read-number
-    cast-number
-    mul-entry
-    element-copy-out-entry
-    cast-entry
-    entry-requires
-    mul-index
-    element-write-index
-    add-start
-    shared-slice-read-sector-size
-    sector-size-requires
-    add-start-2
-    loop-less
-    loop-again
-    returns)
+    (tie.spec Inv-loop μ-loop loop-holds (λ c. search needs) (λ c. search needs) cast-number mul-entry
+    element-copy-out-entry cast-entry (λ c κs. search needs) mul-index element-write-index (λ c. search needs)
+    shared-slice-read-sector-size (λ c κs. search needs) add-start-2 loop-less loop-again returns)

@@ -6,25 +6,13 @@ use borrow.Author.Needs.{needs}
 use Rattle.merge.proofs.index.sector_end.Statement.{statement}
 use Rattle.merge.proofs.index.sector_end.Tie as tie
 
-sub-left : tie.Need-sub-left
-sub-left c = search needs
-
 returns : tie.Need-returns
 unfolding endRule
 returns c = rw (lt-ltb _ _ (c .if1 .taken))
 
-add-code : tie.Need-add-code
-add-code c = search needs
-
-shared-slice-read-code : tie.Need-shared-slice-read-code
-shared-slice-read-code c = search needs
-
 returns-2 : tie.Need-returns-2
 unfolding endRule
 returns-2 c = rw (le-ltb _ _ (c .before .before .if1 .left), lt-ltb _ _ (c .if2 .taken))
-
-sector-size-requires : tie.Need-sector-size-requires
-sector-size-requires c κs = search needs
 
 returns-3 : tie.Need-returns-3
 unfolding endRule
@@ -35,12 +23,6 @@ returns-3 c =
       le-ltb _ _ (c .before .before .if2 .left),
       lt-ltb _ _ (rw size at (c .if3 .taken)),
     )
-
-add-t6 : tie.Need-add-t6
-add-t6 c = search needs
-
-add-t13 : tie.Need-add-t13
-add-t13 c = search needs
 
 returns-4 : tie.Need-returns-4
 unfolding endRule
@@ -56,14 +38,5 @@ returns-4 c =
 pub sector-end-spec : {M : Type 1} → statement M
 sector-end-spec =
     tie.close
-    (tie.spec
-    sub-left
-    returns
-    add-code
-    shared-slice-read-code
-    returns-2
-    sector-size-requires
-    returns-3
-    add-t6
-    add-t13
-    returns-4)
+    (tie.spec (λ c. search needs) returns (λ c. search needs) (λ c. search needs) returns-2 (λ c κs. search needs)
+    returns-3 (λ c. search needs) (λ c. search needs) returns-4)

@@ -17,9 +17,6 @@ shared-slice-read-sector-size c =
     let start = c .before .before .before in
     omega (arith, start .pre .0 (c .before .if1 .left) (start .pre .1))
 
-sector-size-requires : tie.Need-sector-size-requires
-sector-size-requires c κs = search needs
-
 add-result : tie.Need-add-result
 add-result c =
     let start = c .before .before .before .before in
@@ -37,4 +34,4 @@ returns-2 c =
 pub entry-size-spec : {M : Type 1} → statement M
 entry-size-spec =
     tie.close
-    (tie.spec returns shared-slice-read-sector-size sector-size-requires add-result returns-2)
+    (tie.spec returns shared-slice-read-sector-size (λ c κs. search needs) add-result returns-2)

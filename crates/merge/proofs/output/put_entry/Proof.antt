@@ -25,9 +25,6 @@ put-sector-requires c κs =
     let bytes = ap length (bytes-of-entry set entry there (start .pre .1)) ∙ sector-bytes-length set entry within in
     (omega arith, within, omega (arith, bytes, start .pre .2))
 
-same-length : tie.Need-same-length
-same-length c = search needs
-
 returns-2 : tie.Need-returns-2
 returns-2 c =
     let start = c .before .before .before .before .before .before .before in
@@ -39,4 +36,4 @@ returns-2 c =
     )
 
 pub put-entry-spec : {M : Type 1} → statement M
-put-entry-spec = tie.close (tie.spec returns put-sector-requires same-length returns-2)
+put-entry-spec = tie.close (tie.spec returns put-sector-requires (λ c. search needs) returns-2)

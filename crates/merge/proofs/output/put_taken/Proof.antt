@@ -11,9 +11,6 @@ use borrow.Author.Needs.{needs}
 use Rattle.merge.proofs.output.put_taken.Statement.{statement}
 use Rattle.merge.proofs.output.put_taken.Tie as tie
 
-takes-second-requires : tie.Need-takes-second-requires
-takes-second-requires c κs = search needs
-
 put-entry-requires : tie.Need-put-entry-requires
 put-entry-requires c κs =
     let start = c .before .before .before .before .before .before in
@@ -22,9 +19,6 @@ put-entry-requires c κs =
       no-twice-is-other _ _ (at-peace-is-not-twice _ _ (start .pre .2) .1),
       rw second at (start .pre .3),
     )
-
-same-length : tie.Need-same-length
-same-length c = search needs
 
 returns : tie.Need-returns
 returns c =
@@ -45,9 +39,6 @@ put-entry-requires-2 c κs =
       rw first at (start .pre .3),
     )
 
-same-length-2 : tie.Need-same-length-2
-same-length-2 c = search needs
-
 returns-2 : tie.Need-returns-2
 returns-2 c =
     let called = c .before .before .before .before in
@@ -61,11 +52,5 @@ returns-2 c =
 pub put-taken-spec : {M : Type 1} → statement M
 put-taken-spec =
     tie.close
-    (tie.spec
-    takes-second-requires
-    put-entry-requires
-    same-length
-    returns
-    put-entry-requires-2
-    same-length-2
-    returns-2)
+    (tie.spec (λ c κs. search needs) put-entry-requires (λ c. search needs) returns put-entry-requires-2
+    (λ c. search needs) returns-2)

@@ -10,9 +10,6 @@ use borrow.Author.Needs.{needs}
 use Rattle.merge.proofs.output.taken_size.Statement.{statement}
 use Rattle.merge.proofs.output.taken_size.Tie as tie
 
-takes-second-requires : tie.Need-takes-second-requires
-takes-second-requires c κs = search needs
-
 entry-size-requires : tie.Need-entry-size-requires
 entry-size-requires c κs =
     let start = c .before .before .before .before in
@@ -40,4 +37,4 @@ returns-2 c =
 pub taken-size-spec : {M : Type 1} → statement M
 taken-size-spec =
     tie.close
-    (tie.spec takes-second-requires entry-size-requires returns entry-size-requires-2 returns-2)
+    (tie.spec (λ c κs. search needs) entry-size-requires returns entry-size-requires-2 returns-2)

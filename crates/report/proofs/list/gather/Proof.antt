@@ -19,15 +19,6 @@ abbrev μ-loop : tie.MeasureT-loop
 loop-holds : tie.Need-loop-holds Inv-loop μ-loop
 loop-holds c = nothing-gathered _ _
 
-mul-interval : tie.Need-mul-interval Inv-loop μ-loop
-mul-interval c = search needs
-
-shared-slice-read-interval : tie.Need-shared-slice-read-interval Inv-loop μ-loop
-shared-slice-read-interval c = search needs
-
-step-requires : tie.Need-step-requires Inv-loop μ-loop
-step-requires c κs = search needs
-
 renew-requires : tie.Need-renew-requires Inv-loop μ-loop
 renew-requires c κs =
     let turn = c .before .before .before in
@@ -35,12 +26,6 @@ renew-requires c κs =
     λ i. let known = c .before .shared-slice-known2 .given i in omega arith in
     let more = c .before .before .loop-test .taken in
     renewed-row-fits (turn .loop .inv) more (turn .before .before .pre) small (c .step .ensures)
-
-add-k : tie.Need-add-k Inv-loop μ-loop
-add-k c = search needs
-
-loop-less : tie.Need-loop-less Inv-loop μ-loop
-loop-less c = search needs
 
 loop-again : tie.Need-loop-again Inv-loop μ-loop
 loop-again c =
@@ -54,15 +39,5 @@ returns c = gathered-all (c .before .loop .inv) (c .loop-test .left)
 pub gather-spec : {M : Type 1} → statement M
 gather-spec =
     tie.close
-    (tie.spec
-    Inv-loop
-    μ-loop
-    loop-holds
-    mul-interval
-    shared-slice-read-interval
-    step-requires
-    renew-requires
-    add-k
-    loop-less
-    loop-again
-    returns)
+    (tie.spec Inv-loop μ-loop loop-holds (λ c. search needs) (λ c. search needs) (λ c κs. search needs) renew-requires
+    (λ c. search needs) (λ c. search needs) loop-again returns)

@@ -9,9 +9,6 @@ use borrow.Author.Needs.{needs}
 use Rattle.report.proofs.list.renew.Statement.{statement}
 use Rattle.report.proofs.list.renew.Tie as tie
 
-number-requires : tie.Need-number-requires
-number-requires c κs = search needs
-
 sub-at : tie.Need-sub-at
 sub-at c =
     let e = c .number .ensures in
@@ -55,12 +52,5 @@ returns c =
 pub renew-spec : {M : Type 1} → statement M
 renew-spec =
     tie.close
-    (tie.spec
-    number-requires
-    sub-at
-    mul-add
-    array-copy-out-add
-    add-requires
-    mul-rows
-    array-set-from-rows
+    (tie.spec (λ c κs. search needs) sub-at mul-add array-copy-out-add add-requires mul-rows array-set-from-rows
     returns)

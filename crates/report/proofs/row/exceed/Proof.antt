@@ -16,9 +16,6 @@ moved-over
 moved-over a b fits true e = e ∙ sym (lt-ltb largest (a + b) (let h = ltb-true (largest - b) a e in omega arith))
 moved-over a b fits false e = e ∙ sym (le-ltb largest (a + b) (let h = ltb-false (largest - b) a e in omega arith))
 
-sub-result : tie.Need-sub-result
-sub-result c = search needs
-
 returns : tie.Need-returns
 returns c =
     record {
@@ -28,4 +25,4 @@ returns c =
     }
 
 pub exceed-spec : {M : Type 1} → statement M
-exceed-spec = tie.close (tie.spec sub-result returns)
+exceed-spec = tie.close (tie.spec (λ c. search needs) returns)

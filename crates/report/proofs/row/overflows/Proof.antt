@@ -8,35 +8,11 @@ use borrow.Author.Needs.{needs}
 use Rattle.report.proofs.row.overflows.Statement.{statement}
 use Rattle.report.proofs.row.overflows.Tie as tie
 
-array-read-exceed : tie.Need-array-read-exceed
-array-read-exceed c = search needs
-
-array-read-exceed-2 : tie.Need-array-read-exceed-2
-array-read-exceed-2 c = search needs
-
-exceed-requires : tie.Need-exceed-requires
-exceed-requires c κs = search needs
-
-array-read-exceed-3 : tie.Need-array-read-exceed-3
-array-read-exceed-3 c = search needs
-
-array-read-exceed-4 : tie.Need-array-read-exceed-4
-array-read-exceed-4 c = search needs
-
-exceed-requires-2 : tie.Need-exceed-requires-2
-exceed-requires-2 c κs = search needs
-
-array-read-if1 : tie.Need-array-read-if1
-array-read-if1 c = search needs
-
 returns : tie.Need-returns
 returns c =
     let counts = c .before .before .exceed .ensures in
     let sums = c .before .exceed2 .ensures in
     sym (fits-if-first-is-empty _ _ (c .if1 .taken) (counts .second-fits) (sums .second-fits))
-
-array-read-if2 : tie.Need-array-read-if2
-array-read-if2 c = search needs
 
 returns-2 : tie.Need-returns-2
 returns-2 c =
@@ -55,15 +31,5 @@ returns-3 c =
 pub overflows-spec : {M : Type 1} → statement M
 overflows-spec =
     tie.close
-    (tie.spec
-    array-read-exceed
-    array-read-exceed-2
-    exceed-requires
-    array-read-exceed-3
-    array-read-exceed-4
-    exceed-requires-2
-    array-read-if1
-    returns
-    array-read-if2
-    returns-2
-    returns-3)
+    (tie.spec (λ c. search needs) (λ c. search needs) (λ c κs. search needs) (λ c. search needs) (λ c. search needs)
+    (λ c κs. search needs) (λ c. search needs) returns (λ c. search needs) returns-2 returns-3)

@@ -48,9 +48,6 @@ returns c = faulty-read _ _ _ _ _ (no-bytes-at-the-end _ _ (c .if1 .taken))
 loop-holds : tie.Need-loop-holds Inv-loop μ-loop
 loop-holds c = (omega arith, refl, refl, all-is-left _ _ _)
 
-add-start : tie.Need-add-start Inv-loop μ-loop
-add-start c = omega arith
-
 find-requires : tie.Need-find-requires Inv-loop μ-loop
 find-requires c κs = tt
 
@@ -68,12 +65,6 @@ part-parse-byte-end c =
 parse-byte-requires : tie.Need-parse-byte-requires Inv-loop μ-loop
 parse-byte-requires c κs = tt
 
-enum-told : tie.Need-enum-told Inv-loop μ-loop
-enum-told c = search needs
-
-same-length : tie.Need-same-length Inv-loop μ-loop
-same-length c = omega arith
-
 returns-2 : tie.Need-returns-2 Inv-loop μ-loop
 returns-2 c =
     let found = c .before .before .before .before in
@@ -86,15 +77,6 @@ returns-2 c =
     ∙ sym (at .loop .inv .2)
     ∙ ap (everywhere isHexByte) (next found)
     ∙ bytes-of-no-byte _ _ no-byte)
-
-enum-known-b : tie.Need-enum-known-b Inv-loop μ-loop
-enum-known-b c = search needs
-
-cast-put : tie.Need-cast-put Inv-loop μ-loop
-cast-put c = search needs
-
-add-put : tie.Need-add-put Inv-loop μ-loop
-add-put c = search needs
 
 put-requires : tie.Need-put-requires Inv-loop μ-loop
 put-requires c κs =
@@ -131,9 +113,6 @@ loop-again c =
           (rw first at (at .loop .inv .3)),
     )
 
-same-length-2 : tie.Need-same-length-2 Inv-loop μ-loop
-same-length-2 c = omega arith
-
 returns-3 : tie.Need-returns-3 Inv-loop μ-loop
 returns-3 c =
     let at = c .before in
@@ -148,25 +127,6 @@ returns-3 c =
 pub read-bytes-spec : {M : Type 1} → statement M
 read-bytes-spec =
     tie.close
-    (tie.spec
-    Inv-loop
-    μ-loop
-    returns
-    loop-holds
-    add-start
-    find-requires
-    sub-parse-byte
-    part-parse-byte-start
-    part-parse-byte-end
-    parse-byte-requires
-    enum-told
-    same-length
-    returns-2
-    enum-known-b
-    cast-put
-    add-put
-    put-requires
-    loop-less
-    loop-again
-    same-length-2
-    returns-3)
+    (tie.spec Inv-loop μ-loop returns loop-holds (λ c. omega arith) find-requires sub-parse-byte part-parse-byte-start
+    part-parse-byte-end parse-byte-requires (λ c. search needs) (λ c. omega arith) returns-2 (λ c. search needs)
+    (λ c. search needs) (λ c. search needs) put-requires loop-less loop-again (λ c. omega arith) returns-3)

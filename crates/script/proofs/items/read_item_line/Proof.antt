@@ -34,18 +34,6 @@ no-data : (c : tie.Else2)
     ≡ false
 no-data c = rw (the-word (c .before .before .before .before)) at (sym (c .before .same2 .ensures) ∙ c .if2 .left)
 
-slice-aggregate-same : tie.Need-slice-aggregate-same
-slice-aggregate-same c = search needs
-
-same-requires : tie.Need-same-requires
-same-requires c κs = search needs
-
-put-requires : tie.Need-put-requires
-put-requires c κs = search needs
-
-same-length : tie.Need-same-length
-same-length c = search needs
-
 returns : tie.Need-returns
 returns c =
     let crc =
@@ -57,27 +45,12 @@ returns c =
     (items-read _ _ _ _ _ _ (crc-is-an-item-line line crc)
     record { size = put .ensures .0; output = put .ensures .1 })
 
-find-requires : tie.Need-find-requires
-find-requires c κs = search needs
-
 slice-aggregate-same-2 : tie.Need-slice-aggregate-same-2
 slice-aggregate-same-2 c =
     let line = c .before .before .before .before .before .before .before .args .line .now in
     sym
     (length-take-le (c .before .find .result) line
     (word-ends-in-line line (c .before .find .result) (c .before .find .ensures)))
-
-slice-aggregate-same-3 : tie.Need-slice-aggregate-same-3
-slice-aggregate-same-3 c = search needs
-
-same-requires-2 : tie.Need-same-requires-2
-same-requires-2 c κs = search needs
-
-read-bytes-requires : tie.Need-read-bytes-requires
-read-bytes-requires c κs = search needs
-
-same-length-2 : tie.Need-same-length-2
-same-length-2 c = search needs
 
 returns-2 : tie.Need-returns-2
 returns-2 c =
@@ -100,18 +73,6 @@ slice-aggregate-same-4 c =
     let line = found .before .before .before .before .before .before .args .line .now in
     sym
     (length-take-le (found .find .result) line (word-ends-in-line line (found .find .result) (found .find .ensures)))
-
-slice-aggregate-same-5 : tie.Need-slice-aggregate-same-5
-slice-aggregate-same-5 c = search needs
-
-same-requires-3 : tie.Need-same-requires-3
-same-requires-3 c κs = search needs
-
-read-bytes-requires-2 : tie.Need-read-bytes-requires-2
-read-bytes-requires-2 c κs = search needs
-
-same-length-3 : tie.Need-same-length-3
-same-length-3 c = search needs
 
 returns-3 : tie.Need-returns-3
 returns-3 c =
@@ -140,23 +101,7 @@ returns-4 c =
 pub read-item-line-spec : {M : Type 1} → statement M
 read-item-line-spec =
     tie.close
-    (tie.spec
-    slice-aggregate-same
-    same-requires
-    put-requires
-    same-length
-    returns
-    find-requires
-    slice-aggregate-same-2
-    slice-aggregate-same-3
-    same-requires-2
-    read-bytes-requires
-    same-length-2
-    returns-2
-    slice-aggregate-same-4
-    slice-aggregate-same-5
-    same-requires-3
-    read-bytes-requires-2
-    same-length-3
-    returns-3
-    returns-4)
+    (tie.spec (λ c. search needs) (λ c κs. search needs) (λ c κs. search needs) (λ c. search needs) returns
+    (λ c κs. search needs) slice-aggregate-same-2 (λ c. search needs) (λ c κs. search needs) (λ c κs. search needs)
+    (λ c. search needs) returns-2 slice-aggregate-same-4 (λ c. search needs) (λ c κs. search needs)
+    (λ c κs. search needs) (λ c. search needs) returns-3 returns-4)

@@ -62,9 +62,6 @@ loop-holds c = (omega arith, refl, omega arith, omega arith, refl, all-is-left _
 find-requires : tie.Need-find-requires Inv-loop μ-loop
 find-requires c κs = tt
 
-same-length : tie.Need-same-length Inv-loop μ-loop
-same-length c = omega arith
-
 returns : tie.Need-returns Inv-loop μ-loop
 returns c =
     let at = c .before .before .before in
@@ -97,9 +94,6 @@ read-item-line-requires c κs =
     let size = length-take (c .before .before .before .find .result - at .loop .at) (drop (at .loop .at) text) in
     omega (arith, length-drop (at .loop .at) text, at .loop .inv, at .before .before .before .pre)
 
-enum-told : tie.Need-enum-told Inv-loop μ-loop
-enum-told c = search needs
-
 same-length-2 : tie.Need-same-length-2 Inv-loop μ-loop
 same-length-2 c =
     c .before .before .before .before .read-item-line .kept .1 .0
@@ -116,9 +110,6 @@ returns-2 c =
     (sym (at .loop .inv .4)
     ∙ ap (garbledFrom (at .loop .line)) (next found)
     ∙ garbled-at-faulty _ _ (at .loop .line) faulty)
-
-enum-known-n : tie.Need-enum-known-n Inv-loop μ-loop
-enum-known-n c = search needs
 
 add-at : tie.Need-add-at Inv-loop μ-loop
 add-at c =
@@ -159,9 +150,6 @@ loop-again c =
           (rw items at (at .loop .inv .5)),
     )
 
-same-length-3 : tie.Need-same-length-3 Inv-loop μ-loop
-same-length-3 c = omega arith
-
 returns-3 : tie.Need-returns-3 Inv-loop μ-loop
 returns-3 c =
     let at = c .before in
@@ -173,24 +161,6 @@ returns-3 c =
 pub read-items-spec : {M : Type 1} → statement M
 read-items-spec =
     tie.close
-    (tie.spec
-    Inv-loop
-    μ-loop
-    loop-holds
-    find-requires
-    same-length
-    returns
-    sub-read-item-line
-    part-read-item-line-start
-    part-read-item-line-end
-    read-item-line-requires
-    enum-told
-    same-length-2
-    returns-2
-    enum-known-n
-    add-at
-    add-line
-    loop-less
-    loop-again
-    same-length-3
-    returns-3)
+    (tie.spec Inv-loop μ-loop loop-holds find-requires (λ c. omega arith) returns sub-read-item-line
+    part-read-item-line-start part-read-item-line-end read-item-line-requires (λ c. search needs) same-length-2
+    returns-2 (λ c. search needs) add-at add-line loop-less loop-again (λ c. omega arith) returns-3)

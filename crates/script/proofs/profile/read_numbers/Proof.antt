@@ -51,9 +51,6 @@ place-left c = omega (arith, c .if1 .left, c .before .before .loop .inv .1)
 loop-holds : tie.Need-loop-holds Inv-loop μ-loop
 loop-holds c = (refl, omega arith, fitting-from-the-first _ _, refl)
 
-same-length : tie.Need-same-length Inv-loop μ-loop
-same-length c = omega arith
-
 returns : tie.Need-returns Inv-loop μ-loop
 returns c =
     let at = c .before .before in
@@ -63,9 +60,6 @@ returns c =
     (sym (at .loop .inv .2)
     ∙ ap (fitting (at .loop .k) (length (args .numbers .now))) first
     ∙ fitting-without-place (at .loop .k) _ _ _ (omega (arith, at .loop .inv .0, c .if1 .taken)))
-
-add-start : tie.Need-add-start Inv-loop μ-loop
-add-start c = omega arith
 
 find-requires : tie.Need-find-requires Inv-loop μ-loop
 find-requires c κs = tt
@@ -86,12 +80,6 @@ part-parse-decimal-end c =
 parse-decimal-requires : tie.Need-parse-decimal-requires Inv-loop μ-loop
 parse-decimal-requires c κs = tt
 
-enum-told : tie.Need-enum-told Inv-loop μ-loop
-enum-told c = search needs
-
-same-length-2 : tie.Need-same-length-2 Inv-loop μ-loop
-same-length-2 c = omega arith
-
 returns-2 : tie.Need-returns-2 Inv-loop μ-loop
 returns-2 c =
     let found = c .before .before .before .before in
@@ -104,17 +92,8 @@ returns-2 c =
     ∙ ap (fitting (at .loop .k) (length (args .numbers .now))) (next found)
     ∙ fitting-at-malformed _ _ _ _ no-decimal)
 
-enum-known-n : tie.Need-enum-known-n Inv-loop μ-loop
-enum-known-n c = search needs
-
-mul-numbers : tie.Need-mul-numbers Inv-loop μ-loop
-mul-numbers c = search needs
-
 slice-write-numbers : tie.Need-slice-write-numbers Inv-loop μ-loop
 slice-write-numbers c = place-left (c .before .before .before .before .before .before)
-
-add-k : tie.Need-add-k Inv-loop μ-loop
-add-k c = omega arith
 
 loop-less : tie.Need-loop-less Inv-loop μ-loop
 loop-less c =
@@ -140,9 +119,6 @@ loop-again c =
           ∙ at .loop .inv .3,
     )
 
-same-length-3 : tie.Need-same-length-3 Inv-loop μ-loop
-same-length-3 c = omega arith
-
 returns-3 : tie.Need-returns-3 Inv-loop μ-loop
 returns-3 c =
     let at = c .before in
@@ -157,26 +133,7 @@ returns-3 c =
 pub read-numbers-spec : {M : Type 1} → statement M
 read-numbers-spec =
     tie.close
-    (tie.spec
-    Inv-loop
-    μ-loop
-    loop-holds
-    same-length
-    returns
-    add-start
-    find-requires
-    sub-parse-decimal
-    part-parse-decimal-start
-    part-parse-decimal-end
-    parse-decimal-requires
-    enum-told
-    same-length-2
-    returns-2
-    enum-known-n
-    mul-numbers
-    slice-write-numbers
-    add-k
-    loop-less
-    loop-again
-    same-length-3
-    returns-3)
+    (tie.spec Inv-loop μ-loop loop-holds (λ c. omega arith) returns (λ c. omega arith) find-requires sub-parse-decimal
+    part-parse-decimal-start part-parse-decimal-end parse-decimal-requires (λ c. search needs) (λ c. omega arith)
+    returns-2 (λ c. search needs) (λ c. search needs) slice-write-numbers (λ c. omega arith) loop-less loop-again
+    (λ c. omega arith) returns-3)

@@ -19,30 +19,12 @@ the-word : (c : tie.After-find)
     take (c .find .result) line ≡ wordOf line
 the-word c = word-is-a-part (c .before .before .args .line .now) (c .find .result) (c .find .ensures)
 
-find-requires : tie.Need-find-requires
-find-requires c κs = search needs
-
 slice-aggregate-same : tie.Need-slice-aggregate-same
 slice-aggregate-same c =
     let line = c .before .before .before .args .line .now in
     sym
     (length-take-le (c .before .find .result) line
     (word-ends-in-line line (c .before .find .result) (c .before .find .ensures)))
-
-slice-aggregate-same-2 : tie.Need-slice-aggregate-same-2
-slice-aggregate-same-2 c = search needs
-
-same-requires : tie.Need-same-requires
-same-requires c κs = search needs
-
-slice-aggregate-read-numbers : tie.Need-slice-aggregate-read-numbers
-slice-aggregate-read-numbers c = search needs
-
-read-numbers-requires : tie.Need-read-numbers-requires
-read-numbers-requires c κs = search needs
-
-from-numbers-requires : tie.Need-from-numbers-requires
-from-numbers-requires c κs = search needs
 
 returns : tie.Need-returns
 unfolding profileOf
@@ -80,14 +62,5 @@ returns-3 c =
 pub read-profile-spec : {M : Type 1} → statement M
 read-profile-spec =
     tie.close
-    (tie.spec
-    find-requires
-    slice-aggregate-same
-    slice-aggregate-same-2
-    same-requires
-    slice-aggregate-read-numbers
-    read-numbers-requires
-    from-numbers-requires
-    returns
-    returns-2
-    returns-3)
+    (tie.spec (λ c κs. search needs) slice-aggregate-same (λ c. search needs) (λ c κs. search needs)
+    (λ c. search needs) (λ c κs. search needs) (λ c κs. search needs) returns returns-2 returns-3)

@@ -5,22 +5,10 @@ use Rattle.strip.specs.Output.{cellText}
 use Rattle.strip.proofs.output.append_cell.Statement.{statement}
 use Rattle.strip.proofs.output.append_cell.Tie as tie
 
-number-requires : tie.Need-number-requires
-number-requires c κs = search needs
-
-slice-aggregate-append-line : tie.Need-slice-aggregate-append-line
-slice-aggregate-append-line c = search needs
-
-slice-aggregate-append-line-2 : tie.Need-slice-aggregate-append-line-2
-slice-aggregate-append-line-2 c = search needs
-
 append-line-requires : tie.Need-append-line-requires
 unfolding cellText
 append-line-requires c κs =
     rw (c .before .before .before .number .ensures) (c .before .before .before .before .before .pre)
-
-same-length : tie.Need-same-length
-same-length c = search needs
 
 returns : tie.Need-returns
 unfolding cellText
@@ -32,10 +20,5 @@ returns c =
 pub append-cell-spec : {M : Type 1} → statement M
 append-cell-spec =
     tie.close
-    (tie.spec
-    number-requires
-    slice-aggregate-append-line
-    slice-aggregate-append-line-2
-    append-line-requires
-    same-length
+    (tie.spec (λ c κs. search needs) (λ c. search needs) (λ c. search needs) append-line-requires (λ c. search needs)
     returns)

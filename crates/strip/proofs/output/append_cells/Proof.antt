@@ -52,20 +52,8 @@ next-length c =
     cells-length-next (c .before .loop .cursor) (c .before .before .before .before .before .args .stream .now)
     (c .before .loop .place) (c .loop-test .taken)
 
-start-requires : tie.Need-start-requires Inv-loop μ-loop
-start-requires c κs = search needs
-
 loop-holds : tie.Need-loop-holds Inv-loop μ-loop
 loop-holds c = (omega arith, refl, refl, refl)
-
-mul-interval : tie.Need-mul-interval Inv-loop μ-loop
-mul-interval c = search needs
-
-shared-slice-read-interval : tie.Need-shared-slice-read-interval Inv-loop μ-loop
-shared-slice-read-interval c = omega arith
-
-step-requires : tie.Need-step-requires Inv-loop μ-loop
-step-requires c κs = search needs
 
 append-cell-requires : tie.Need-append-cell-requires Inv-loop μ-loop
 append-cell-requires c κs =
@@ -80,12 +68,6 @@ append-cell-requires c κs =
       at .loop .inv .2,
       at .before .before .before .before .pre,
     ))
-
-add-place : tie.Need-add-place Inv-loop μ-loop
-add-place c = omega arith
-
-loop-less : tie.Need-loop-less Inv-loop μ-loop
-loop-less c = omega arith
 
 loop-again : tie.Need-loop-again Inv-loop μ-loop
 loop-again c =
@@ -127,17 +109,5 @@ returns c =
 pub append-cells-spec : {M : Type 1} → statement M
 append-cells-spec =
     tie.close
-    (tie.spec
-    Inv-loop
-    μ-loop
-    start-requires
-    loop-holds
-    mul-interval
-    shared-slice-read-interval
-    step-requires
-    append-cell-requires
-    add-place
-    loop-less
-    loop-again
-    same-length
-    returns)
+    (tie.spec Inv-loop μ-loop (λ c κs. search needs) loop-holds (λ c. search needs) (λ c. omega arith)
+    (λ c κs. search needs) append-cell-requires (λ c. omega arith) (λ c. omega arith) loop-again same-length returns)

@@ -31,31 +31,10 @@ the-text : (c : tie.After-place)
 unfolding refusalText
 the-text c = rw (c .before .number .ensures, c .place .ensures)
 
-number-requires : tie.Need-number-requires
-number-requires c κs = search needs
-
-cast-t6 : tie.Need-cast-t6
-cast-t6 c = search needs
-
-place-requires : tie.Need-place-requires
-place-requires c κs = search needs
-
-cast-t8 : tie.Need-cast-t8
-cast-t8 c = search needs
-
-slice-aggregate-append-line : tie.Need-slice-aggregate-append-line
-slice-aggregate-append-line c = search needs
-
-slice-aggregate-append-line-2 : tie.Need-slice-aggregate-append-line-2
-slice-aggregate-append-line-2 c = search needs
-
 append-line-requires : tie.Need-append-line-requires
 append-line-requires c κs =
     let placed = c .before .before .before in
     omega (arith, ap length (the-text placed), fits placed, placed .before .before .before .pre)
-
-same-length : tie.Need-same-length
-same-length c = search needs
 
 returns : tie.Need-returns
 returns c =
@@ -70,13 +49,5 @@ returns c =
 pub refuse-spec : {M : Type 1} → statement M
 refuse-spec =
     tie.close
-    (tie.spec
-    number-requires
-    cast-t6
-    place-requires
-    cast-t8
-    slice-aggregate-append-line
-    slice-aggregate-append-line-2
-    append-line-requires
-    same-length
-    returns)
+    (tie.spec (λ c κs. search needs) (λ c. search needs) (λ c κs. search needs) (λ c. search needs)
+    (λ c. search needs) (λ c. search needs) append-line-requires (λ c. search needs) returns)

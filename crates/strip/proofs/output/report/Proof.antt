@@ -28,12 +28,6 @@ room c =
       c .before .pre .1,
     )
 
-slice-aggregate-append-line : tie.Need-slice-aggregate-append-line
-slice-aggregate-append-line c = search needs
-
-slice-aggregate-append-line-2 : tie.Need-slice-aggregate-append-line-2
-slice-aggregate-append-line-2 c = search needs
-
 append-line-requires : tie.Need-append-line-requires
 append-line-requires c κs = omega (arith, room (c .before .before .before .before))
 
@@ -47,12 +41,6 @@ append-cells-requires c κs =
       margin .append-line .kept .0,
     )
 
-slice-aggregate-append-line-3 : tie.Need-slice-aggregate-append-line-3
-slice-aggregate-append-line-3 c = search needs
-
-slice-aggregate-append-line-4 : tie.Need-slice-aggregate-append-line-4
-slice-aggregate-append-line-4 c = search needs
-
 append-line-requires-2 : tie.Need-append-line-requires-2
 append-line-requires-2 c κs =
     let cells = c .before .before .before .before .before in
@@ -65,9 +53,6 @@ append-line-requires-2 c κs =
       cells .append-cells .ensures .0,
       cells .append-cells .kept .1 .1 .0,
     )
-
-same-length : tie.Need-same-length
-same-length c = search needs
 
 returns : tie.Need-returns
 returns c =
@@ -87,13 +72,5 @@ returns c =
 pub report-spec : {M : Type 1} → statement M
 report-spec =
     tie.close
-    (tie.spec
-    slice-aggregate-append-line
-    slice-aggregate-append-line-2
-    append-line-requires
-    append-cells-requires
-    slice-aggregate-append-line-3
-    slice-aggregate-append-line-4
-    append-line-requires-2
-    same-length
-    returns)
+    (tie.spec (λ c. search needs) (λ c. search needs) append-line-requires append-cells-requires (λ c. search needs)
+    (λ c. search needs) append-line-requires-2 (λ c. search needs) returns)

@@ -8,21 +8,6 @@ use Rattle.symbols.specs.machine.Step.{surplus, wordOf, closed}
 use Rattle.symbols.proofs.Reading.close.Statement.{statement}
 use Rattle.symbols.proofs.Reading.close.Tie as tie
 
-sub-surplus : tie.Need-sub-surplus
-sub-surplus c = search needs
-
-shr-x : tie.Need-shr-x
-shr-x c = search needs
-
-missing-requires : tie.Need-missing-requires
-missing-requires c κs = search needs
-
-sub-self : tie.Need-sub-self
-sub-self c = search needs
-
-wrapping-add-u32-requires : tie.Need-wrapping-add-u32-requires
-wrapping-add-u32-requires c κs = search needs
-
 returns : tie.Need-returns
 unfolding misfits surplus wordOf closed
 returns c =
@@ -31,9 +16,6 @@ returns c =
       eq-eqb _ _ (c .if1 .taken),
       c .before .wrapping-add-u32 .ensures,
     )
-
-is-mark-requires : tie.Need-is-mark-requires
-is-mark-requires c κs = search needs
 
 returns-2 : tie.Need-returns-2
 unfolding misfits surplus wordOf closed
@@ -56,12 +38,6 @@ returns-3 c =
       c .before .before .before .before .wrapping-add-u32 .ensures,
     )
 
-cells-since-requires : tie.Need-cells-since-requires
-cells-since-requires c κs = search needs
-
-first-of-cells-requires : tie.Need-first-of-cells-requires
-first-of-cells-requires c κs = search needs
-
 returns-4 : tie.Need-returns-4
 unfolding misfits surplus wordOf closed
 returns-4 c =
@@ -78,16 +54,6 @@ returns-4 c =
 pub close-spec : {M : Type 1} → statement M
 close-spec =
     tie.close
-    (tie.spec
-    sub-surplus
-    shr-x
-    missing-requires
-    sub-self
-    wrapping-add-u32-requires
-    returns
-    is-mark-requires
-    returns-2
-    returns-3
-    cells-since-requires
-    first-of-cells-requires
-    returns-4)
+    (tie.spec (λ c. search needs) (λ c. search needs) (λ c κs. search needs) (λ c. search needs)
+    (λ c κs. search needs) returns (λ c κs. search needs) returns-2 returns-3 (λ c κs. search needs)
+    (λ c κs. search needs) returns-4)

@@ -14,13 +14,10 @@ returns-2 : tie.Need-returns-2
 unfolding candidate
 returns-2 c = rw (c .if2 .taken) refl
 
-data-bits-requires : tie.Need-data-bits-requires
-data-bits-requires c κs = search needs
-
 returns-3 : tie.Need-returns-3
 unfolding candidate
 returns-3 c =
     rw (ne-eqb _ 0x4489 (c .before .before .if1 .left), ne-eqb _ 0x5224 (c .before .if2 .left)) (c .data-bits .ensures)
 
 pub byte-of-spec : {M : Type 1} → statement M
-byte-of-spec = tie.close (tie.spec returns returns-2 data-bits-requires returns-3)
+byte-of-spec = tie.close (tie.spec returns returns-2 (λ c κs. search needs) returns-3)

@@ -17,14 +17,8 @@ power n = shl-exact {a = 1} 1 (n % 32) 32 (omega arith) (omega arith) ∙ one-mu
 masked : (x n : ℕ) → ones (bitAnd x (1 * 2 ^ (n % 32) % 2 ^ 32 - 1)) ≡ ones (x % 2 ^ (n % 32))
 masked x n = rw (power n, and-mask x (n % 32))
 
-add-below : tie.Need-add-below
-add-below c = search needs
-
 sub-below : tie.Need-sub-below
 sub-below c = omega (arith, leading-le 32 (c .args .gaps))
-
-shl-result : tie.Need-shl-result
-shl-result c = search needs
 
 sub-result : tie.Need-sub-result
 sub-result c = rw (power _) (pow-pos _)
@@ -34,4 +28,4 @@ unfolding cellsSince
 returns c = masked _ _
 
 pub cells-since-spec : {M : Type 1} → statement M
-cells-since-spec = tie.close (tie.spec add-below sub-below shl-result sub-result returns)
+cells-since-spec = tie.close (tie.spec (λ c. search needs) sub-below (λ c. search needs) sub-result returns)

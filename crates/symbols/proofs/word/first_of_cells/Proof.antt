@@ -12,12 +12,6 @@ counted-back :
     → r ≡ (at + 1 + (2 ^ 32 - cells)) % 2 ^ 32
 counted-back r at next cells e n small few = omega arith
 
-wrapping-add-u32-requires : tie.Need-wrapping-add-u32-requires
-wrapping-add-u32-requires c κs = search needs
-
-wrapping-sub-u32-requires : tie.Need-wrapping-sub-u32-requires
-wrapping-sub-u32-requires c κs = search needs
-
 returns : tie.Need-returns
 unfolding firstOfCells
 returns c =
@@ -25,4 +19,4 @@ returns c =
     (c .wrapping-sub-u32 .ok) (c .before .before .fits .cells .fits)
 
 pub first-of-cells-spec : {M : Type 1} → statement M
-first-of-cells-spec = tie.close (tie.spec wrapping-add-u32-requires wrapping-sub-u32-requires returns)
+first-of-cells-spec = tie.close (tie.spec (λ c κs. search needs) (λ c κs. search needs) returns)

@@ -44,20 +44,8 @@ slice-write-out c = omega (arith, next c)
 add-append-decimal : tie.Need-add-append-decimal Inv-loop μ-loop
 add-append-decimal c = omega (arith, next (c .before))
 
-mul-append-decimal : tie.Need-mul-append-decimal Inv-loop μ-loop
-mul-append-decimal c = search needs
-
-shared-slice-read-append-decimal : tie.Need-shared-slice-read-append-decimal Inv-loop μ-loop
-shared-slice-read-append-decimal c = omega arith
-
 append-decimal-requires : tie.Need-append-decimal-requires Inv-loop μ-loop
 append-decimal-requires c κs = simp length-set (omega (arith, next (c .before .before)))
-
-add-i : tie.Need-add-i Inv-loop μ-loop
-add-i c = omega arith
-
-loop-less : tie.Need-loop-less Inv-loop μ-loop
-loop-less c = omega arith
 
 loop-again : tie.Need-loop-again Inv-loop μ-loop
 loop-again c =
@@ -86,17 +74,5 @@ returns c =
 pub append-fields-spec : {M : Type 1} → statement M
 append-fields-spec =
     tie.close
-    (tie.spec
-    Inv-loop
-    μ-loop
-    loop-holds
-    slice-write-out
-    add-append-decimal
-    mul-append-decimal
-    shared-slice-read-append-decimal
-    append-decimal-requires
-    add-i
-    loop-less
-    loop-again
-    same-length
-    returns)
+    (tie.spec Inv-loop μ-loop loop-holds slice-write-out add-append-decimal (λ c. search needs) (λ c. omega arith)
+    append-decimal-requires (λ c. omega arith) (λ c. omega arith) loop-again same-length returns)

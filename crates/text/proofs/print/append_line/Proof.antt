@@ -24,9 +24,6 @@ append-fields-requires c κs =
     omega
     (arith, room (c .before .before .before .before .before .before .before .before), word .ensures .0, word .kept .0)
 
-slice-aggregate-append : tie.Need-slice-aggregate-append
-slice-aggregate-append c = search needs
-
 append-requires-2 : tie.Need-append-requires-2
 append-requires-2 c κs =
     let fields = c .before .before .before .before in
@@ -39,9 +36,6 @@ append-requires-2 c κs =
       fields .append-fields .ensures .0,
       fields .append-fields .kept .0,
     )
-
-same-length : tie.Need-same-length
-same-length c = search needs
 
 returns : tie.Need-returns
 returns c =
@@ -64,10 +58,5 @@ returns c =
 pub append-line-spec : {M : Type 1} → statement M
 append-line-spec =
     tie.close
-    (tie.spec
-    append-requires
-    append-fields-requires
-    slice-aggregate-append
-    append-requires-2
-    same-length
+    (tie.spec append-requires append-fields-requires (λ c. search needs) append-requires-2 (λ c. search needs)
     returns)

@@ -13,11 +13,8 @@ returns c = sym (no-leading-zero-of-none _ (c .if1 .taken))
 returns-2 : tie.Need-returns-2
 returns-2 c = sym (no-leading-zero-of-one _ (c .if2 .taken))
 
-shared-slice-read-result : tie.Need-shared-slice-read-result
-shared-slice-read-result c = search needs
-
 returns-3 : tie.Need-returns-3
 returns-3 c = sym (no-leading-zero-of-more _ (omega arith))
 
 pub no-leading-zero-spec : {M : Type 1} → statement M
-no-leading-zero-spec = tie.close (tie.spec returns returns-2 shared-slice-read-result returns-3)
+no-leading-zero-spec = tie.close (tie.spec returns returns-2 (λ c. search needs) returns-3)

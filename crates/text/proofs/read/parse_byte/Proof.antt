@@ -11,18 +11,6 @@ use Rattle.text.proofs.read.parse_byte.Tie as tie
 returns : tie.Need-returns
 returns c = sym (byte-of-other-length _ (c .if1 .taken))
 
-shared-slice-read-hex-digit : tie.Need-shared-slice-read-hex-digit
-shared-slice-read-hex-digit c = search needs
-
-hex-digit-requires : tie.Need-hex-digit-requires
-hex-digit-requires c κs = search needs
-
-shared-slice-read-hex-digit-2 : tie.Need-shared-slice-read-hex-digit-2
-shared-slice-read-hex-digit-2 c = search needs
-
-hex-digit-requires-2 : tie.Need-hex-digit-requires-2
-hex-digit-requires-2 c κs = search needs
-
 returns-2 : tie.Need-returns-2
 returns-2 c =
     let start = c .before .before .before .before .before in
@@ -44,12 +32,6 @@ returns-3 c =
       le-ltb (c .before .before .hex-digit2 .result) 16 (c .if3 .taken),
     )
 
-mul-t7 : tie.Need-mul-t7
-mul-t7 c = search needs
-
-add-t9 : tie.Need-add-t9
-add-t9 c = search needs
-
 returns-4 : tie.Need-returns-4
 returns-4 c =
     let start = c .before .before .before .before .before .before in
@@ -67,14 +49,5 @@ returns-4 c =
 pub parse-byte-spec : {M : Type 1} → statement M
 parse-byte-spec =
     tie.close
-    (tie.spec
-    returns
-    shared-slice-read-hex-digit
-    hex-digit-requires
-    shared-slice-read-hex-digit-2
-    hex-digit-requires-2
-    returns-2
-    returns-3
-    mul-t7
-    add-t9
-    returns-4)
+    (tie.spec returns (λ c. search needs) (λ c κs. search needs) (λ c. search needs) (λ c κs. search needs) returns-2
+    returns-3 (λ c. search needs) (λ c. search needs) returns-4)

@@ -4,12 +4,6 @@ use borrow.Author.Needs.{needs}
 use Rattle.text.proofs.read.parse_decimal.Statement.{statement}
 use Rattle.text.proofs.read.parse_decimal.Tie as tie
 
-no-leading-zero-requires : tie.Need-no-leading-zero-requires
-no-leading-zero-requires c κs = search needs
-
-parse-digits-requires : tie.Need-parse-digits-requires
-parse-digits-requires c κs = search needs
-
 returns : tie.Need-returns
 returns c =
     let start = c .before .before in
@@ -20,4 +14,4 @@ returns-2 c = rw (decimal-read-is-digits, ← c .before .no-leading-zero .ensure
 
 pub parse-decimal-spec : {M : Type 1} → statement M
 parse-decimal-spec =
-    tie.close (tie.spec no-leading-zero-requires parse-digits-requires returns returns-2)
+    tie.close (tie.spec (λ c κs. search needs) (λ c κs. search needs) returns returns-2)

@@ -28,9 +28,6 @@ module _ (s : List ℕ) (i value : ℕ) (h : i < length s) (inv : digitsAfter va
 loop-holds : tie.Need-loop-holds Inv-loop μ-loop
 loop-holds c = (omega arith, omega arith, digits-after-none _)
 
-shared-slice-read-d : tie.Need-shared-slice-read-d Inv-loop μ-loop
-shared-slice-read-d c = omega arith
-
 returns : tie.Need-returns Inv-loop μ-loop
 returns c =
     let at = c .before .before .before in
@@ -43,15 +40,6 @@ returns-2 c =
     (next-digit _ _ _ (c .before .before .before .loop-test .taken) (at .loop .inv .2)
     ∙ digits-above _ _ _ (c .if2 .taken))
 
-mul-value : tie.Need-mul-value Inv-loop μ-loop
-mul-value c = omega arith
-
-cast-value : tie.Need-cast-value Inv-loop μ-loop
-cast-value c = omega arith
-
-add-value : tie.Need-add-value Inv-loop μ-loop
-add-value c = omega arith
-
 returns-3 : tie.Need-returns-3 Inv-loop μ-loop
 returns-3 c =
     let at = c .before .before .before .before .before in
@@ -59,12 +47,6 @@ returns-3 c =
     (next-digit _ _ _ (c .before .before .before .before .loop-test .taken) (at .loop .inv .2)
     ∙ digits-at-digit _ _ _ (c .before .before .if1 .left) (c .before .if2 .left)
     ∙ digits-too-large _ _ (c .if3 .taken))
-
-add-i : tie.Need-add-i Inv-loop μ-loop
-add-i c = omega arith
-
-loop-less : tie.Need-loop-less Inv-loop μ-loop
-loop-less c = omega arith
 
 loop-again : tie.Need-loop-again Inv-loop μ-loop
 loop-again c =
@@ -76,9 +58,6 @@ loop-again c =
           (next-digit _ _ _ (c .before .before .before .before .loop-test .taken) (at .loop .inv .2)
           ∙ digits-at-digit _ _ _ (c .before .before .if1 .left) (c .before .if2 .left))),
     )
-
-cast-t11 : tie.Need-cast-t11 Inv-loop μ-loop
-cast-t11 c = omega arith
 
 returns-4 : tie.Need-returns-4 Inv-loop μ-loop
 returns-4 c =
@@ -92,19 +71,5 @@ returns-4 c =
 pub parse-digits-spec : {M : Type 1} → statement M
 parse-digits-spec =
     tie.close
-    (tie.spec
-    Inv-loop
-    μ-loop
-    loop-holds
-    shared-slice-read-d
-    returns
-    returns-2
-    mul-value
-    cast-value
-    add-value
-    returns-3
-    add-i
-    loop-less
-    loop-again
-    cast-t11
-    returns-4)
+    (tie.spec Inv-loop μ-loop loop-holds (λ c. omega arith) returns returns-2 (λ c. omega arith) (λ c. omega arith)
+    (λ c. omega arith) returns-3 (λ c. omega arith) (λ c. omega arith) loop-again (λ c. omega arith) returns-4)

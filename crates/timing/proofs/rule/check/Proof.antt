@@ -8,9 +8,6 @@ use Rattle.timing.proofs.ProfileLaws.{rule-of-unset, rule-of-windows, i
 use Rattle.timing.proofs.rule.check.Statement.{statement}
 use Rattle.timing.proofs.rule.check.Tie as tie
 
-lowest-unset-requires : tie.Need-lowest-unset-requires
-lowest-unset-requires c κs = search needs
-
 returns : tie.Need-returns
 returns c = rule-of-unset _ _ (c .before .lowest-unset .ensures) (c .if1 .taken)
 
@@ -28,4 +25,4 @@ returns-3 c =
     ∙ rule-of-windows _ (sym (c .before .before .before .lowest-unset .ensures) ∙ c .before .before .if1 .left)
 
 pub check-spec : {M : Type 1} → statement M
-check-spec = tie.close (tie.spec lowest-unset-requires returns is-true-requires returns-2 returns-3)
+check-spec = tie.close (tie.spec (λ c κs. search needs) returns is-true-requires returns-2 returns-3)

@@ -6,18 +6,6 @@ use borrow.Author.Needs.{needs}
 use Rattle.timing.proofs.rule.is_true.Statement.{statement}
 use Rattle.timing.proofs.rule.is_true.Tie as tie
 
-swing-requires : tie.Need-swing-requires
-swing-requires c κs = search needs
-
-add-three : tie.Need-add-three
-add-three c = search needs
-
-mul-four : tie.Need-mul-four
-mul-four c = search needs
-
-add-four : tie.Need-add-four
-add-four c = search needs
-
 add-result : tie.Need-add-result
 add-result c = omega (arith, c .before .before .before .before .before .before .before)
 
@@ -36,12 +24,5 @@ returns c =
 pub is-true-spec : {M : Type 1} → statement M
 is-true-spec =
     tie.close
-    (tie.spec
-    swing-requires
-    add-three
-    mul-four
-    add-four
-    add-result
-    add-result-2
-    add-result-3
-    returns)
+    (tie.spec (λ c κs. search needs) (λ c. search needs) (λ c. search needs) (λ c. search needs) add-result
+    add-result-2 add-result-3 returns)

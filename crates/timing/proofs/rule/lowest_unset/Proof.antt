@@ -25,29 +25,8 @@ Inv-loop numbers table k₀ k =
 abbrev μ-loop : tie.MeasureT-loop
 μ-loop numbers table k₀ k = profileNumbers - k
 
-numbers-requires : tie.Need-numbers-requires Inv-loop μ-loop
-numbers-requires c κs = search needs
-
 loop-holds : tie.Need-loop-holds Inv-loop μ-loop
 loop-holds c = (refl, search needs, refl)
-
-mul-range : tie.Need-mul-range Inv-loop μ-loop
-mul-range c = search needs
-
-array-copy-out-range : tie.Need-array-copy-out-range Inv-loop μ-loop
-array-copy-out-range c = search needs
-
-mul-x : tie.Need-mul-x Inv-loop μ-loop
-mul-x c = search needs
-
-array-read-x : tie.Need-array-read-x Inv-loop μ-loop
-array-read-x c = search needs
-
-cast-result : tie.Need-cast-result Inv-loop μ-loop
-cast-result c = search needs
-
-add-result : tie.Need-add-result Inv-loop μ-loop
-add-result c = search needs
 
 returns : tie.Need-returns Inv-loop μ-loop
 returns c =
@@ -61,12 +40,6 @@ returns c =
     ∙ turn .inv .2
     ∙ ap (λ (ns : List ℕ). unsetFrom ranges ns 0) (found .ensures)
     ∙ scan-finds-lowest (start .args .p)
-
-add-k : tie.Need-add-k Inv-loop μ-loop
-add-k c = search needs
-
-loop-less : tie.Need-loop-less Inv-loop μ-loop
-loop-less c = search needs
 
 loop-again : tie.Need-loop-again Inv-loop μ-loop
 loop-again c =
@@ -94,19 +67,6 @@ returns-2 c =
 pub lowest-unset-spec : {M : Type 1} → statement M
 lowest-unset-spec =
     tie.close
-    (tie.spec
-    Inv-loop
-    μ-loop
-    numbers-requires
-    loop-holds
-    mul-range
-    array-copy-out-range
-    mul-x
-    array-read-x
-    cast-result
-    add-result
-    returns
-    add-k
-    loop-less
-    loop-again
-    returns-2)
+    (tie.spec Inv-loop μ-loop (λ c κs. search needs) loop-holds (λ c. search needs) (λ c. search needs)
+    (λ c. search needs) (λ c. search needs) (λ c. search needs) (λ c. search needs) returns (λ c. search needs)
+    (λ c. search needs) loop-again returns-2)

@@ -48,15 +48,6 @@ read c =
     ∙ ap (λ (ds : List ℕ). dataRead (args .p) ds (args .code))
     (part-to-end (args .intervals .now) (at-k .k .given .0 .0))
 
-search-requires : tie.Need-search-requires
-search-requires c κs = search needs
-
-enum-told : tie.Need-enum-told
-enum-told c = search needs
-
-enum-known-k : tie.Need-enum-known-k
-enum-known-k c = search needs
-
 mul-read-data : tie.Need-mul-read-data
 mul-read-data c = omega (arith, within c, c .before .before .before .before .before .good)
 
@@ -65,18 +56,6 @@ sub-read-data c = omega (arith, within c)
 
 part-read-data-start : tie.Need-part-read-data-start
 part-read-data-start c = omega (arith, within c)
-
-part-read-data-end : tie.Need-part-read-data-end
-part-read-data-end c = search needs
-
-read-data-requires : tie.Need-read-data-requires
-read-data-requires c κs = search needs
-
-enum-told-2 : tie.Need-enum-told-2
-enum-told-2 c = search needs
-
-enum-known-used : tie.Need-enum-known-used
-enum-known-used c = search needs
 
 add-t20 : tie.Need-add-t20
 add-t20 c =
@@ -106,18 +85,6 @@ returns-3 c =
 pub find-data-spec : {M : Type 1} → statement M
 find-data-spec =
     tie.close
-    (tie.spec
-    search-requires
-    enum-told
-    enum-known-k
-    mul-read-data
-    sub-read-data
-    part-read-data-start
-    part-read-data-end
-    read-data-requires
-    enum-told-2
-    enum-known-used
-    add-t20
-    returns
-    returns-2
-    returns-3)
+    (tie.spec (λ c κs. search needs) (λ c. search needs) (λ c. search needs) mul-read-data sub-read-data
+    part-read-data-start (λ c. search needs) (λ c κs. search needs) (λ c. search needs) (λ c. search needs) add-t20
+    returns returns-2 returns-3)

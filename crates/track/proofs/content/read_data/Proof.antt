@@ -30,9 +30,6 @@ front-length
     : (c : tie.After-sector-size) → length (take (c .sector-size .result + 6) buffer) ≡ c .sector-size .result + 6
 front-length c = length-take-le (c .sector-size .result + 6) buffer (within c .1)
 
-sector-size-requires : tie.Need-sector-size-requires
-sector-size-requires c κs = search needs
-
 add-n : tie.Need-add-n
 add-n c =
     let most = within c .1 in omega arith
@@ -57,10 +54,5 @@ returns c =
 pub read-data-spec : {M : Type 1} → statement M
 read-data-spec =
     tie.close
-    (tie.spec
-    sector-size-requires
-    add-n
-    array-borrow-prefix-items
-    slice-aggregate-read-opened
-    read-opened-requires
+    (tie.spec (λ c κs. search needs) add-n array-borrow-prefix-items slice-aggregate-read-opened read-opened-requires
     returns)

@@ -5,9 +5,6 @@ use borrow.Author.Needs.{needs}
 use Rattle.track.proofs.id.identify.Statement.{statement}
 use Rattle.track.proofs.id.identify.Tie as tie
 
-is-identity-requires : tie.Need-is-identity-requires
-is-identity-requires c κs = search needs
-
 four-bytes-requires : tie.Need-four-bytes-requires
 four-bytes-requires c κs =
     (c .before .before .before .pre, sym (c .before .is-identity .ensures) ∙ c .if1 .taken)
@@ -23,4 +20,4 @@ returns-2 c =
     rw (sym (c .before .is-identity .ensures) ∙ c .if1 .left)
 
 pub identify-spec : {M : Type 1} → statement M
-identify-spec = tie.close (tie.spec is-identity-requires four-bytes-requires returns returns-2)
+identify-spec = tie.close (tie.spec (λ c κs. search needs) four-bytes-requires returns returns-2)

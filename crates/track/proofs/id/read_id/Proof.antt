@@ -11,24 +11,6 @@ use borrow.Author.Needs.{needs}
 use Rattle.track.proofs.id.read_id.Statement.{statement}
 use Rattle.track.proofs.id.read_id.Tie as tie
 
-slice-aggregate-read-opened : tie.Need-slice-aggregate-read-opened
-slice-aggregate-read-opened c = search needs
-
-read-opened-requires : tie.Need-read-opened-requires
-read-opened-requires c κs = search needs
-
-enum-told : tie.Need-enum-told
-enum-told c = search needs
-
-enum-known-used : tie.Need-enum-known-used
-enum-known-used c = search needs
-
-slice-aggregate-identify : tie.Need-slice-aggregate-identify
-slice-aggregate-identify c = search needs
-
-identify-requires : tie.Need-identify-requires
-identify-requires c κs = search needs
-
 returns : tie.Need-returns
 returns c =
     let known = c .before .before .before .before .used .given in
@@ -59,13 +41,5 @@ returns-3 c =
 pub read-id-spec : {M : Type 1} → statement M
 read-id-spec =
     tie.close
-    (tie.spec
-    slice-aggregate-read-opened
-    read-opened-requires
-    enum-told
-    enum-known-used
-    slice-aggregate-identify
-    identify-requires
-    returns
-    returns-2
-    returns-3)
+    (tie.spec (λ c. search needs) (λ c κs. search needs) (λ c. search needs) (λ c. search needs) (λ c. search needs)
+    (λ c κs. search needs) returns returns-2 returns-3)

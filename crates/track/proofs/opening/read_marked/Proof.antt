@@ -36,21 +36,6 @@ kind c =
     read .read-in-place .ensures .1 (reading-is-accepted _ _ _ does) ∙ items-in-place _ _ _ does (args .items .now) refl in
     opens-by-kind _ _ _ (args .kind) _ _ (field c) ∙ sym (c .opens-with .ensures ∙ ap (opensWith (args .kind)) items)
 
-read-in-place-requires : tie.Need-read-in-place-requires
-read-in-place-requires c κs = search needs
-
-enum-told : tie.Need-enum-told
-enum-told c = search needs
-
-enum-known-used : tie.Need-enum-known-used
-enum-known-used c = search needs
-
-opens-with-requires : tie.Need-opens-with-requires
-opens-with-requires c κs = search needs
-
-same-length : tie.Need-same-length
-same-length c = search needs
-
 returns : tie.Need-returns
 returns c =
     let read = c .before .before .before .before .before .before .before .before in
@@ -60,9 +45,6 @@ returns c =
       λ _.
           read .read-in-place .ensures .1 (reading-is-accepted _ _ _ does) ∙ items-in-place _ _ _ does (args .items .now) refl,
     )
-
-same-length-2 : tie.Need-same-length-2
-same-length-2 c = search needs
 
 returns-2 : tie.Need-returns-2
 returns-2 c =
@@ -74,9 +56,6 @@ returns-2 c =
     (sym (ap fieldAnswer (c .enum-told .given .1)) ∙ read .read-in-place .ensures .0)) in
     (unopened _ _ _ _ none, no-items _ _ _ (args .items .now) _ none)
 
-same-length-3 : tie.Need-same-length-3
-same-length-3 c = search needs
-
 returns-3 : tie.Need-returns-3
 returns-3 c =
     let args =
@@ -87,14 +66,5 @@ returns-3 c =
 pub read-marked-spec : {M : Type 1} → statement M
 read-marked-spec =
     tie.close
-    (tie.spec
-    read-in-place-requires
-    enum-told
-    enum-known-used
-    opens-with-requires
-    same-length
-    returns
-    same-length-2
-    returns-2
-    same-length-3
-    returns-3)
+    (tie.spec (λ c κs. search needs) (λ c. search needs) (λ c. search needs) (λ c κs. search needs)
+    (λ c. search needs) returns (λ c. search needs) returns-2 (λ c. search needs) returns-3)

@@ -7,18 +7,6 @@ use borrow.Author.Needs.{needs}
 use Rattle.track.proofs.opening.read_opened.Statement.{statement}
 use Rattle.track.proofs.opening.read_opened.Tie as tie
 
-three-marks-ahead-requires : tie.Need-three-marks-ahead-requires
-three-marks-ahead-requires c κs = search needs
-
-read-marked-requires : tie.Need-read-marked-requires
-read-marked-requires c κs = search needs
-
-same-length : tie.Need-same-length
-same-length c = search needs
-
-returns : tie.Need-returns
-returns c = search needs
-
 returns-2 : tie.Need-returns-2
 returns-2 c =
     let args = c .before .before .before .before .args in
@@ -29,4 +17,4 @@ returns-2 c =
 
 pub read-opened-spec : {M : Type 1} → statement M
 read-opened-spec =
-    tie.close (tie.spec three-marks-ahead-requires read-marked-requires same-length returns returns-2)
+    tie.close (tie.spec (λ c κs. search needs) (λ c κs. search needs) (λ c. search needs) (λ c. search needs) returns-2)

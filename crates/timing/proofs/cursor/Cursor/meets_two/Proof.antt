@@ -5,15 +5,9 @@ use Rattle.timing.proofs.EdgeLaws.{two-by-difference}
 use Rattle.timing.proofs.cursor.Cursor.meets_two.Statement.{statement}
 use Rattle.timing.proofs.cursor.Cursor.meets_two.Tie as tie
 
-wrapping-sub-u16-requires : tie.Need-wrapping-sub-u16-requires
-wrapping-sub-u16-requires c κs = search needs
-
-sub-result : tie.Need-sub-result
-sub-result c = search needs
-
 returns : tie.Need-returns
 returns c =
     two-by-difference _ _ _ (c .before .before .pre) (c .before .wrapping-sub-u16 .ensures) (omega arith) (omega arith)
 
 pub meets-two-spec : {M : Type 1} → statement M
-meets-two-spec = tie.close (tie.spec wrapping-sub-u16-requires sub-result returns)
+meets-two-spec = tie.close (tie.spec (λ c κs. search needs) (λ c. search needs) returns)

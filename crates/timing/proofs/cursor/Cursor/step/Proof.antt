@@ -4,12 +4,9 @@ use Rattle.timing.specs.Class.{cursorPast}
 use Rattle.timing.proofs.cursor.Cursor.step.Statement.{statement}
 use Rattle.timing.proofs.cursor.Cursor.step.Tie as tie
 
-class-of-requires : tie.Need-class-of-requires
-class-of-requires c κs = search needs
-
 returns : tie.Need-returns
 unfolding cursorPast
 returns c = cc
 
 pub step-spec : {M : Type 1} → statement M
-step-spec = tie.close (tie.spec class-of-requires returns)
+step-spec = tie.close (tie.spec (λ c κs. search needs) returns)

@@ -14,15 +14,9 @@ one-at-most : (t : Bool) → boolByte t ≤ 1
 one-at-most true = omega arith
 one-at-most false = omega arith
 
-cast-result : tie.Need-cast-result
-cast-result c = search needs
-
 add-result : tie.Need-add-result
 add-result c =
     let args = c .before .args in omega (arith, one-at-most (leb (args .self .b23 .0) (args .interval)))
-
-cast-result-2 : tie.Need-cast-result-2
-cast-result-2 c = search needs
 
 add-result-2 : tie.Need-add-result-2
 add-result-2 c =
@@ -38,4 +32,4 @@ unfolding unitsIn
 returns c = refl
 
 pub units-spec : {M : Type 1} → statement M
-units-spec = tie.close (tie.spec cast-result add-result cast-result-2 add-result-2 returns)
+units-spec = tie.close (tie.spec (λ c. search needs) add-result (λ c. search needs) add-result-2 returns)
