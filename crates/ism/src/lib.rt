@@ -1,5 +1,6 @@
 // The C interface, as include/ism.h declares it. Each function hands its arguments to the library and its answer
-// back: nothing is computed here. An answer that was accepted gets its clearance after that.
+// back: nothing is computed here. An answer that was accepted gets its clearance after that. The index alone is
+// gathered here, one search at a time, since its entries are kept as they are handed back.
 ghost use mathlib.Core.Path.{_≡_};
 ghost use lib.ListN.{length};
 ghost use Rattle.refusal.specs.Answer.{countedAnswer};

@@ -117,3 +117,10 @@ module _ {A : Type 0} where
         drop-append-seam,
         same,
       )
+
+-- a store into a list of values is the store into the list that they are the values of
+pub map-of-set
+    : {A B : Type 0} (f : A → B) (l : List A) (i : ℕ) (a : A) → map f (set l i a) ≡ set (map f l) i (f a)
+map-of-set f [] i a = refl
+map-of-set f (x ∷ xs) zero a = refl
+map-of-set f (x ∷ xs) (suc i) a = rw (map-of-set f xs i a)

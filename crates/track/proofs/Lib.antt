@@ -4,3 +4,4 @@ pub mod IdLaws
 pub mod DataLaws
 pub mod SearchLaws
 pub mod StepLaws
+pub mod GatherLaws

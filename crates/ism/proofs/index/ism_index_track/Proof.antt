@@ -1,6 +1,5 @@
--- Why `ism_index_track` answers as `track` does: it hands over the profile and the intervals, and count and entries
--- back. Rests on no axiom.
-use mathlib.Core.Path.{ap, ap₂, _∙_}
+-- Why `ism_index_track` answers the index of the track: it hands the profile over. Rests on no axiom.
+use mathlib.Core.Path.{ap, _∙_}
 use denote.Ref.{now}
 use Rattle.timing.specs.declared.Profile.{Profile}
 use Rattle.track.specs.Index.{indexRule, indexEntries}
@@ -11,15 +10,9 @@ use Rattle.ism.proofs.index.ism_index_track.Tie as tie
 
 returns : tie.Need-returns
 returns c =
-    let at-index = c .before .before in
-    let at-profile = at-index .before in
-    let start = at-profile .before .before .args in
-    c .given .ensures
-    ∙ ap₂ indexAnswerOf (at-index .index-track .ensures .0) (at-index .index-track .ensures .1)
-    ∙ ap
-    (λ (q : Profile). indexAnswerOf (indexRule q (now (start .intervals))) (indexEntries q (now (start .intervals))))
-    (at-profile .profile .ensures)
+    let ds = now (c .before .before .before .args .intervals) in
+    c .gather .ensures
+    ∙ ap (λ (q : Profile). indexAnswerOf (indexRule q ds) (indexEntries q ds)) (c .before .profile .ensures)
 
 pub ism-index-track-spec : {M : Type 1} → statement M
-ism-index-track-spec =
-    tie.close (tie.spec (λ c κs. search needs) (λ c κs. search needs) (λ c κs. search needs) returns)
+ism-index-track-spec = tie.close (tie.spec (λ c κs. search needs) (λ c κs. search needs) returns)

@@ -1,5 +1,5 @@
--- The loop of `gather`: the entries stored, and those that the search from the present start on still adds, are the
--- entries of the track. Rests on no axiom.
+-- How the index is gathered: the entries stored, and those that the search from the present start on still adds, are
+-- the entries of the track. Rests on no axiom.
 use Prim.Native.Nat.{ℕ, suc, _+_, _-_, _<_, _≤_}
 use mathlib.Core.Path.{_≡_, refl, sym, ap, _∙_}
 use mathlib.Core.Bool.{Bool, true, false, cond}
@@ -9,11 +9,17 @@ use borrow.Author.Tests.{le-ltb, lt-ltb}
 use lib.Dec.{ltb}
 use lib.ListN.{length, set, drop, replicate, length-append}
 use lib.Seq.{append-snoc, set-append-seam}
-use Rattle.refusal.specs.Answer.{accepted, refused}
+use Rattle.refusal.specs.Table.{numberOf, placeOf}
+use Rattle.refusal.specs.Answer.{Answer, accepted, refused, verdictAnswer}
+use Rattle.refusal.specs.declared.Refusal.{Refusal}
+use Rattle.refusal.specs.declared.Verdict.{Verdict}
+use Rattle.refusal.specs.declared.Verdict.the-variants.{Refused}
+use Rattle.refusal.proofs.AnswerLaws.{number-is-not-zero, verdict-refuses, first-refusal-passes}
+use Rattle.timing.specs.Profile.{profileRule}
 use Rattle.timing.specs.declared.Profile.{Profile}
 use Rattle.track.specs.FieldKinds.{isId}
 use Rattle.track.specs.Index.{hasLock, lockPlace, entryAt, nextStart, entriesAt, entriesFrom, entriesOf}
-use Rattle.track.specs.Index.{crowdRule, noEntry, padded, handedBack}
+use Rattle.track.specs.Index.{crowdRule, indexRule, noEntry, padded, handedBack, indexEntries}
 use Rattle.track.specs.machine.Steps.{stepAt, stepFrom}
 use Rattle.track.specs.declared.Entry.{Entry}
 use Rattle.track.specs.declared.Step.the-variants.{End, Other, Begins}
@@ -96,6 +102,31 @@ module _ {p : Profile} {ds : List ℕ} {start next : ℕ} {adds : List Entry} (g
       let after = rw (goes .on) at (next-is-ahead p ds start (goes .lock)) in
       (after, omega arith)
 
+-- ---- the index
+
+module _ (p : Profile) (ds : List ℕ) where
+  crowd-decides
+      : profileRule p .number ≡ 0 → (a : Answer) → a ≡ crowdRule (entriesOf p ds) → a ≡ indexRule p ds
+  unfolding indexRule
+  crowd-decides fair a e = e ∙ sym (first-refusal-passes (profileRule p) (crowdRule (entriesOf p ds)) fair)
+
+  handed-back : (a : Answer) → a ≡ indexRule p ds → handedBack a (entriesOf p ds) ≡ indexEntries p ds
+  unfolding indexEntries
+  handed-back a e = rw e
+
+  -- a refusal of the profile decides
+  pub profile-refuses
+      : (v : Verdict) (r : Refusal)
+      → verdictAnswer v ≡ profileRule p
+      → v ≡ Refused r
+      → (refused (numberOf r) (placeOf r) ≡ indexRule p ds) × (replicate 32 noEntry ≡ indexEntries p ds)
+  unfolding indexRule handedBack
+  profile-refuses v r e q =
+      let rule = verdict-refuses v r (profileRule p) (crowdRule (entriesOf p ds)) e q in
+      let blank : replicate 32 noEntry ≡ handedBack (refused (numberOf r) (placeOf r)) (entriesOf p ds) =
+      rw (number-is-not-zero r) in
+      (rule, blank ∙ handed-back _ rule)
+
 -- ---- the invariant
 
 pub record Gathered (p : Profile) (ds : List ℕ) (entries : List Entry) (count start : ℕ) : Type 0 where
@@ -164,33 +195,33 @@ module _
           whole = whole-with goes;
         }
 
-    -- ---- how the loop ends
+    -- ---- how the search ends
 
-    pub all-gathered
-        : hasLock p ds start ≡ false
-        → (accepted count ≡ crowdRule (entriesOf p ds))
-        × (entries ≡ handedBack (crowdRule (entriesOf p ds)) (entriesOf p ds))
-    unfolding crowdRule handedBack
-    all-gathered none =
-        let all : g .done ≡ entriesOf p ds =
-        sym (append-nil (g .done))
-        ∙ ap (λ (rest : List Entry). g .done ++ rest) (sym (search-ends p ds start none))
-        ∙ g .whole in
-        let same = g .counted in
-        let few = g .few in
-        let enough : ltb 32 (length (g .done)) ≡ false = le-ltb 32 (length (g .done)) (omega arith) in
-        (rw (sym all, enough, same), rw (sym all, enough, g .stored))
+    module _ (fair : profileRule p .number ≡ 0) where
+      pub all-gathered
+          : hasLock p ds start ≡ false → (accepted count ≡ indexRule p ds) × (entries ≡ indexEntries p ds)
+      unfolding crowdRule handedBack
+      all-gathered none =
+          let all : g .done ≡ entriesOf p ds =
+          sym (append-nil (g .done))
+          ∙ ap (λ (rest : List Entry). g .done ++ rest) (sym (search-ends p ds start none))
+          ∙ g .whole in
+          let same = g .counted in
+          let few = g .few in
+          let enough : ltb 32 (length (g .done)) ≡ false = le-ltb 32 (length (g .done)) (omega arith) in
+          let rule = crowd-decides p ds fair (accepted count) (rw (sym all, enough, same)) in
+          (rule, g .stored ∙ ap padded all ∙ handed-back p ds _ rule)
 
-    pub crowded
-        : {next : ℕ} {e : Entry}
-        → count ≡ 32
-        → Goes p ds start next (e ∷ [])
-        → (refused 15 0 ≡ crowdRule (entriesOf p ds))
-        × (replicate 32 noEntry ≡ handedBack (crowdRule (entriesOf p ds)) (entriesOf p ds))
-    unfolding crowdRule handedBack
-    crowded {next} {e} full goes =
-        let same = g .counted in
-        let first = length-append (g .done) (e ∷ []) in
-        let long = sym (ap length (whole-with goes)) ∙ length-append (g .done ++ (e ∷ [])) (entriesFrom p ds next) in
-        let over : ltb 32 (length (entriesOf p ds)) ≡ true = lt-ltb 32 (length (entriesOf p ds)) (omega arith) in
-        (rw over, rw over)
+      pub crowded
+          : {next : ℕ} {e : Entry}
+          → count ≡ 32
+          → Goes p ds start next (e ∷ [])
+          → (refused 15 0 ≡ indexRule p ds) × (replicate 32 noEntry ≡ indexEntries p ds)
+      unfolding crowdRule handedBack
+      crowded {next} {e} full goes =
+          let same = g .counted in
+          let first = length-append (g .done) (e ∷ []) in
+          let long = sym (ap length (whole-with goes)) ∙ length-append (g .done ++ (e ∷ [])) (entriesFrom p ds next) in
+          let over : ltb 32 (length (entriesOf p ds)) ≡ true = lt-ltb 32 (length (entriesOf p ds)) (omega arith) in
+          let rule = crowd-decides p ds fair (refused 15 0) (rw over) in
+          (rule, handed-back p ds _ rule)

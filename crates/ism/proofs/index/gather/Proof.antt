@@ -1,0 +1,146 @@
+-- Why `index::gather` answers the index of the track: a refusal of the profile decides; else each search goes on where
+-- the one before says, and the entry that begins at its lock is stored as it crosses. Rests on no axiom.
+use Prim.Native.Nat.{ℕ, _-_, _<_}
+use mathlib.Core.Path.{_≡_, refl, sym, ap, _∙_}
+use mathlib.Core.List.{List, [], _∷_, map}
+use mathlib.Core.Logic.{⊎-elim}
+use native.Mathlib.Omega.{arith}
+use borrow.Author.Needs.{needs}
+use lib.ListN.{length, set, replicate}
+use Rattle.lists.proofs.StoreLaws.{map-of-set}
+use Rattle.refusal.specs.Answer.{countedAnswer}
+use Rattle.refusal.proofs.AnswerLaws.{verdict-accepts}
+use Rattle.timing.specs.Profile.{profileRule}
+use Rattle.timing.specs.declared.Profile.{Profile}
+use Rattle.track.specs.Index.{noEntry, indexRule, indexEntries}
+use Rattle.track.specs.declared.Entry.{Entry}
+use Rattle.track.proofs.GatherLaws.{profile-refuses, Goes, end-means, other-means, begins-means, goes-ahead, Gathered}
+use Rattle.track.proofs.GatherLaws.{nothing-gathered, gathered-on, gathered-entry, all-gathered, crowded}
+use Rattle.ism.specs.Indexes.{indexEntryOf}
+use Rattle.ism.specs.declared.index.IsmIndexEntry.{IsmIndexEntry}
+use Rattle.ism.proofs.index.gather.Statement.{statement}
+use Rattle.ism.proofs.index.gather.Tie as tie
+
+-- under an accepted profile, the entries gathered as they cross
+record Crossed (p : Profile) (ds : List ℕ) (entries : List IsmIndexEntry) (count start : ℕ) : Type 0 where
+  pub fair : profileRule p .number ≡ 0
+  pub found : List Entry
+  pub gathered : Gathered p ds found count start
+  pub cross : entries ≡ map indexEntryOf found
+
+abbrev Inv-search : tie.InvT-search
+Inv-search p intervals entries₀ count₀ start₀ entries count start = Crossed p intervals entries count start
+
+abbrev μ-search : tie.MeasureT-search
+μ-search p intervals entries₀ count₀ start₀ entries count start = length intervals - start
+
+-- a search that adds nothing
+passes
+    : (c : tie.After-known-told2 Inv-search μ-search)
+    → let turn = c .before .before .before .before in
+    let args = turn .before .before .before .before .before .args in
+    Goes (args .p) (args .intervals .now) (turn .search .start) (c .before .next .given .0 .0) []
+passes c = other-means _ _ _ _ (sym (c .before .next .given .1) ∙ c .before .before .before .find-entry .ensures)
+
+-- a search that adds an entry
+begins
+    : (c : tie.After-known-told3 Inv-search μ-search)
+    → let turn = c .before .before .before .before in
+    let args = turn .before .before .before .before .before .args in
+    let values = c .before .entry .given .0 in
+    Goes (args .p) (args .intervals .now) (turn .search .start) (values .1 .0) (values .0 ∷ [])
+begins c = begins-means _ _ _ _ _ (sym (c .before .entry .given .1) ∙ c .before .before .before .find-entry .ensures)
+
+-- room for one more
+room
+    : (c : tie.After-converted Inv-search μ-search)
+    → c .before .before .before .before .before .before .search .count < 32
+room c =
+    let few = c .before .before .before .before .before .before .search .inv .gathered .few in
+    omega (arith, c .before .if1 .left)
+
+search-holds : tie.Need-search-holds Inv-search μ-search
+search-holds c =
+    let args = c .before .before .before .before .args in
+    record {
+      fair = verdict-accepts _ _ (c .before .before .check .ensures) (c .enum-told .given .1);
+      found = replicate 32 noEntry;
+      gathered = nothing-gathered (args .p) (args .intervals .now);
+      cross = refl;
+    }
+
+search-less : tie.Need-search-less Inv-search μ-search
+search-less c =
+    let ahead = goes-ahead (passes c) in omega arith
+
+search-again : tie.Need-search-again Inv-search μ-search
+search-again c =
+    let so-far = c .before .before .before .before .search .inv in
+    record {
+      fair = so-far .fair;
+      found = so-far .found;
+      gathered = gathered-on (so-far .gathered) (passes c);
+      cross = so-far .cross;
+    }
+
+mul-entries : tie.Need-mul-entries Inv-search μ-search
+mul-entries c = omega (arith, room c)
+
+array-set-from-entries : tie.Need-array-set-from-entries Inv-search μ-search
+array-set-from-entries c = room c
+
+add-count : tie.Need-add-count Inv-search μ-search
+add-count c = omega (arith, room c)
+
+search-less-2 : tie.Need-search-less-2 Inv-search μ-search
+search-less-2 c =
+    let ahead = goes-ahead (begins (c .before .before)) in omega arith
+
+search-again-2 : tie.Need-search-again-2 Inv-search μ-search
+search-again-2 c =
+    let turn = c .before .before .before .before .before .before in
+    let so-far = turn .search .inv in
+    let entry = c .before .before .before .entry .given .0 .0 in
+    record {
+      fair = so-far .fair;
+      found = set (so-far .found) (turn .search .count) entry;
+      gathered = gathered-entry (so-far .gathered) (room c) (begins (c .before .before));
+      cross =
+          rw (so-far .cross, c .converted .ensures)
+          (sym (map-of-set indexEntryOf (so-far .found) (turn .search .count) entry));
+    }
+
+-- how the search ended: the profile is refused, no lock is left, or a 33rd entry begins
+ended
+    : (c : tie.At-match-came Inv-search μ-search)
+    → let args = c .before .before .before .args in
+    (countedAnswer (c .match .found) ≡ indexRule (args .p) (args .intervals .now))
+    × (c .match .entries ≡ map indexEntryOf (indexEntries (args .p) (args .intervals .now)))
+ended c =
+    ⊎-elim
+    (λ w.
+    let index = profile-refuses _ _ _ _ (c .before .check .ensures) (w .1 .given .1) in
+    (ap countedAnswer (w .6) ∙ index .0, w .3 ∙ ap (map indexEntryOf) (index .1)))
+    (⊎-elim
+    (λ w.
+    let so-far = w .2 .inv in
+    let none = end-means _ _ _ (sym (w .5 .given .1) ∙ w .3 .ensures) in
+    let index = all-gathered (so-far .gathered) (so-far .fair) none in
+    (ap countedAnswer (w .9) ∙ index .0, w .6 ∙ so-far .cross ∙ ap (map indexEntryOf) (index .1)))
+    (λ w.
+    let so-far = w .2 .inv in
+    let begun = begins-means _ _ _ _ _ (sym (w .5 .given .1) ∙ w .3 .ensures) in
+    let index = crowded (so-far .gathered) (so-far .fair) (w .7 .taken) begun in
+    (ap countedAnswer (w .11) ∙ index .0, w .8 ∙ ap (map indexEntryOf) (index .1))))
+    (c .match .came)
+
+returns : tie.Need-returns Inv-search μ-search
+returns c = rw (c .answer .ensures, ended (c .before) .0, ended (c .before) .1)
+
+pub gather-spec : {M : Type 1} → statement M
+gather-spec =
+    tie.close
+    (tie.spec Inv-search μ-search (λ c κs. search needs) (λ c. search needs) (λ c. search needs) search-holds
+    (λ c κs. search needs) (λ c. search needs) (λ c. search needs) search-less search-again (λ c. search needs)
+    (λ c κs. search needs) mul-entries array-set-from-entries add-count search-less-2 search-again-2
+    (λ c κs. search needs) returns)
