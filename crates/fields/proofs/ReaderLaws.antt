@@ -2,15 +2,15 @@
 -- there are. Rests on no axiom.
 use Prim.Native.Nat.{ℕ, zero, suc, _≤_}
 use mathlib.Core.Path.{_≡_, _∙_}
-use mathlib.Core.Bool.{Bool, true, false, cond, _||_, true≢false}
+use mathlib.Core.Bool.{Bool, true, false, cond}
 use mathlib.Mathlib.Data.Bool.Basic.{or-eq-false-eq-eq-false-and-eq-false}
 use mathlib.Core.List.{List, [], _∷_}
 use native.Mathlib.Omega.{arith}
-use borrow.Author.Tests.{ltb-false}
+use borrow.Author.Tests.{ltb-false, le-ltb, eq-eqb}
 use lib.Dec.{eqb, ltb}
 use lib.ListN.{length}
 use Rattle.refusal.specs.Table.{numberOf, placeOf}
-use Rattle.refusal.specs.Answer.{Answer, accepted, refused, refuseIf}
+use Rattle.refusal.specs.Answer.{Answer, refused, refuseIf}
 use Rattle.refusal.specs.declared.Refusal.{Refusal}
 use Rattle.refusal.proofs.AnswerLaws.{number-is-not-zero, refusal-decides, refusal-keeps-the-buffer}
 use Rattle.refusal.proofs.AnswerLaws.{first-refusal-accepts, refuse-if-accepts, acceptance-fills-the-buffer}
@@ -27,7 +27,7 @@ use Rattle.fields.specs.FieldRule.{FieldAnswer, fieldTurnedAway, gatherR
 use Rattle.fields.specs.FieldRule.{checkedOutput, fieldRule, fieldReading, fieldOutput}
 use Rattle.fields.proofs.TakenLaws.{taken-one-more}
 use Rattle.fields.proofs.FieldLaws.{field-items-count}
-use Rattle.fields.proofs.RuleLaws.{refusal-is-no-acceptance, gather-stops-nowhere, fills-all}
+use Rattle.fields.proofs.RuleLaws.{gather-stops-nowhere, fills-all}
 
 module _ (p : Profile) (ds : List ℕ) (n : ℕ) (old : List ℕ) where
   abbrev Settles : FieldAnswer → List ℕ → Type 0
@@ -45,36 +45,24 @@ module _ (p : Profile) (ds : List ℕ) (n : ℕ) (old : List ℕ) where
         refusal-keeps-the-buffer r (fieldRule p ds n (length old)) (fieldItems (classesOf p ds) n) old decides,
       )
 
-  -- where that is read in place, the rule accepts only what is read below these tests
-  abbrev Accepts : Type 0
-  Accepts = fieldRule p ds n (length old) .number ≡ 0
-
-  pub profile-refuses-in-place : (r : Refusal) → refused (numberOf r) (placeOf r) ≡ profileRule p → Accepts → ⊥
-  unfolding fieldRule
-  profile-refuses-in-place r e accepts =
-      refusal-is-no-acceptance r (profileRule p) e (first-refusal-accepts (profileRule p) _ accepts .0)
-
-  pub checked-in-place
-      : Accepts → (outside 1 1030 n ≡ false) × (checkedRule (classesOf p ds) n (length old) .number ≡ 0)
-  unfolding fieldRule
-  checked-in-place accepts =
-      refuse-if-accepts (outside 1 1030 n) 11 0 _ (first-refusal-accepts (profileRule p) _ accepts .1)
-
-  module _ (fair : accepted 0 ≡ profileRule p) where
+  module _ (fair : profileRule p .number ≡ 0) where
     pub count-refuses : outside 1 1030 n ≡ true → Settles (fieldTurnedAway (refused 12 0)) old
     unfolding fieldReading fieldOutput fieldRule
-    count-refuses h = (rw (← fair, h), rw (← fair, h))
+    count-refuses h = (rw (eq-eqb _ 0 fair, h), rw (eq-eqb _ 0 fair, h))
 
     pub checked-settles
         : outside 1 1030 n ≡ false
         → Settles (checkedReading (classesOf p ds) n (length old)) (checkedOutput (classesOf p ds) n old)
     unfolding fieldReading fieldOutput fieldRule checkedReading checkedOutput
-    checked-settles h = (rw (← fair, h), rw (← fair, h))
+    checked-settles h = (rw (eq-eqb _ 0 fair, h), rw (eq-eqb _ 0 fair, h))
 
 pub count-in-range : (n : ℕ) → outside 1 1030 n ≡ false → (1 ≤ n) × (n ≤ 1030)
 count-in-range n h =
     let both = or-eq-false-eq-eq-false-and-eq-false (ltb n 1) (ltb 1030 n) .0 h in
     (ltb-false n 1 (both .0), ltb-false 1030 n (both .1))
+
+pub range-of-count : (n : ℕ) → 1 ≤ n → n ≤ 1030 → outside 1 1030 n ≡ false
+range-of-count n low high = rw (le-ltb n 1 low, le-ltb 1030 n high)
 
 -- ---- a buffer as long as the field, where it is accepted
 

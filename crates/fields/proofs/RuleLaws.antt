@@ -2,10 +2,10 @@
 -- output. Rests on no axiom.
 use Prim.Native.Nat.{ℕ, _≤_}
 use mathlib.Core.Path.{_≡_, sym, ap, _∙_}
-use mathlib.Core.Bool.{false, true≢false}
+use mathlib.Core.Bool.{false}
 use mathlib.Core.List.{List, append-nil}
 use native.Mathlib.Omega.{arith}
-use borrow.Author.Tests.{le-ltb, eq-eqb}
+use borrow.Author.Tests.{le-ltb}
 use lib.Dec.{ltb}
 use lib.ListN.{length, take, drop-of-length-le}
 use Rattle.lists.specs.Filled.{filled}
@@ -18,13 +18,9 @@ use Rattle.refusal.proofs.AnswerLaws.{first-refusal-accepts, first-refusal-pass
 use Rattle.timing.specs.declared.Class.{Class}
 use Rattle.fields.specs.Field.{fieldStop, fieldUsed, fieldItems, fieldHolds, fieldStray}
 use Rattle.fields.specs.Field.{fieldStrayPlace, holdsAfter}
-use Rattle.fields.specs.FieldRule.{gatherRule, GathersItems, deliverRule, deliverReading, deliverOutput}
-use Rattle.fields.specs.FieldRule.{fieldTurnedAway, checkedRule, checkedReading, checkedOutput}
+use Rattle.fields.specs.FieldRule.{gatherRule, GathersItems, FillsItems, deliverRule, deliverReading}
+use Rattle.fields.specs.FieldRule.{deliverOutput, fieldTurnedAway, checkedRule, checkedReading, checkedOutput}
 use Rattle.fields.proofs.FieldLaws.{field-items-count}
-
-pub refusal-is-no-acceptance : (r : Refusal) (a : Answer) → refused (numberOf r) (placeOf r) ≡ a → a .number ≡ 0 → ⊥
-refusal-is-no-acceptance r a e none =
-    true≢false (sym (eq-eqb (numberOf r) 0 (ap (λ (x : Answer). x .number) e ∙ none)) ∙ number-is-not-zero r)
 
 module _ (cs : List Class) (n : ℕ) where
   pub gather-stops-nowhere : gatherRule cs n .number ≡ 0 → fieldStop cs n .number ≡ 0
@@ -55,15 +51,6 @@ module _ (cs : List Class) (n : ℕ) where
         refusal-keeps-the-buffer r (checkedRule cs n (length old)) (fieldItems cs n) old decides,
       )
 
-  pub gather-refuses-in-place
-      : (r : Refusal) (room : ℕ)
-      → refused (numberOf r) (placeOf r) ≡ gatherRule cs n
-      → checkedRule cs n room .number ≡ 0
-      → ⊥
-  unfolding checkedRule
-  gather-refuses-in-place r room e =
-      refusal-is-no-acceptance r _ (refusal-decides r (gatherRule cs n) (deliverRule n room) e)
-
   -- an acceptance leaves the room to what was gathered in a buffer
   pub gather-delivers
       : (used : ℕ) (buffer stored old : List ℕ)
@@ -87,22 +74,25 @@ unfolding filled
 fills-all vs old h = rw (drop-of-length-le old h) (append-nil vs)
 
 -- the same where the buffer is as long as the field, and is the output
-pub gather-fills
-    : (cs : List Class) (used : ℕ) (buffer stored : List ℕ)
-    → accepted used ≡ gatherRule cs (length buffer)
-    → GathersItems cs (length buffer) buffer stored
-    → (record { answer = accepted (length buffer); used = used; holds = holdsAfter stored }
-    ≡ checkedReading cs (length buffer) (length buffer))
-    × (stored ≡ checkedOutput cs (length buffer) buffer)
-unfolding checkedReading checkedOutput checkedRule deliverRule fieldHolds
-gather-fills cs used buffer stored e store =
-    let n : ℕ = length buffer in
-    let zero : gatherRule cs n .number ≡ 0 = sym (ap (λ (a : Answer). a .number) e) in
-    let used-is : used ≡ fieldUsed cs n = ap (λ (a : Answer). a .count) (e ∙ gather-counts-used cs n zero) in
-    let count : length (fieldItems cs n) ≡ n = field-items-count cs n (gather-stops-nowhere cs n zero) in
-    let filled-is : stored ≡ filled (fieldItems cs n) buffer =
-    store zero ∙ stored-at-front-fills (fieldItems cs n) buffer (omega arith) in
-    let same : stored ≡ fieldItems cs n = filled-is ∙ fills-all (fieldItems cs n) buffer (omega arith) in
-    let passes = first-refusal-passes (gatherRule cs n) (refuseIf (ltb n n) 9 0 (accepted n)) zero in
-    let room : ltb n n ≡ false = le-ltb n n (omega arith) in
-    (rw (passes, room, used-is, same), rw (passes, room) filled-is)
+module _ (cs : List Class) (buffer stored : List ℕ) (store : GathersItems cs (length buffer) buffer stored) where
+  abbrev n : ℕ
+  n = length buffer
+
+  pub gather-fills : FillsItems cs n stored
+  gather-fills zero =
+      let count : length (fieldItems cs n) ≡ n = field-items-count cs n (gather-stops-nowhere cs n zero) in
+      store zero
+      ∙ stored-at-front-fills (fieldItems cs n) buffer (omega arith)
+      ∙ fills-all (fieldItems cs n) buffer (omega arith)
+
+  pub gather-reads
+      : (used : ℕ)
+      → accepted used ≡ gatherRule cs n
+      → record { answer = accepted n; used = used; holds = holdsAfter stored } ≡ checkedReading cs n n
+  unfolding checkedReading checkedRule deliverRule fieldHolds
+  gather-reads used e =
+      let zero : gatherRule cs n .number ≡ 0 = sym (ap (λ (a : Answer). a .number) e) in
+      let used-is : used ≡ fieldUsed cs n = ap (λ (a : Answer). a .count) (e ∙ gather-counts-used cs n zero) in
+      let passes = first-refusal-passes (gatherRule cs n) (refuseIf (ltb n n) 9 0 (accepted n)) zero in
+      let room : ltb n n ≡ false = le-ltb n n (omega arith) in
+      rw (passes, room, used-is, gather-fills zero)

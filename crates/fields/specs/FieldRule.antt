@@ -28,6 +28,10 @@ gatherRule cs n =
 abbrev pub GathersItems : List Class → ℕ → List ℕ → List ℕ → Type 0
 GathersItems cs n old new = gatherRule cs n .number ≡ 0 → new ≡ storedAt old 0 (fieldItems cs n)
 
+-- where the buffer is as long as the field
+abbrev pub FillsItems : List Class → ℕ → List ℕ → Type 0
+FillsItems cs n new = gatherRule cs n .number ≡ 0 → new ≡ fieldItems cs n
+
 -- 9; else the number of items
 unfoldable pub deliverRule : ℕ → ℕ → Answer
 deliverRule n room = refuseIf (ltb room n) 9 0 (accepted n)
@@ -69,11 +73,6 @@ checkedReading cs n room = answerWith (checkedRule cs n room) (fieldUsed cs n) (
 unfoldable pub checkedOutput : List Class → ℕ → List ℕ → List ℕ
 checkedOutput cs n old = settled (checkedRule cs n (length old)) (fieldItems cs n) old
 
--- what a buffer as long as the field holds, read in place, where that is accepted
-abbrev pub FillsItems : List Class → List ℕ → List ℕ → Type 0
-FillsItems cs old new =
-    checkedRule cs (length old) (length old) .number ≡ 0 → new ≡ checkedOutput cs (length old) old
-
 -- the field reader's number, place and count
 unfoldable pub fieldRule : Profile → List ℕ → ℕ → ℕ → Answer
 fieldRule p ds n room =
@@ -88,10 +87,6 @@ fieldReading p ds n room =
 -- what the output holds afterwards
 unfoldable pub fieldOutput : Profile → List ℕ → ℕ → List ℕ → List ℕ
 fieldOutput p ds n old = settled (fieldRule p ds n (length old)) (fieldItems (classesOf p ds) n) old
-
--- what a buffer as long as the field holds, read in place, where that is accepted
-abbrev pub ReadsInPlace : Profile → List ℕ → List ℕ → List ℕ → Type 0
-ReadsInPlace p ds old new = fieldRule p ds (length old) (length old) .number ≡ 0 → new ≡ fieldOutput p ds (length old) old
 
 -- the rest of the caller's list, from the first unused interval; on a refusal, the whole list
 unfoldable pub fieldRest : Profile → List ℕ → ℕ → ℕ → List ℕ

@@ -3,14 +3,12 @@ ghost use Prim.Native.Nat.{_≤_};
 ghost use mathlib.Core.Path.{_≡_};
 ghost use lib.ListN.{length};
 ghost use Rattle.lists.specs.Filled.{filled};
-ghost use Rattle.refusal.specs.Answer.{countedAnswer};
 ghost use Rattle.timing.specs.Profile.{profileRule};
 ghost use Rattle.timing.specs.Class.{classesOf};
 ghost use Rattle.fields.specs.Field.{holdsAfter};
 ghost use Rattle.fields.specs.FieldRule.{deliverReading, deliverOutput, fieldAnswer};
 ghost use Rattle.fields.specs.FieldRule.{checkedReading, checkedOutput, fieldReading, fieldOutput};
-ghost use Rattle.fields.specs.FieldRule.{FillsItems, ReadsInPlace};
-ghost use Rattle.fields.specs.FieldRule.{fieldRest, restPlace};
+ghost use Rattle.fields.specs.FieldRule.{FillsItems, fieldRest, restPlace};
 use crate::gather::gather;
 use items::Check;
 use refusal::Counted;
@@ -135,14 +133,17 @@ pub fn read_rest<'a>(p: Profile, intervals: &'a [u16], n: usize, out: &mut [u16]
     }
 }
 
-// A field that is as long as the buffer, under an accepted profile.
-fn fill(p: Profile, intervals: &[u16], items: &mut [u16]) -> FieldRead
+// Reads a field that is as long as the caller's buffer where its items are to stand, without a buffer between: after a
+// refusal other numbers may stand there. Who reads field after field has checked the profile once.
+pub fn read_in_place(p: Profile, intervals: &[u16], items: &mut [u16]) -> FieldRead
     requires { ⌜ profileRule p .number ≡ 0 ⌝ }
     requires { ⌜ (1 ≤ length (now items)) × (length (now items) ≤ 1030) ⌝ }
     ensures answer { λ r. ⌜
         fieldAnswer r
-        ≡ checkedReading (classesOf p (now (intervals .entry))) (length (now (items .entry))) (length (now (items .entry))) ⌝ }
-    ensures items { λ _. ⌜ FillsItems (classesOf p (now (intervals .entry))) (now (items .entry)) (now (items .exit)) ⌝ }
+        ≡ checkedReading (classesOf p (now (intervals .entry))) (length (now (items .entry)))
+        (length (now (items .entry))) ⌝ }
+    ensures items { λ _. ⌜
+        FillsItems (classesOf p (now (intervals .entry))) (length (now (items .entry))) (now (items .exit)) ⌝ }
 {
     let n = items.len();
     match gather(p, intervals, n as u32, items) {
@@ -152,25 +153,5 @@ fn fill(p: Profile, intervals: &[u16], items: &mut [u16]) -> FieldRead
             used,
             holds: holds(items),
         },
-    }
-}
-
-// Reads a field that is as long as the caller's buffer where its items are to stand, without a buffer between: after a
-// refusal other numbers may stand there.
-pub fn read_in_place(p: Profile, intervals: &[u16], items: &mut [u16]) -> FieldRead
-    ensures answer { λ r. ⌜
-        fieldAnswer r
-        ≡ fieldReading p (now (intervals .entry)) (length (now (items .entry))) (length (now (items .entry))) ⌝ }
-    ensures items { λ _. ⌜ ReadsInPlace p (now (intervals .entry)) (now (items .entry)) (now (items .exit)) ⌝ }
-{
-    let n = items.len();
-    match timing::check(p) {
-        Verdict::Refused(refusal) => FieldRead::Refused(refusal),
-        Verdict::Accepted => {
-            if (n < 1) | (MAX_FIELD_BYTES < n) {
-                return FieldRead::Refused(Refusal::CountOutOfRange);
-            }
-            fill(p, intervals, items)
-        }
     }
 }

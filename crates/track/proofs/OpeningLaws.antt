@@ -12,10 +12,10 @@ use Rattle.refusal.specs.Answer.{Answer}
 use Rattle.timing.specs.Class.{classesOf}
 use Rattle.timing.specs.declared.Profile.{Profile}
 use Rattle.fields.specs.Field.{fieldItems}
-use Rattle.fields.specs.FieldRule.{fieldTurnedAway, fieldRule, fieldReading, fieldOutput}
+use Rattle.fields.specs.FieldRule.{FillsItems, fieldTurnedAway, fieldRule, fieldReading}
 use Rattle.fields.specs.Lock.{beginsWith}
 use Rattle.fields.specs.Marks.{threeMarks}
-use Rattle.fields.proofs.ReaderLaws.{output-is-items}
+use Rattle.fields.proofs.ReaderLaws.{gather-accepts, output-is-items}
 use Rattle.fields.proofs.MarksLaws.{afterMarks, marks-ahead}
 use Rattle.track.specs.FieldKinds.{fieldOf, itemsOf, reads, opensWith}
 use Rattle.track.specs.machine.Steps.{opens, openedOf, GivesItems}
@@ -36,7 +36,7 @@ module _ (p : Profile) (ds : List ℕ) (n : ℕ) where
   same-answer true a used holds = refl
   same-answer false a used holds = refl
 
-  pub reading-is-accepted : reads p ds n ≡ true → fieldRule p ds n n .number ≡ 0
+  reading-is-accepted : reads p ds n ≡ true → fieldRule p ds n n .number ≡ 0
   unfolding reads fieldOf fieldReading
   reading-is-accepted e =
       sym (ap (λ (a : Answer). a .number) (same-answer (eqb (fieldRule p ds n n .number) 0) (fieldRule p ds n n) _ _))
@@ -47,9 +47,11 @@ module _ (p : Profile) (ds : List ℕ) (n : ℕ) where
   items-are-read e =
       output-is-items p ds n (reading-is-accepted e) (replicate n 0) (length-replicate n 0)
 
-  -- a buffer as long as the field has them
-  pub items-in-place : reads p ds n ≡ true → (old : List ℕ) → length old ≡ n → fieldOutput p ds n old ≡ itemsOf p ds n
-  items-in-place e old same = output-is-items p ds n (reading-is-accepted e) old same ∙ sym (items-are-read e)
+  -- a buffer that was filled has them
+  pub items-in-place
+      : (new : List ℕ) → FillsItems (classesOf p ds) n new → reads p ds n ≡ true → new ≡ itemsOf p ds n
+  items-in-place new fills e =
+      fills (gather-accepts p ds n (reading-is-accepted e)) ∙ sym (items-are-read e)
 
   -- ---- of a kind or of none
 

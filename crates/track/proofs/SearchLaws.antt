@@ -10,8 +10,10 @@ use borrow.Author.Tests.{eqb-true, eq-eqb, leb-true}
 use lib.Dec.{eqb, leb}
 use lib.ListN.{length, drop, replicate, length-drop}
 use Rattle.refusal.specs.Table.{numberOf, placeOf}
-use Rattle.refusal.specs.Answer.{Answer, accepted, refused}
+use Rattle.refusal.specs.Answer.{Answer, accepted, refused, countedAnswer}
 use Rattle.refusal.specs.declared.Refusal.{Refusal}
+use Rattle.refusal.specs.declared.Counted.{Counted}
+use Rattle.refusal.specs.declared.Counted.the-variants.{Count, Refused}
 use Rattle.refusal.proofs.AnswerLaws.{number-is-not-zero, first-refusal-accepts, first-refusal-passes}
 use Rattle.timing.specs.Profile.{profileRule}
 use Rattle.timing.specs.Class.{classesOf}
@@ -20,7 +22,7 @@ use Rattle.timing.specs.declared.Class.{Class}
 use Rattle.timing.proofs.ClassLaws.{classes-length}
 use Rattle.fields.specs.Lock.{beginsWith, markAhead, lockAt, lockFrom, searchRule, findRule}
 use Rattle.fields.proofs.FinderLaws.{lock-is-within}
-use Rattle.fields.proofs.FirstLockLaws.{lock-from-found}
+use Rattle.fields.proofs.FirstLockLaws.{lock-from-found, search-finds}
 use Rattle.track.specs.FieldKinds.{isId, isData, dataBytes}
 use Rattle.track.specs.Index.{hasLock, lockPlace, fieldEnd, hasData, idByte, entryEnd}
 use Rattle.track.specs.Index.{nextStart, entriesAt, entriesBy, entriesFrom}
@@ -35,6 +37,14 @@ module _ (p : Profile) (ds : List ℕ) (start : ℕ) where
       : (r : Refusal) → refused (numberOf r) (placeOf r) ≡ findRule p ds start → hasLock p ds start ≡ false
   unfolding hasLock
   refused-is-no-lock r e = rw (sym e, number-is-not-zero r)
+
+  -- as the search answers it
+  module _ (fair : profileRule p .number ≡ 0) (found : Counted) (e : countedAnswer found ≡ searchRule p ds start) where
+    pub search-refuses : (r : Refusal) → found ≡ Refused r → hasLock p ds start ≡ false
+    search-refuses r q = refused-is-no-lock r (sym (ap countedAnswer q) ∙ e ∙ search-finds p ds start fair)
+
+    pub search-counts : (k : ℕ) → found ≡ Count k → accepted k ≡ findRule p ds start
+    search-counts k q = sym (ap countedAnswer q) ∙ e ∙ search-finds p ds start fair
 
   pub found-is-lock
       : (k : ℕ) → accepted k ≡ findRule p ds start → (hasLock p ds start ≡ true) × (lockPlace p ds start ≡ k)

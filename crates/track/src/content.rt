@@ -17,6 +17,7 @@ pub struct Sought {
 
 // As many bytes as three marks, FB, the data of the code and two check bytes are.
 fn read_data(p: Profile, intervals: &[u16], code: u8) -> Opened
+    requires { ⌜ profileRule p .number ≡ 0 ⌝ }
     ensures { λ r. ⌜ r ≡ dataRead p (now (intervals .entry)) code ⌝ }
 {
     let n = sectors::sector_size(code) + 6;

@@ -3,6 +3,7 @@ ghost use Prim.Native.Nat.{_≤_};
 ghost use mathlib.Core.Path.{_≡_};
 ghost use mathlib.Core.Bool.{true};
 ghost use lib.ListN.{length};
+ghost use Rattle.timing.specs.Profile.{profileRule};
 ghost use Rattle.track.specs.FieldKinds.{identifies};
 ghost use Rattle.track.specs.machine.Steps.{idWith, identified, idRead};
 use crate::opening::Opened;
@@ -60,6 +61,7 @@ fn identify(items: &[u16], used: usize) -> IdRead
 
 // The intervals begin at a lock.
 pub fn read_id(p: Profile, intervals: &[u16]) -> IdRead
+    requires { ⌜ profileRule p .number ≡ 0 ⌝ }
     ensures { λ r. ⌜ r ≡ idRead p (now (intervals .entry)) ⌝ }
 {
     let mut items = [0u16; 10];

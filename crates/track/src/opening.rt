@@ -2,6 +2,7 @@
 ghost use Prim.Native.Nat.{_≤_};
 ghost use mathlib.Core.Path.{_≡_};
 ghost use lib.ListN.{length};
+ghost use Rattle.timing.specs.Profile.{profileRule};
 ghost use Rattle.track.specs.FieldKinds.{opensWith};
 ghost use Rattle.track.specs.machine.Steps.{openedOf, GivesItems};
 use fields::finder::three_marks_ahead;
@@ -27,7 +28,8 @@ pub fn opens_with(items: &[u16], kind: u16) -> bool
 
 // The field is as long as the buffer; the intervals begin at a lock.
 fn read_marked(p: Profile, intervals: &[u16], kind: u16, items: &mut [u16]) -> Opened
-    requires { ⌜ 4 ≤ length (now items) ⌝ }
+    requires { ⌜ profileRule p .number ≡ 0 ⌝ }
+    requires { ⌜ (4 ≤ length (now items)) × (length (now items) ≤ 1030) ⌝ }
     ensures answer { λ r. ⌜ r ≡ openedOf p (now (intervals .entry)) (length (now (items .entry))) kind ⌝ }
     ensures items { λ _. ⌜ GivesItems p (now (intervals .entry)) kind (now (items .entry)) (now (items .exit)) ⌝ }
 {
@@ -44,7 +46,8 @@ fn read_marked(p: Profile, intervals: &[u16], kind: u16, items: &mut [u16]) -> O
 
 // Most of what a lock precedes on a worn track is seen to be no field of a sector by its first intervals.
 pub fn read_opened(p: Profile, intervals: &[u16], kind: u16, items: &mut [u16]) -> Opened
-    requires { ⌜ 4 ≤ length (now items) ⌝ }
+    requires { ⌜ profileRule p .number ≡ 0 ⌝ }
+    requires { ⌜ (4 ≤ length (now items)) × (length (now items) ≤ 1030) ⌝ }
     ensures answer { λ r. ⌜ r ≡ openedOf p (now (intervals .entry)) (length (now (items .entry))) kind ⌝ }
     ensures items { λ _. ⌜ GivesItems p (now (intervals .entry)) kind (now (items .entry)) (now (items .exit)) ⌝ }
 {

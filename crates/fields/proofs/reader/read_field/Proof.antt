@@ -10,8 +10,7 @@ use Rattle.fields.proofs.reader.read_field.Tie as tie
 
 returns : tie.Need-returns
 returns c =
-    let fair =
-    sym (ap verdictAnswer (c .before .enum-told .given .1)) ∙ c .before .before .before .check .ensures in
+    let fair = verdict-accepts _ _ (c .before .before .before .check .ensures) (c .before .enum-told .given .1) in
     count-refuses _ _ _ _ fair (c .if1 .taken)
 
 read-checked-requires : tie.Need-read-checked-requires
@@ -37,12 +36,8 @@ returns-3 c =
     let verdict = tested .before .before .before in
     let args = verdict .before .before .before .args in
     let settles =
-    checked-settles
-    (args .p)
-    (args .intervals .now)
-    (args .n)
-    (args .out .now)
-    (sym (ap verdictAnswer (tested .before .enum-told .given .1)) ∙ verdict .check .ensures)
+    checked-settles (args .p) (args .intervals .now) (args .n) (args .out .now)
+    (verdict-accepts _ _ (verdict .check .ensures) (tested .before .enum-told .given .1))
     (tested .if1 .left) in
     (c .before .before .read-checked .ensures .0 ∙ settles .0, c .before .before .read-checked .ensures .1 ∙ settles .1)
 

@@ -5,30 +5,25 @@ use mathlib.Core.Path.{_≡_, sym, ap, _∙_}
 use mathlib.Core.List.{List}
 use native.Mathlib.Omega.{arith}
 use lib.ListN.{length, drop}
-use Rattle.refusal.specs.Answer.{accepted, countedAnswer}
+use Rattle.refusal.specs.Answer.{accepted}
 use Rattle.fields.specs.Lock.{findRule}
 use Rattle.fields.proofs.LockLaws.{part-to-end}
-use Rattle.fields.proofs.FirstLockLaws.{search-finds}
 use Rattle.track.specs.machine.Steps.{dataRead}
-use Rattle.track.proofs.SearchLaws.{refused-is-no-lock}
+use Rattle.track.proofs.SearchLaws.{search-refuses, search-counts}
 use Rattle.track.proofs.StepLaws.{no-lock-no-data, found-is-within, other-lock-no-data, data-ends-within}
 use Rattle.track.proofs.StepLaws.{data-is-sought}
 use borrow.Author.Needs.{needs}
 use Rattle.track.proofs.content.find_data.Statement.{statement}
 use Rattle.track.proofs.content.find_data.Tie as tie
 
-answered
-    : (c : tie.After-search)
-    → let args = c .before .before .args in
-    countedAnswer (c .search .result) ≡ findRule (args .p) (args .intervals .now) (args .start)
-answered c = c .search .ensures ∙ search-finds _ _ _ (c .before .before .pre)
-
 -- the lock that was found
 found
     : (c : tie.After-known-told)
     → let args = c .before .before .before .before .before .args in
     accepted (c .before .k .given .0 .0) ≡ findRule (args .p) (args .intervals .now) (args .start)
-found c = sym (ap countedAnswer (c .before .k .given .1)) ∙ answered (c .before .before .before)
+found c =
+    let searched = c .before .before .before in
+    search-counts _ _ _ (searched .before .before .pre) _ (searched .search .ensures) _ (c .before .k .given .1)
 
 within
     : (c : tie.After-known-told)
@@ -68,9 +63,9 @@ add-t20 c =
 
 returns : tie.Need-returns
 returns c =
+    let searched = c .before .before in
     no-lock-no-data _ _ _ _
-    (refused-is-no-lock _ _ _ (c .enum-told .given .0 .0)
-    (sym (ap countedAnswer (c .enum-told .given .1)) ∙ answered (c .before .before)))
+    (search-refuses _ _ _ (searched .before .before .pre) _ (searched .search .ensures) _ (c .enum-told .given .1))
 
 returns-2 : tie.Need-returns-2
 returns-2 c =

@@ -41,7 +41,7 @@ slice-aggregate-read-opened : tie.Need-slice-aggregate-read-opened
 slice-aggregate-read-opened c = sym (front-length (c .before))
 
 read-opened-requires : tie.Need-read-opened-requires
-read-opened-requires c κs = rw (front-length (c .before)) (within (c .before) .0)
+read-opened-requires c κs = (c .before .before .before .pre, rw (front-length (c .before)) (within (c .before)))
 
 returns : tie.Need-returns
 unfolding dataRead
