@@ -2,3 +2,4 @@ pub mod CellLaws
 pub mod ClassCellLaws
 pub mod NearLaws
 pub mod PassLaws
+pub mod FoursLaws

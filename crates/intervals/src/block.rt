@@ -1,12 +1,17 @@
 // A block of intervals: their units at once, and then the reading machine, cell by cell.
-ghost use Prim.Native.Nat.{_+_, _^_, _≤_, _<_};
+ghost use Prim.Native.Nat.{_+_, _*_, _^_, _≤_, _<_};
 ghost use mathlib.Core.Path.{_≡_};
 ghost use lib.ListN.{length};
 ghost use Rattle.lists.specs.Filled.{storedAt};
 ghost use Rattle.timing.specs.Class.{cursorAfter};
 ghost use Rattle.timing.specs.Edges.{unitsFrom};
+ghost use Rattle.symbols.specs.machine.Step.{AllCells};
 ghost use Rattle.intervals.specs.machine.Pass.{passFrom};
 use crate::Pass;
+use crate::fours::FOURS;
+use crate::fours::all_fit;
+use crate::fours::shift_fours;
+use crate::fours::store;
 use lists::put;
 use symbols::Reading;
 use timing::Cursor;
@@ -72,6 +77,47 @@ fn shift_in(start: Reading, units: &[u8], from: usize, most: u32, out: &mut [u16
     }
 }
 
+// A block that leaves bytes to read: by fours, and cell by cell where a gap is out of place, for its place.
+fn shift_block(m: Reading, units: &[u8], from: usize, most: u32, out: &mut [u16]) -> Pass
+    requires { ⌜ length (now units) ≡ 4 * 16 ⌝ }
+    requires { ⌜ AllCells (now units) × (m .held ≤ 16) × (m .words + 16 < most) ⌝ }
+    requires { ⌜ from + length (now units) < 2 ^ 64 ⌝ }
+    ensures end { λ r. ⌜ r ≡ passFrom most from m (now (units .entry)) .end ⌝ }
+    ensures output { λ _. ⌜
+        now (out .exit)
+        ≡ storedAt (now (out .entry)) (m .words) (passFrom most from m (now (units .entry)) .words) ⌝ }
+{
+    let mut words = [0u32; FOURS];
+    let fours = shift_fours(m, units, &mut words);
+    let count = fours.count;
+    if all_fit(&words[..count]) {
+        store(&words[..count], m.words as usize, out);
+        let reading = fours.reading;
+        return Pass {
+            reading,
+            used: from + units.len(),
+        };
+    }
+    shift_in(m, units, from, most, out)
+}
+
+// The end of a list, and of a field, cell by cell.
+fn shift_units(m: Reading, units: &[u8], from: usize, most: u32, out: &mut [u16]) -> Pass
+    requires { ⌜ AllCells (now units) × (m .held ≤ 16) × (m .words < most) ⌝ }
+    requires { ⌜ from + length (now units) < 2 ^ 64 ⌝ }
+    ensures end { λ r. ⌜ r ≡ passFrom most from m (now (units .entry)) .end ⌝ }
+    ensures output { λ _. ⌜
+        now (out .exit)
+        ≡ storedAt (now (out .entry)) (m .words) (passFrom most from m (now (units .entry)) .words) ⌝ }
+{
+    if units.len() == BLOCK {
+        if 16 < most - m.words {
+            return shift_block(m, units, from, most, out);
+        }
+    }
+    shift_in(m, units, from, most, out)
+}
+
 // Some intervals, the first at place `from`, whose units have as many places.
 pub fn pass_block(
     m: Reading,
@@ -82,7 +128,7 @@ pub fn pass_block(
     most: u32,
     out: &mut [u16],
 ) -> Block
-    requires { ⌜ m .words < most ⌝ }
+    requires { ⌜ (m .words < most) × (m .held ≤ 16) ⌝ }
     requires { ⌜ length (now units) ≡ length (now intervals) ⌝ }
     requires { ⌜ from + length (now intervals) < 2 ^ 64 ⌝ }
     ensures end { λ r. ⌜ r .pass ≡ passFrom most from m (unitsFrom cursor (now (intervals .entry))) .end ⌝ }
@@ -93,7 +139,7 @@ pub fn pass_block(
         (passFrom most from m (unitsFrom cursor (now (intervals .entry))) .words) ⌝ }
 {
     let next = units_of(cursor, intervals, units);
-    let pass = shift_in(m, units, from, most, out);
+    let pass = shift_units(m, units, from, most, out);
     Block { pass, cursor: next }
 }
 

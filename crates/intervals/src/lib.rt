@@ -14,6 +14,7 @@ use timing::Profile;
 
 mod block;
 pub mod edges;
+mod fours;
 
 // How far a pass came, and how many intervals it used.
 pub struct Pass {

@@ -28,6 +28,8 @@ pub mod SourceLaws
 pub mod ReadsLaws
 pub mod ClosingLaws
 pub mod WholeLaws
+pub mod EaseLaws
+pub mod JoinLaws
 pub mod StepLaws
 pub mod AnswerLaws
 pub mod RunLaws

@@ -4,7 +4,7 @@ ghost use Prim.Native.Nat.{_<_};
 ghost use mathlib.Core.Path.{_≡_};
 ghost use mathlib.Core.List.{map};
 ghost use Rattle.symbols.specs.machine.Candidate.{dataBits, candidate};
-ghost use Rattle.symbols.specs.machine.Word.{missing, isMarkWord, cellsSince, firstOfCells};
+ghost use Rattle.symbols.specs.machine.Word.{missing, isMarkWord, fits, cellsSince, firstOfCells};
 
 const MARK_A1: u16 = 0x1a1;
 
@@ -61,6 +61,13 @@ pub fn is_mark(x: u32) -> bool
 {
     let word = (x % 65536) as u16;
     (word == WORD_A1) | (word == WORD_C2)
+}
+
+// Whether no gap of a byte is out of place.
+pub fn fits(x: u32) -> bool
+    ensures { λ r. ⌜ r ≡ fits x ⌝ }
+{
+    (missing(x) == 0) | is_mark(x)
 }
 
 // With its half cells in the low places of these bits, but for a surplus: the cells that end after the first missing

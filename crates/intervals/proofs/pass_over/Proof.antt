@@ -56,7 +56,7 @@ pass-block-requires c κs =
     let units = length-take-le (end - turn .loop .from) (turn .loop .units)
     (omega (arith, ended .block-end .ensures .2, turn .loop .inv .2)) in
     let part = part-length (turn .loop .from) end _ (ended .block-end .ensures .1) in
-    (turn .loop .inv .1, (units ∙ sym part, omega (arith, ended .block-end .ensures .0)))
+    ((turn .loop .inv .1, turn .loop .inv .0 .room), (units ∙ sym part, omega (arith, ended .block-end .ensures .0)))
 
 same-length : tie.Need-same-length Inv-loop μ-loop
 same-length c =

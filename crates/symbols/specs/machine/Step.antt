@@ -2,9 +2,10 @@
 -- No lemmas here.
 -- The machine that reads cells one by one: a shift register of half cells, as a data separator has one, of which a word
 -- is taken when it is whole; and what it gives at the end.
-use Prim.Native.Nat.{ℕ, suc, _+_, _-_, _*_, _/_, _%_, _^_}
+use Prim.Native.Nat.{ℕ, suc, _+_, _-_, _*_, _/_, _%_, _^_, _≤_}
 use mathlib.Core.Bool.{Bool, false, cond, not, _&&_, _||_}
 use mathlib.Core.List.{List, [], _∷_, _++_}
+use mir.Val.{boolByte}
 use lib.Bits.{bitOr}
 use lib.Dec.{eqb, leb, ltb}
 use Rattle.lists.specs.Filled.{ifGiven}
@@ -24,6 +25,30 @@ shifted m u =
     record {
       bits = bitOr (m .bits * 2 ^ (u % 32) % 2 ^ 32) 1;
       held = (m .held + u) % 2 ^ 32;
+      words = m .words;
+      place = m .place;
+      stray = m .stray;
+    }
+
+-- the units of cells
+unfoldable pub AllCells : List ℕ → Type 0
+AllCells [] = Unit {0}
+AllCells (u ∷ us) = (2 ≤ u) × (u ≤ 4) × AllCells us
+
+-- cells one after the other
+unfoldable pub shiftedAll : Reading → List ℕ → Reading
+shiftedAll m [] = m
+shiftedAll m (u ∷ us) = shiftedAll (shifted m u) us
+
+-- and at once, from a register that was empty before them
+abbrev pub emptyReading : Reading
+emptyReading = record { bits = 0; held = 0; words = 0; place = 0; stray = false }
+
+unfoldable pub joined : Reading → Reading → Reading
+joined m cells =
+    record {
+      bits = bitOr (m .bits * 2 ^ (cells .held % 32) % 2 ^ 32) (cells .bits);
+      held = (m .held + cells .held) % 2 ^ 32;
       words = m .words;
       place = m .place;
       stray = m .stray;
@@ -55,6 +80,17 @@ closed m at =
           (firstOfCells at (cellsSince (m .bits) (surplus m) (missing (wordOf m))))
           (m .place);
       stray = misfits (wordOf m) || m .stray;
+    }
+
+-- a word that is whole left behind, with its gaps not looked at
+unfoldable pub eased : Reading → Reading
+eased m =
+    record {
+      bits = m .bits;
+      held = (m .held + (2 ^ 32 - 16 * boolByte (isWhole m))) % 2 ^ 32;
+      words = (m .words + boolByte (isWhole m)) % 2 ^ 32;
+      place = m .place;
+      stray = m .stray;
     }
 
 -- one cell more, at a place, by its units

@@ -19,6 +19,9 @@ isMarkWord x = eqb (x % 65536) 0x4489 || eqb (x % 65536) 0x5224
 unfoldable pub misfits : ℕ → Bool
 misfits x = not (eqb (missing x) 0) && not (isMarkWord x)
 
+abbrev pub fits : ℕ → Bool
+fits x = eqb (missing x) 0 || isMarkWord x
+
 -- with its half cells in the low places of some bits, but for a surplus: the cells that end after its first missing
 -- clock, one for each 1
 unfoldable pub cellsSince : ℕ → ℕ → ℕ → ℕ

@@ -16,6 +16,7 @@ use Rattle.symbols.specs.machine.Step.{freshReading}
 use Rattle.symbols.specs.declared.Reading.{Reading}
 use Rattle.intervals.specs.machine.Pass.{Passed, ended, after, passFrom, passed}
 use Rattle.intervals.specs.declared.Pass.{Pass}
+use Rattle.intervals.proofs.FoursLaws.{units-are-cells, held-by-pass}
 use Rattle.intervals.proofs.PassLaws.{pass-ends, pass-is-full, pass-in-parts, Counts, pass-counts}
 
 module _ (most : ℕ) (start : Cursor) (ds old : List ℕ) where
@@ -28,12 +29,13 @@ module _ (most : ℕ) (start : Cursor) (ds old : List ℕ) where
 
   pub record Passing (out : List ℕ) (m : Reading) (cursor : Cursor) (from : ℕ) : Type 0 where
     pub within : from ≤ length ds
+    pub room : m .held ≤ 16
     pub same-length : length out ≡ length old
     pub settles : Settles (passFrom most from m (unitsFrom cursor (drop from ds))) out (m .words)
 
   pub begins : Passing old freshReading start 0
   unfolding passed freshReading
-  begins = record { within = omega arith; same-length = refl; settles = (refl, refl) }
+  begins = record { within = omega arith; room = omega arith; same-length = refl; settles = (refl, refl) }
 
   module _ {out : List ℕ} {m : Reading} {cursor : Cursor} {from : ℕ} (so-far : Passing out m cursor from) where
     -- where the pass ends, nothing is left to read or to store
@@ -110,6 +112,7 @@ module _ (most : ℕ) (start : Cursor) (ds old : List ℕ) where
             let place : first .end .used ≡ end = counts .all-used h ∙ omega (arith, part-length) in
             record {
               within = high;
+              room = held-by-pass (unitsFrom cursor part) most from m (units-are-cells cursor part) (so-far .room);
               same-length = block-length;
               settles = rw e (rw place at settles);
             }

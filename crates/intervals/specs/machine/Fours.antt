@@ -1,0 +1,26 @@
+-- Machine, not meaning: laws tie it to Pass (`proofs/FoursLaws`). No lemmas here.
+-- Four cells at a time. They have 16 half cells at most, so that they make one byte whole at most, and it is taken when
+-- all four are shifted in.
+use Prim.Native.Nat.{ℕ, zero, suc, _%_}
+use mathlib.Core.List.{List, [], _++_}
+use lib.ListN.{take, drop}
+use Rattle.lists.specs.Filled.{ifGiven}
+use Rattle.symbols.specs.machine.Step.{isWhole, wordOf, eased, shiftedAll}
+use Rattle.symbols.specs.declared.Reading.{Reading}
+
+-- the register, and the half cells of the words with the data bit before each
+pub record Fours : Type 0 where
+  pub reading : Reading
+  pub words : List ℕ
+
+-- a word without the data bit before it
+abbrev pub alone : ℕ → ℕ
+alone x = x % 65536
+
+-- so many fours
+unfoldable pub foursFrom : ℕ → Reading → List ℕ → Fours
+foursFrom zero m us = record { reading = m; words = [] }
+foursFrom (suc n) m us =
+    let next = shiftedAll m (take 4 us) in
+    let rest = foursFrom n (eased next) (drop 4 us) in
+    record { reading = rest .reading; words = ifGiven (isWhole next) (wordOf next) ++ rest .words }
