@@ -2,7 +2,7 @@
 -- what each interval has at the start of one. A number that keeps an interval's class is no more than its clearance,
 -- and a number that does not is more. Rests on no axiom.
 use Prim.Native.Nat.{ℕ, _+_, _≤_, _<_}
-use mathlib.Core.Path.{_≡_, sym, ap, subst}
+use mathlib.Core.Path.{_≡_, ap}
 use mathlib.Core.List.{List}
 use native.Mathlib.Decide.{decLt}
 use native.Mathlib.Omega.{arith}
@@ -26,12 +26,11 @@ module _ (p : Profile) (ds : List ℕ) where
   alone
       : (k : ℕ) → clearanceIn (cursorAfter (atStart p) (take k ds)) (getD ds k 0) ≡ clearanceOf p (getD ds k 0)
   unfolding clearanceOf
-  alone k = ap (λ (c : Cursor). clearanceIn c (getD ds k 0)) (cursor-stays (atStart p) (take k ds))
+  alone k = cc (cursor-stays (atStart p) (take k ds))
 
   pub least-is-no-more-than-each : (k : ℕ) → k < length ds → leastClearance p ds ≤ clearanceOf p (getD ds k 0)
   unfolding leastClearance
-  least-is-no-more-than-each k h =
-      subst (λ (x : ℕ). leastClearance p ds ≤ x) (alone k) (least-is-no-more (atStart p) ds k h)
+  least-is-no-more-than-each k h = rw (← alone k) (least-is-no-more (atStart p) ds k h)
 
   pub least-is-what-each-has
       : (e : ℕ)
@@ -39,9 +38,7 @@ module _ (p : Profile) (ds : List ℕ) where
       → ((k : ℕ) → k < length ds → e ≤ clearanceOf p (getD ds k 0))
       → e ≤ leastClearance p ds
   unfolding leastClearance
-  least-is-what-each-has e some each =
-      least-is-at-least (atStart p) ds e some
-      (λ k h. subst (λ (x : ℕ). e ≤ x) (sym (alone k)) (each k h))
+  least-is-what-each-has e some each = least-is-at-least (atStart p) ds e some (λ k h. rw (alone k) (each k h))
 
 -- ---- what is no more than a clearance, and what is more
 

@@ -16,13 +16,7 @@ pub ascending-at-start : (p : Profile) → profileRule p .number ≡ 0 → Ascen
 unfolding atStart
 ascending-at-start p accepts =
     let k = kept p accepts in
-    record {
-      first = omega (arith, k);
-      two = omega (arith, k);
-      three = omega (arith, k);
-      four = omega (arith, k);
-      last = omega (arith, k);
-    }
+    record { first = omega arith; two = omega arith; three = omega arith; four = omega arith; last = omega arith }
 
 pub ascending-after : {c : Cursor} (ds : List ℕ) → Ascending c → Ascending (cursorAfter c ds)
 ascending-after {c} ds h = rw (cursor-stays c ds) h

@@ -1,7 +1,7 @@
 -- The clearances of a list, one for each step of the cursor, and the least of them: what it is no more than, and that
 -- it is one of them. Rests on no axiom.
 use Prim.Native.Nat.{ℕ, zero, suc, _≤_, _<_}
-use mathlib.Core.Path.{_≡_, refl, sym, ap, subst, _∙_}
+use mathlib.Core.Path.{_≡_, refl, ap}
 use mathlib.Core.List.{List, [], _∷_}
 use native.Mathlib.Omega.{arith}
 use lib.ListN.{length, getD, take, drop}
@@ -9,7 +9,6 @@ use lib.Seq.{drop-cons}
 use Rattle.timing.specs.Class.{cursorPast, cursorAfter}
 use Rattle.timing.specs.declared.cursor.Cursor.{Cursor}
 use Rattle.timing.proofs.ClassLaws.{cursor-stays}
-use Rattle.report.specs.Row.{least}
 use Rattle.report.proofs.SpanLaws.{least-of-none, least-of-one, spanned}
 use Rattle.clearance.specs.Clearance.{clearanceIn, clearancesFrom, leastFrom}
 
@@ -20,15 +19,14 @@ clearances-none c = refl
 clearances-cons
     : (c : Cursor) (d : ℕ) (ds : List ℕ) → clearancesFrom c (d ∷ ds) ≡ clearanceIn c d ∷ clearancesFrom c ds
 unfolding clearancesFrom cursorAfter
-clearances-cons c d ds = ap (λ (e : Cursor). clearanceIn c d ∷ clearancesFrom e ds) (cursor-stays c (d ∷ []))
+clearances-cons c d ds = cc (cursor-stays c (d ∷ []))
 
 -- the turn of a loop over a list: the interval at a place, and those after it
 pub clearances-here
     : (c : Cursor) (ds : List ℕ) (k : ℕ)
     → k < length ds
     → clearancesFrom c (drop k ds) ≡ clearanceIn c (getD ds k 0) ∷ clearancesFrom c (drop (suc k) ds)
-clearances-here c ds k h =
-    ap (clearancesFrom c) (drop-cons ds k 0 h) ∙ clearances-cons c (getD ds k 0) (drop (suc k) ds)
+clearances-here c ds k h = cc (drop-cons ds k 0 h, clearances-cons c _ _)
 
 pub clearances-count : (c : Cursor) (ds : List ℕ) → length (clearancesFrom c ds) ≡ length ds
 unfolding clearancesFrom
@@ -48,7 +46,7 @@ clearance-at c (d ∷ ds) (suc k) h = clearance-at (cursorPast c d) ds k (omega 
 
 pub least-from-none : (c : Cursor) (ds : List ℕ) → length ds ≡ 0 → leastFrom c ds ≡ 0
 unfolding leastFrom
-least-from-none c [] h = ap least (clearances-none c) ∙ least-of-none
+least-from-none c [] h = rw (clearances-none c) least-of-none
 least-from-none c (d ∷ ds) h = absurd (omega arith)
 
 pub least-from-one : (c : Cursor) (d : ℕ) → leastFrom c (d ∷ []) ≡ clearanceIn c d
@@ -70,7 +68,7 @@ module _ (c : Cursor) (ds : List ℕ) where
   least-is-of-one some =
       let (k, there, same) = spanned (clearancesFrom c ds) .low-is-there (rw clearances-count some) in
       let h : k < length ds = rw clearances-count at there in
-      (k, h, sym (clearance-at c ds k h) ∙ same)
+      (k, h, cc (clearance-at c ds k h))
 
   -- what each interval has, the least has
   pub least-is-at-least
@@ -78,6 +76,4 @@ module _ (c : Cursor) (ds : List ℕ) where
       → 0 < length ds
       → ((k : ℕ) → k < length ds → e ≤ clearanceIn (cursorAfter c (take k ds)) (getD ds k 0))
       → e ≤ leastFrom c ds
-  least-is-at-least e some each =
-      let (k, h, same) = least-is-of-one some in
-      subst (λ (x : ℕ). e ≤ x) same (each k h)
+  least-is-at-least e some each = let (k, h, same) = least-is-of-one some in rw (← same) (each k h)

@@ -1,7 +1,7 @@
 -- The intervals of class 2, 3 or 4 are those from one edge up to the next, so an interval keeps its class as far as the
 -- nearer edge and no further; that is one number, and the largest that keeps the class. Rests on no axiom.
 use Prim.Native.Nat.{ℕ, suc, _-_, _≤_, _<_}
-use mathlib.Core.Path.{_≡_, refl, sym, subst, _∙_}
+use mathlib.Core.Path.{_≡_, refl, sym, _∙_}
 use native.Mathlib.Decide.{decLe}
 use native.Mathlib.Omega.{arith}
 use Rattle.timing.specs.Class.{classIn}
@@ -23,8 +23,7 @@ record ClassSpans (c : Cursor) (x : Class) (from to : ℕ) : Type 0 where
 module _ {c : Cursor} {x : Class} {from to : ℕ} (s : ClassSpans c x from to) (d : ℕ) (here : classIn c d ≡ x) where
   keeps-to-the-nearer-edge : KeepsWithin c d (inWindow from to d)
   keeps-to-the-nearer-edge moved longer shorter =
-      let (low, high) = s .only d here in
-      s .has moved (omega arith) (omega arith) ∙ sym here
+      let (low, high) = s .only d here in cc (s .has moved (omega arith) (omega arith))
 
   -- moved by one more, it reaches the interval just below the window or the one just above it
   keeps-no-further : KeepsWithin c d (suc (inWindow from to d)) → ⊥
@@ -56,26 +55,22 @@ module _ {c : Cursor} (a : Ascending c) where
 
   two-spans : ClassSpans c Two (c .min .0) (c .b23 .0)
   two-spans =
-      record {
-        from-positive = a .first;
-        has = below-b23-is-two c;
-        only = λ d e. between-two (subst (Stands c d) e (stands c d));
-      }
+      record { from-positive = a .first; has = below-b23-is-two c; only = λ d e. between-two (rw (← e) (stands c d)) }
 
   three-spans : ClassSpans c Three (c .b23 .0) (c .b34 .0)
   three-spans =
       record {
-        from-positive = omega (arith, a);
-        has = λ d h₁ h₂. below-b34-is-three c d (omega (arith, a)) h₁ h₂;
-        only = λ d e. between-three (subst (Stands c d) e (stands c d));
+        from-positive = omega arith;
+        has = λ d h₁ h₂. below-b34-is-three c d (omega arith) h₁ h₂;
+        only = λ d e. between-three (rw (← e) (stands c d));
       }
 
   four-spans : ClassSpans c Four (c .b34 .0) (c .rpt .0)
   four-spans =
       record {
-        from-positive = omega (arith, a);
-        has = λ d h₁ h₂. below-rpt-is-four c d (omega (arith, a)) (omega (arith, a)) h₁ h₂;
-        only = λ d e. between-four (subst (Stands c d) e (stands c d));
+        from-positive = omega arith;
+        has = λ d h₁ h₂. below-rpt-is-four c d (omega arith) (omega arith) h₁ h₂;
+        only = λ d e. between-four (rw (← e) (stands c d));
       }
 
   clearance-by-class : (d : ℕ) (x : Class) → classIn c d ≡ x → ClearanceBy x c d (clearanceBy x c d)

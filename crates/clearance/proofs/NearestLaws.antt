@@ -37,7 +37,7 @@ least-of-three : (w y z : ℕ) → min (min w y) z ≡ min w (min y z)
 least-of-three w y z = omega arith
 
 sorted-out : (l h w y z : ℕ) → min (min l h) (min (min w y) z) ≡ min (min l w) (min h (min y z))
-sorted-out l h w y z = ap (min (min l h)) (least-of-three w y z) ∙ lesser-of-lessers l h w (min y z)
+sorted-out l h w y z = cc (least-of-three w y z, lesser-of-lessers l h w (min y z))
 
 -- ---- one interval
 
@@ -73,10 +73,7 @@ at-b34-and-rpt : (p q s t : ℕ) → t ≤ p → t ≤ s → min (min p q) (min 
 at-b34-and-rpt p q s t h₁ h₂ = omega arith
 
 module _
-    (c : Cursor)
-    (a : Ascending c)
-    (d y z : ℕ)
-    (past-b23 : (y + turned (c .b23 .0)) % 65536 ≡ d)
+    (c : Cursor) (a : Ascending c) (d y z : ℕ) (past-b23 : (y + turned (c .b23 .0)) % 65536 ≡ d)
     (past-b34 : (z + turned (c .b34 .0)) % 65536 ≡ d)
   where
     abbrev betweenEdges : ℕ
@@ -86,22 +83,17 @@ module _
     one-by-class (narrow h) = at-no-edge _ _ (omega arith)
     one-by-class (two h₁ h₂) =
         rw (
-          below-edge (c .b23 .0) d y past-b23 h₂ (omega (arith, a)),
-          below-edge (c .b34 .0) d z past-b34 (omega (arith, a)) (omega (arith, a)),
-        )
-        (at-min-and-b23 _ _ _ _ (omega (arith, a)) (omega (arith, a)))
+          below-edge (c .b23 .0) d y past-b23 h₂ (omega arith),
+          below-edge (c .b34 .0) d z past-b34 (omega arith) (omega arith),
+        ) (at-min-and-b23 _ _ _ _ (omega arith) (omega arith))
     one-by-class (three h₁ h₂) =
-        rw (
-          from-edge (c .b23 .0) d y past-b23 h₁ (omega (arith, a)),
-          below-edge (c .b34 .0) d z past-b34 h₂ (omega (arith, a)),
-        )
-        (at-b23-and-b34 _ _ _ _ (omega (arith, a)) (omega (arith, a)))
+        rw (from-edge (c .b23 .0) d y past-b23 h₁ (omega arith), below-edge (c .b34 .0) d z past-b34 h₂ (omega arith))
+        (at-b23-and-b34 _ _ _ _ (omega arith) (omega arith))
     one-by-class (four h₁ h₂) =
         rw (
-          from-edge (c .b23 .0) d y past-b23 (omega (arith, a)) (omega (arith, a)),
-          from-edge (c .b34 .0) d z past-b34 h₁ (omega (arith, a)),
-        )
-        (at-b34-and-rpt _ _ _ _ (omega (arith, a)) (omega (arith, a)))
+          from-edge (c .b23 .0) d y past-b23 (omega arith) (omega arith),
+          from-edge (c .b34 .0) d z past-b34 h₁ (omega arith),
+        ) (at-b34-and-rpt _ _ _ _ (omega arith) (omega arith))
     one-by-class (wide h) = at-no-edge _ _ (omega arith)
 
     one-met
@@ -109,8 +101,8 @@ module _
         → min (room (turned (c .min .0)) (turned (c .rpt .0 - 1)) (turned d) (turned d)) betweenEdges ≡ clearanceIn c d
     unfolding clearanceIn
     one-met fits =
-        ap₂ min (from-ends (c .min .0) (c .rpt .0 - 1) d (omega (arith, a)) (omega (arith, a)) fits) refl
-        ∙ one-by-class (stands c d)
+        cc
+        (from-ends (c .min .0) (c .rpt .0 - 1) d (omega (arith, a)) (omega (arith, a)) fits, one-by-class (stands c d))
 
     -- it joins those met, and so does how far it is past either edge
     pub met-with
@@ -135,9 +127,9 @@ module _
 none-by-class
     : {c : Cursor} {d : ℕ} {x : Class} → Ascending c → Stands c d x → clearanceBy x c d ≤ 65535 - turned (c .min .0)
 none-by-class a (narrow h) = omega arith
-none-by-class a (two h₁ h₂) = omega (arith, a)
-none-by-class a (three h₁ h₂) = omega (arith, a)
-none-by-class a (four h₁ h₂) = omega (arith, a)
+none-by-class a (two h₁ h₂) = omega arith
+none-by-class a (three h₁ h₂) = omega arith
+none-by-class a (four h₁ h₂) = omega arith
 none-by-class a (wide h) = omega arith
 
 none-nearer : (p q e : ℕ) → 32768 ≤ p → 32768 ≤ q → e ≤ 65535 - p → min (min (min (65535 - p) (q - 0)) 65535) e ≡ e
@@ -150,5 +142,5 @@ pub first-met
     → min (leastMet c 32767 32768 32767 32768) (clearanceIn c d) ≡ clearanceIn c d
 unfolding leastMet clearanceIn
 first-met c d a =
-    none-nearer (turned (c .min .0)) (turned (c .rpt .0 - 1)) _ (omega (arith, a)) (omega (arith, a))
+    none-nearer (turned (c .min .0)) (turned (c .rpt .0 - 1)) _ (omega arith) (omega arith)
     (none-by-class a (stands c d))

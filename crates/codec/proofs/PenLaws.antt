@@ -14,7 +14,7 @@ use Rattle.symbols.specs.Bits.{Bit, O, I, G, isOne}
 use Rattle.timing.specs.declared.Profile.{Profile}
 use Rattle.images.specs.Distances.{distancesFrom}
 use Rattle.lengths.specs.Neighbours.{between, nextCell, lengthsBetween}
-use Rattle.lengths.specs.machine.LengthTable.{lengthByZeros, lengthAt, lengthTable}
+use Rattle.lengths.specs.machine.LengthTable.{lengthAt, lengthTable}
 use Rattle.lengths.proofs.RunLaws.{ShortCells}
 use Rattle.codec.specs.machine.Pen.{Drawing, turned, storedBefore, ended, passed, drawn, Fits}
 
@@ -39,10 +39,8 @@ module _ (table : List ℕ) where
       × (drawn table d hs .pen .since ≤ d .pen .since + length hs)
   unfolding drawn passed ended
   drawn-stays-small [] d h = (omega arith, omega arith)
-  drawn-stays-small (O ∷ hs) d h =
-      let rest = drawn-stays-small hs (passed d) (omega arith) in (rest .0, omega arith)
-  drawn-stays-small (G ∷ hs) d h =
-      let rest = drawn-stays-small hs (passed d) (omega arith) in (rest .0, omega arith)
+  drawn-stays-small (O ∷ hs) d h = let rest = drawn-stays-small hs (passed d) (omega arith) in (rest .0, omega arith)
+  drawn-stays-small (G ∷ hs) d h = let rest = drawn-stays-small hs (passed d) (omega arith) in (rest .0, omega arith)
   drawn-stays-small (I ∷ hs) d h =
       let rest = drawn-stays-small hs (ended table d) (omega arith) in (rest .0, omega arith)
 
@@ -144,9 +142,7 @@ module _ (window a c d : ℕ) (shows : Shows window a c) (a₂ : 2 ≤ a) (a₄ 
       let before : 2 + (a - 2) ≡ a = omega arith in
       let cell : 2 + (c - 2) ≡ c = omega arith in
       let after : 2 + (d - 2) ≡ d = omega arith in
-      entry-is-rule (lengthAt p) 64 k 0 small
-      ∙ ap (lengthByZeros p) zeros
-      ∙ rw (at .0, at .1, at .2, before, cell, after)
+      cc (entry-is-rule (lengthAt p) 64 k 0 small)
 
 -- cells after two, and one of 2 units behind them
 lengths-after
@@ -161,13 +157,9 @@ lengths-after p [] window a c shows a₂ a₄ short =
     ap (λ (l : ℕ). l ∷ []) (entry window a c 2 shows a₂ a₄ (short .0) (short .1) (omega arith) (omega arith) p)
 lengths-after p (d ∷ ds) window a c shows a₂ a₄ short =
     let next = short .2 in
-    ap₂ (λ (l : ℕ) (ls : List ℕ). l ∷ ls)
-    (entry window a c d shows a₂ a₄ (short .0) (short .1) (next .0) (next .1) p)
+    ap₂ (λ (l : ℕ) (ls : List ℕ). l ∷ ls) (entry window a c d shows a₂ a₄ (short .0) (short .1) (next .0) (next .1) p)
     (lengths-after p ds (turned window d) c d
-    (shows-next window a c d shows a₂ a₄ (short .0) (short .1) (next .0) (next .1))
-    (short .0)
-    (short .1)
-    next)
+    (shows-next window a c d shows a₂ a₄ (short .0) (short .1) (next .0) (next .1)) (short .0) (short .1) next)
 
 pub lengths-one-late
     : (p : Profile) (cs : List ℕ)

@@ -41,7 +41,7 @@ accepted-counts-items : (xs : List Cell) (n : ℕ) → accepted n ≡ stripRule 
 unfolding stripRule
 accepted-counts-items xs n e =
     let bits = readBits xs in
-    let zero : stripRule xs .number ≡ 0 = ap (λ (a : Answer). a .number) (sym e) in
+    let zero : stripRule xs .number ≡ 0 = cc e in
     let after-7 = refuse-if-accepts (isRagged bits) 6 0 _ zero in
     let after-4 = refuse-if-accepts (ltb 6400 (bytesRead bits)) 3 0 _ (after-7 .1) in
     let after-8 = refuse-if-accepts (isStray bits) 7 (strayPlace xs) (accepted (bytesRead bits)) (after-4 .1) in
@@ -59,7 +59,7 @@ pub too-many-answer
     → 51202 < length ds
     → refused 4 0 ≡ readRule p ds room
 unfolding readRule
-too-many-answer p ds accepts room h = rw (first-refusal-passes (profileRule p) _ accepts, lt-ltb 51202 (length ds) h)
+too-many-answer p ds accepts room h = rw (first-refusal-passes, lt-ltb)
 
 module _ (p : Profile) (ds old : List ℕ) (accepts : profileRule p .number ≡ 0) (few : length ds ≤ 51202) where
   abbrev items : List ℕ
@@ -82,7 +82,7 @@ module _ (p : Profile) (ds old : List ℕ) (accepts : profileRule p .number ≡ 
       : (r : Refusal)
       → refused (numberOf r) (placeOf r) ≡ edgeRule (classesOf p ds)
       → refused (numberOf r) (placeOf r) ≡ readRule p ds (length old)
-  edge-refuses r e = refusal-decides r (edgeRule (classesOf p ds)) _ e ∙ from-edges
+  edge-refuses r e = refusal-decides r _ _ e ∙ from-edges
 
   abbrev pass : Passed
   pass = passed 51202 (unitsFrom (atStart p) ds)
@@ -92,13 +92,15 @@ module _ (p : Profile) (ds old : List ℕ) (accepts : profileRule p .number ≡ 
     unfolding edgeRule cellsRead
     cells =
         sym
-        (near-are-cells 0
-        (rw (classes-from-start p ds) (classes-are-near (atStart p) ds (accepted-ascends p accepts)))
+        (near-are-cells 0 (rw (classes-from-start p ds) (classes-are-near (atStart p) ds (accepted-ascends p accepts)))
         fair)
 
     few-cells : length (cellsRead p ds) ≤ 51202
     unfolding cellsRead
-    few-cells = let most = cells-at-most-classes (classesOf p ds) in let same = classes-length p ds in omega arith
+    few-cells =
+        let most = cells-at-most-classes (classesOf p ds) in
+        let same = classes-length p ds in
+        omega arith
 
     whole
         : (pass .end ≡ record { reading = ran freshReading 0 (cellsRead p ds); used = 0 + length (cellsRead p ds) })
@@ -110,11 +112,11 @@ module _ (p : Profile) (ds old : List ℕ) (accepts : profileRule p .number ≡ 
         (pass-over-all (cellsRead p ds) 51202 0 freshReading (omega arith) (omega arith))
 
     from-strip : firstRefusal (stripRule (cellsRead p ds)) byRoom ≡ readRule p ds (length old)
-    from-strip = sym (first-refusal-passes (edgeRule (classesOf p ds)) _ fair) ∙ from-edges
+    from-strip = sym (first-refusal-passes _ _ fair) ∙ from-edges
 
     module _ (r : Pass) (read : r ≡ pass .end) where
       all-used : r .used ≡ length (cellsRead p ds)
-      all-used = ap (λ (q : Pass). q .used) (read ∙ whole .0) ∙ zero-add (length (cellsRead p ds))
+      all-used = cc (read, whole .0, zero-add (length (cellsRead p ds)))
 
       pub used-is-small : r .used ≤ 51202
       used-is-small = let most = few-cells in omega (arith, all-used)
@@ -132,7 +134,7 @@ module _ (p : Profile) (ds old : List ℕ) (accepts : profileRule p .number ≡ 
 
       module _ (n : ℕ) (counts : accepted n ≡ stripAnswer (r .reading) (r .used - 1)) where
         strip-accepts : stripRule (cellsRead p ds) .number ≡ 0
-        strip-accepts = ap (λ (a : Answer). a .number) (sym (counts ∙ machine-answers))
+        strip-accepts = cc (counts, machine-answers)
 
         number-of-items : n ≡ length items
         unfolding itemsOfStream

@@ -1,9 +1,9 @@
 -- Why the rest of a word is drawn up to its highest one, and from there on: the half cells above it are zeros, and the
 -- number without it has the half cells below. Rests on no axiom.
 use Prim.Native.Nat.{ℕ, zero, suc, _+_, _-_, _*_, _%_, _^_, _≤_, _<_}
-use native.Mathlib.Nat.{zero-add, suc-add, pow-suc, lt-of-lt-of-le, lt-of-not-le, le-trans, not-le-of-lt}
+use native.Mathlib.Nat.{zero-add, suc-add, lt-of-lt-of-le, lt-of-not-le, le-trans, not-le-of-lt}
 use native.Mathlib.Omega.{arith}
-use mathlib.Core.Path.{_≡_, refl, sym, ap, _∙_}
+use mathlib.Core.Path.{_≡_, refl, ap, _∙_}
 use mathlib.Core.List.{List, _∷_}
 use borrow.Author.Tests.{lt-ltb, le-ltb}
 use lib.ListN.{getD}
@@ -31,19 +31,14 @@ top-of-one place n h = rw (le-ltb n (2 ^ place) h)
 
 module _ (ones place : ℕ) (high : Highest ones place) where
   pub place-below : (last : ℕ) → ones < 2 ^ last → place < last
-  place-below last h =
-      lt-of-not-le (λ (g : last ≤ place). not-le-of-lt h (le-trans (pow-mono g) (high .0)))
+  place-below last h = lt-of-not-le (λ (g : last ≤ place). not-le-of-lt h (le-trans (pow-mono g) (high .0)))
 
   -- as the code has it
   pub its-weight : ones < 65536 → 1 * 2 ^ place % 2 ^ 32 ≡ 2 ^ place
   its-weight small = let low = high .0 in omega arith
 
   left-is-below : ones - 2 ^ place < 2 ^ place
-  left-is-below =
-      let low = high .0 in
-      let twice = pow-suc 2 place in
-      let top = high .1 in
-      omega arith
+  left-is-below = let top = high .1 in omega arith
 
 -- ---- the drawing
 
@@ -79,9 +74,9 @@ module _ (table out : List ℕ) where
       let n = start .since - 1 in
       let place : start .since + 15 ≡ n + 16 = omega arith in
       let since : n + 1 ≡ start .since = omega arith in
-      ap (λ (l : ℕ). restDrawn table out (restAt l (start .window) (start .cells) word)) place
-      ∙ zeros-pass n 16 1 (start .window) (start .cells) word small
-      ∙ ap (λ (s : ℕ). drawn table (drawing (penAt s (start .window) (start .cells)) out) (topBits 16 word)) since
+      rw place
+      (zeros-pass n 16 1 (start .window) (start .cells) word small
+      ∙ ap (λ (s : ℕ). drawn table (drawing (penAt s (start .window) (start .cells)) out) (topBits 16 word)) since)
 
   a-one-more
       : (rest : Rest) (place : ℕ)
@@ -96,15 +91,7 @@ module _ (table out : List ℕ) where
       let n = rest .last - suc place in
       let whole : rest .last ≡ n + suc place = omega arith in
       let cell : n + 1 ≡ rest .last - place = omega arith in
-      sym
-      (ap (λ (l : ℕ). restDrawn table out (restAt l window cells (rest .ones))) whole
-      ∙ zeros-pass n (suc place) 1 window cells (rest .ones) (high .1)
-      ∙ ap (drawn table (drawing (penAt (n + 1) window cells) out)) (top-of-one place (rest .ones) (high .0))
-      ∙ ap
-      (λ (s : ℕ).
-      restDrawn table (storedBefore out cells (getD table (turned window s) 0))
-      (restAt place (turned window s) (cells + 1) (rest .ones - 2 ^ place)))
-      cell)
+      cc (zeros-pass n (suc place) 1 window cells (rest .ones) (high .1), top-of-one place (rest .ones) (high .0))
 
   pub ends
       : (rest : Rest)
@@ -114,10 +101,7 @@ module _ (table out : List ℕ) where
   ends rest none =
       let no : rest .ones ≡ 0 = omega arith in
       let whole : rest .last ≡ rest .last + 0 = omega arith in
-      sym
-      (ap (λ (n : ℕ). restDrawn table out (restAt (rest .last) (rest .window) (rest .cells) n)) no
-      ∙ ap (λ (l : ℕ). restDrawn table out (restAt l (rest .window) (rest .cells) 0)) whole
-      ∙ zeros-pass (rest .last) 0 1 (rest .window) (rest .cells) 0 (omega arith))
+      cc (zeros-pass _ 0 1 _ _ 0 (omega arith))
 
 -- ---- a step
 

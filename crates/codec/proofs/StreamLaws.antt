@@ -89,18 +89,16 @@ module _ (p : Profile) (ws old : List ℕ) (bytes : everywhere isByte ws ≡ tru
       (lengths-one-late p (writtenCells ws) (written-cells-are-short ws) ∙ sym (lengths-by-neighbours p ws))
 
   out-is-as-long : length (closed .out) ≡ length old
-  out-is-as-long =
-      drawn-length (lengthTable p) _ (drawing (written .track .pen) (written .out))
-      ∙ wrote-length (lengthTable p) (writing freshTrack old) ws
+  out-is-as-long = drawn-length _ _ _ ∙ wrote-length _ _ ws
 
   cells-are-counted : closed .pen .cells ≡ length (byteStream p ws) + 1
   cells-are-counted =
-      ap (λ (d : Drawing). d .pen .cells) closed-is-drawn
-      ∙ cells-by-cells (lengthTable p) half-cells (drawing (freshTrack .pen) old)
+      rw closed-is-drawn
+      (cells-by-cells (lengthTable p) half-cells (drawing (freshTrack .pen) old)
       ∙ ap (λ (cs : List ℕ). 0 + length cs) cells-and-two
       ∙ ap (λ (n : ℕ). 0 + n) (length-append (writtenCells ws) (2 ∷ []))
       ∙ ap (λ (n : ℕ). 0 + (n + 1)) (sym (stream-is-as-long-as-its-cells p ws))
-      ∙ omega arith
+      ∙ omega arith)
 
   closed-fits : length (byteStream p ws) ≤ length old → Fits closed
   closed-fits room = rw (cells-are-counted, out-is-as-long) (omega arith)
@@ -116,13 +114,7 @@ module _ (p : Profile) (ws old : List ℕ) (bytes : everywhere isByte ws ≡ tru
       ends = wordDrawn table s (closingWord (s .track .previous))
 
       ends-closed : ends ≡ closed
-      ends-closed =
-          ap (λ (x : Writing). wordDrawn table x (closingWord (x .track .previous))) writes
-          ∙ ap
-          (λ (t : List ℕ).
-          wordDrawn t (wrote t (writing freshTrack old) ws)
-          (closingWord (wrote t (writing freshTrack old) ws .track .previous)))
-          tables
+      ends-closed = cc (writes, tables)
 
       pub closing-fits : length (byteStream p ws) ≤ length old → Fits ends
       closing-fits room = rw ends-closed (closed-fits room)

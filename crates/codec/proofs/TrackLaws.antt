@@ -64,8 +64,7 @@ module _ (table : List ℕ) where
   unfolding wrote
   room-after-bytes s [] k room = (room .0, omega arith)
   room-after-bytes s (w ∷ ws) k room =
-      room-after-bytes (wroteByte table s w) ws k
-      (room-after-byte s w (length ws + k) (room .0, omega arith))
+      room-after-bytes (wroteByte table s w) ws k (room-after-byte s w (length ws + k) (room .0, omega arith))
 
   -- as a caller has it: the state is known by an equation, and less room is asked for
   pub room-carries
@@ -81,7 +80,7 @@ module _ (table : List ℕ) where
 
   byte-length : (s : Writing) (w : ℕ) → length (wroteByte table s w .out) ≡ length (s .out)
   unfolding wroteByte
-  byte-length s w = drawn-length table _ (drawing (s .track .pen) (s .out))
+  byte-length s w = drawn-length table _ _
 
   pub wrote-length : (s : Writing) (ws : List ℕ) → length (wrote table s ws .out) ≡ length (s .out)
   unfolding wrote
@@ -91,8 +90,7 @@ module _ (table : List ℕ) where
   -- states that lead to the same one have outputs of one length
   pub same-length-of-whole
       : (s s₀ : Writing) (ws vs : List ℕ) → wrote table s ws ≡ wrote table s₀ vs → length (s .out) ≡ length (s₀ .out)
-  same-length-of-whole s s₀ ws vs e =
-      sym (wrote-length s ws) ∙ ap (λ (x : Writing). length (x .out)) e ∙ wrote-length s₀ vs
+  same-length-of-whole s s₀ ws vs e = cc (wrote-length s ws, wrote-length s₀ vs)
 
   -- ---- the half cells of an image
 
@@ -108,10 +106,10 @@ module _ (table : List ℕ) where
       let start = drawing (s .track .pen) (s .out) in
       let data-bit = last-bit-is-data (s .track .previous) in
       let kept = word-is-kept b w data-bit (everywhere-passes-at-first isByte w ws bytes) in
-      wrote-is-drawn (wroteByte table s w) ws (everywhere-in-rest isByte w ws bytes)
-      ∙ ap (λ (hs : List Bit). drawn table (drawn table start hs) (imageCells (imageFrom (lastBit w) ws)))
-      (kept .top-bits)
-      ∙ sym (drawn-of-append table start (halfCells (wordOf b w)) (imageCells (imageFrom (lastBit w) ws)))
+      cc (
+        wrote-is-drawn (wroteByte table s w) ws (everywhere-in-rest isByte w ws bytes),
+        drawn-of-append table start (halfCells (wordOf b w)) (imageCells (imageFrom (lastBit w) ws)),
+      )
 
   pub last-half-cell-is-last-bit
       : (s : Writing) (ws : List ℕ)

@@ -1,7 +1,7 @@
 -- The writer's answers by its tests: where profile and list are accepted, the stream of the written bytes and the
 -- room decide. Rests on no axiom.
 use Prim.Native.Nat.{ℕ, _≤_}
-use mathlib.Core.Path.{_≡_, refl, sym, ap, _∙_}
+use mathlib.Core.Path.{_≡_, refl, sym, _∙_}
 use mathlib.Core.Bool.{true, false}
 use mathlib.Core.List.{List}
 use lib.Dec.{leb}
@@ -9,7 +9,7 @@ use lib.ListN.{length}
 use borrow.Author.Tests.{lt-ltb, le-ltb, leb-true, leb-false}
 use Rattle.lists.specs.Filled.{storedAt}
 use Rattle.lists.proofs.StoreLaws.{stored-at-front-fills}
-use Rattle.refusal.specs.Answer.{Answer, accepted, refused, settled}
+use Rattle.refusal.specs.Answer.{accepted, refused, settled}
 use Rattle.refusal.proofs.AnswerLaws.{first-refusal-passes}
 use Rattle.items.specs.Written.{written}
 use Rattle.items.specs.Rule.{listRule}
@@ -29,7 +29,7 @@ module _ (p : Profile) (ws old : List ℕ) where
   unfolding streamRule
   too-short e =
       let h = leb-false (length (byteStream p ws)) (length old) (rw (stream-is-as-long-as-its-cells p ws) e) in
-      rw (lt-ltb (length old) (length (byteStream p ws)) h) (refl, refl)
+      rw lt-ltb (refl, refl)
 
   pub stream-fits : leb (length (writtenCells ws)) (length old) ≡ true → length (byteStream p ws) ≤ length old
   stream-fits e = leb-true (length (byteStream p ws)) (length old) (rw (stream-is-as-long-as-its-cells p ws) e)
@@ -43,9 +43,7 @@ module _ (p : Profile) (ws old : List ℕ) where
       × (stored ≡ settled (streamRule p ws (length old)) (byteStream p ws) old)
   unfolding streamRule
   long-enough e count stored counted stores =
-      let h = stream-fits e in
-      rw (le-ltb (length old) (length (byteStream p ws)) h)
-      (ap accepted counted, stores ∙ stored-at-front-fills (byteStream p ws) old h)
+      let h = stream-fits e in rw le-ltb (cc, stores ∙ stored-at-front-fills (byteStream p ws) old h)
 
 module _ (p : Profile) (items old : List ℕ) where
   pub rule-of-stream
@@ -60,4 +58,4 @@ module _ (p : Profile) (items old : List ℕ) where
       → listRule items .number ≡ 0
       → settled (streamRule p (written items) (length old)) (byteStream p (written items)) old ≡ writeOutput p items old
   unfolding writeOutput streamOf
-  output-of-stream h g = ap (λ (a : Answer). settled a (byteStream p (written items)) old) (rule-of-stream h g)
+  output-of-stream h g = cc (rule-of-stream h g)

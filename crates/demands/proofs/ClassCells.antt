@@ -1,7 +1,6 @@
 -- The class that units ask for is the class of their number, and the class that is read as their cell. Rests on no
 -- axiom.
-use Prim.Native.Nat.{ℕ}
-use mathlib.Core.Path.{_≡_, refl, sym, ap, ap₂, _∙_}
+use mathlib.Core.Path.{_≡_, refl}
 use mathlib.Core.List.{List, [], _∷_, map}
 use Rattle.timing.specs.Class.{classNumber}
 use Rattle.timing.specs.declared.Class.{Class}
@@ -16,17 +15,17 @@ use Rattle.lengths.specs.Units.{classOfUnits}
 pub number-of-units : (xs : List Cell) → map classNumber (map classOfUnits (map units xs)) ≡ map units xs
 unfolding classOfUnits
 number-of-units [] = refl
-number-of-units (Short ∷ xs) = ap (λ (ns : List ℕ). 2 ∷ ns) (number-of-units xs)
-number-of-units (Medium ∷ xs) = ap (λ (ns : List ℕ). 3 ∷ ns) (number-of-units xs)
-number-of-units (Long ∷ xs) = ap (λ (ns : List ℕ). 4 ∷ ns) (number-of-units xs)
+number-of-units (Short ∷ xs) = cc (number-of-units xs)
+number-of-units (Medium ∷ xs) = cc (number-of-units xs)
+number-of-units (Long ∷ xs) = cc (number-of-units xs)
 
 -- and is the class that is read as the cell
 pub classes-of-cells : (xs : List Cell) → map classOfUnits (map units xs) ≡ map classOfCell xs
 unfolding classOfUnits
 classes-of-cells [] = refl
-classes-of-cells (Short ∷ xs) = ap (λ (cs : List Class). Two ∷ cs) (classes-of-cells xs)
-classes-of-cells (Medium ∷ xs) = ap (λ (cs : List Class). Three ∷ cs) (classes-of-cells xs)
-classes-of-cells (Long ∷ xs) = ap (λ (cs : List Class). Four ∷ cs) (classes-of-cells xs)
+classes-of-cells (Short ∷ xs) = cc (classes-of-cells xs)
+classes-of-cells (Medium ∷ xs) = cc (classes-of-cells xs)
+classes-of-cells (Long ∷ xs) = cc (classes-of-cells xs)
 
 -- and a class is known by its number
 class-of-number : (c : Class) → classOfUnits (classNumber c) ≡ c
@@ -39,8 +38,7 @@ class-of-number Wide = refl
 
 classes-of-numbers : (cs : List Class) → map classOfUnits (map classNumber cs) ≡ cs
 classes-of-numbers [] = refl
-classes-of-numbers (c ∷ cs) = ap₂ (λ (d : Class) (ds : List Class). d ∷ ds) (class-of-number c) (classes-of-numbers cs)
+classes-of-numbers (c ∷ cs) = cc (class-of-number c, classes-of-numbers cs)
 
 pub class-numbers-injective : (cs ds : List Class) → map classNumber cs ≡ map classNumber ds → cs ≡ ds
-class-numbers-injective cs ds h =
-    sym (classes-of-numbers cs) ∙ ap (λ (ns : List ℕ). map classOfUnits ns) h ∙ classes-of-numbers ds
+class-numbers-injective cs ds h = cc (classes-of-numbers cs, classes-of-numbers ds)

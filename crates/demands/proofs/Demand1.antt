@@ -1,21 +1,19 @@
 -- Why demand 1 holds: every operation's rule makes the tests of its order one after the other, and each test means its
 -- cause. Rests on no axiom.
-use Prim.Native.Nat.{ℕ, zero, suc, _+_, _-_, _≤_}
-use mathlib.Core.Path.{_≡_, refl, sym, ap, subst, _∙_}
-use mathlib.Core.Bool.{Bool, true, false, cond, true≢false}
+use Prim.Native.Nat.{ℕ, zero, suc, _-_, _≤_}
+use mathlib.Core.Path.{_≡_, refl, ap}
+use mathlib.Core.Bool.{true, false, cond, true≢false}
 use mathlib.Core.List.{List}
 use mathlib.Core.Logic.{_⊎_, inl, inr, ⊎-elim}
 use native.Mathlib.Omega.{arith}
 use lib.ListN.{length, drop}
-use borrow.Author.Tests.{eq-eqb}
-use Rattle.lists.specs.Place.{anywhere, everywhere, lowest}
+use Rattle.lists.specs.Place.{everywhere}
 use Rattle.refusal.specs.Answer.{accepted, refused}
 use Rattle.timing.specs.Class.{classesOf, classOf, classNumber, classRule}
 use Rattle.timing.specs.declared.Profile.{Profile}
 use Rattle.timing.specs.declared.Class.{Class}
 use Rattle.symbols.specs.Reading.{readBits}
 use Rattle.symbols.specs.Strip.{isRagged, bytesRead, isStray, strayPlace, stripRule}
-use Rattle.items.specs.Item.{isForeign, writtenBytes}
 use Rattle.items.specs.Written.{written}
 use Rattle.items.specs.Rule.{listRule}
 use Rattle.lengths.specs.Stream.{byteStream, streamOf}
@@ -51,8 +49,7 @@ margin p = answers refl (profile-in-turn p accept (accepted (marginOf p)) (accep
 class : (p : Profile) (d : ℕ) → Answers (profileOrder p accept) (classRule p d)
 unfolding classRule orderNumbers everywhere
 class p d =
-    let n = classNumber (classOf p d) in
-    answers refl (profile-in-turn p accept (accepted n) (accepted-in-turn n))
+    let n = classNumber (classOf p d) in answers refl (profile-in-turn p accept (accepted n) (accepted-in-turn n))
 
 -- ---- writer
 
@@ -62,8 +59,8 @@ writer p items room =
     let stream = byteStream p (written items) in
     answers refl
     (profile-in-turn p _ _
-    (turn-before 3 _ _ _ (means-either 6400 (length items) 6400 (writtenBytes items))
-    (turn-before 2 _ _ _ (means-at (anywhere isForeign items) (lowest isForeign items))
+    (turn-before 3 _ _ _ (means-either 6400 _ 6400 _)
+    (turn-before 2 _ _ _ (means-at _ _)
     (turn-by-test 9 accept (accepted (length stream)) (means-below room (length stream))
     (accepted-in-turn (length stream))))))
 
@@ -104,7 +101,7 @@ pub room-for-its-list-is-enough
 unfolding NoCauseOf
 room-for-its-list-is-enough p ds room enough =
     not-answered 8 (stripOrder p ds room) (readRule p ds room) (strip-reader p ds room .in-turn)
-    (λ place cause. let below = cause .0 in omega arith, tt)
+    (λ place cause. omega arith, tt)
 
 -- ---- field reader
 
@@ -115,11 +112,10 @@ field-reader p ds n room =
     answers refl
     (profile-in-turn p _ _
     (turn-by-test 12 _ _ (means-either n 1 1030 n)
-    (subst (InTurn _) (first-refusal-of-first (fieldStop cs n) _ _)
+    (rw (← first-refusal-of-first (fieldStop cs n) _ _)
     (stop-in-turn cs _ _
     (turn-before 7 _ _ _ (means-at (fieldStray cs n) (fieldStrayPlace cs n))
-    (turn-by-test 9 accept (accepted n) (means-below room n) (accepted-in-turn n)))
-    n))))
+    (turn-by-test 9 accept (accepted n) (means-below room n) (accepted-in-turn n))) n))))
 
 -- ---- finder
 
@@ -138,22 +134,11 @@ lock-in-turn
     → InTurn (turn 10 (at0 ((k : ℕ) → lockAt cs k ≡ true → ⊥)) accept) (countedFrom start (lockFrom cs 0))
 unfolding InTurn lockFrom
 lock-in-turn cs start =
-    ⊎-elim
-    (λ found.
-    inr (
-      λ k none. none .0 _ (lock-from-found cs 0 found .stands),
-      ap (λ (t : Bool). cond t (accepted (start + lockFrom cs 0 .count)) (lockFrom cs 0) .number)
-          (eq-eqb (lockFrom cs 0 .number) 0 found),
-    ))
+    ⊎-elim (λ found. inr (λ k none. none .0 _ (lock-from-found cs 0 found .stands), cc))
     (λ adrift.
     let same = ap (countedFrom start) adrift in
-    inl (
-      (
-        λ k stands. true≢false (sym stands ∙ adrift-has-no-lock cs 0 (ap (λ a. a .number) adrift) k (omega arith)),
-        ap (λ a. a .place) same,
-      ),
-      ap (λ a. a .number) same,
-    ))
+    inl
+    ((λ k stands. true≢false (cc (adrift-has-no-lock cs 0 (cc adrift) k (omega arith))), cc same), cc same))
     (lock-or-adrift cs (length cs - 0) 0)
 
 finder : (p : Profile) (ds : List ℕ) (start : ℕ) → Answers (finderOrder p ds start) (findRule p ds start)

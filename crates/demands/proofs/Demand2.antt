@@ -2,21 +2,17 @@
 -- exactly the cells of the list that it gives, and the cells of every list within the limit read as that list. Rests
 -- on no axiom.
 use Prim.Native.Nat.{ℕ, _≤_}
-use mathlib.Core.Path.{_≡_, refl, sym, ap, subst, _∙_}
+use mathlib.Core.Path.{_≡_, refl, sym, ap, _∙_}
 use mathlib.Core.List.{List}
 use native.Mathlib.Omega.{arith}
-use lib.Dec.{ltb}
 use lib.ListN.{length, length-map}
 use borrow.Author.Tests.{le-ltb}
-use Rattle.lists.specs.Filled.{filled}
-use Rattle.refusal.specs.Answer.{accepted}
 use Rattle.refusal.proofs.AnswerLaws.{first-refusal-passes, refuse-if-passes, acceptance-fills-the-buffer}
 use Rattle.timing.specs.Profile.{profileRule}
 use Rattle.timing.specs.Class.{classesOf, classNumber}
 use Rattle.timing.specs.declared.Profile.{Profile}
 use Rattle.timing.proofs.ClassLaws.{classes-length}
-use Rattle.symbols.specs.Strip.{stripRule, stripItems}
-use Rattle.symbols.specs.declared.Cell.{Cell}
+use Rattle.symbols.specs.Strip.{stripItems}
 use Rattle.symbols.proofs.RoundTripLaws.{cells-are-read, read-back, rule-of-write, cells-injective, write-of-read}
 use Rattle.symbols.proofs.UnitLaws.{cells-at-most}
 use Rattle.items.specs.Rule.{listRule}
@@ -40,11 +36,10 @@ unfolding cellsRead itemsOfStream
 read-only-lists p ds output h =
     let passed = passed-of-accepted p ds (length output) h in
     let read = write-of-read (cellsRead p ds) (passed .strip) in
-    let few : length (stripItems (cellsRead p ds)) ≤ 6400 =
-    subst (λ (n : ℕ). n ≤ 6400) (sym (read .count)) (read .few) in (
+    let few : length (stripItems (cellsRead p ds)) ≤ 6400 = rw (read .count) (read .few) in (
       itemsOfStream p ds,
       bytes-are-accepted (stripItems (cellsRead p ds)) (read .bytes) few,
-      cells-are-classes (classesOf p ds) (passed .edges) ∙ sym (read .cells),
+      cc (cells-are-classes (classesOf p ds) (passed .edges)),
       reads-as-its-list p ds output (itemsOfStream p ds) passed refl,
     )
 
@@ -61,8 +56,7 @@ one-list p ds us ws a b g h = cells-injective us ws (listed a .bytes) (listed b 
 few-intervals : (p : Profile) (ds ws : List ℕ) → CellsAreClasses p ws ds → length ws ≤ 6400 → length ds ≤ 51202
 few-intervals p ds ws h few =
     let same = sym (classes-length p ds) ∙ sym (length-map (classesOf p ds) classNumber) ∙ ap length h in
-    let most = cells-at-most ws in
-    omega arith
+    let most = cells-at-most ws in omega arith
 
 pub every-list-is-read
     : (p : Profile) (ds output ws : List ℕ)
@@ -76,48 +70,27 @@ every-list-is-read p ds output ws accepts a h enough =
     let l = listed a in
     let (xs, same) = cells-are-read ws in
     let (edges, cells) = classes-are-cells (classesOf p ds) xs (h ∙ sym same) in
-    let items : itemsOfStream p ds ≡ ws = ap stripItems cells ∙ read-back ws xs (l .bytes) same .items in
+    let items : itemsOfStream p ds ≡ ws = cc (read-back ws xs (l .bytes) same .items) in
     let passed : Passed p ds (length output) =
     record {
       profile = accepts;
       short = few-intervals p ds ws h (l .few);
       edges = ap (λ a. a .number) edges;
-      strip =
-          ap (λ (ys : List Cell). stripRule ys .number) cells
-          ∙ ap (λ a. a .number) (rule-of-write ws xs (l .bytes) (l .few) same);
-      enough = subst (λ (us : List ℕ). length us ≤ length output) (sym items) enough;
+      strip = rw cells (ap (λ a. a .number) (rule-of-write ws xs (l .bytes) (l .few) same));
+      enough = rw items enough;
     } in
     reads-as-its-list p ds output ws passed items
 
--- ---- writing
-
-written-lengths
-    : (p : Profile) (items output : List ℕ)
-    → writeRule p items (length output) .number ≡ 0
-    → writeOutput p items output ≡ filled (streamOf p items) output
-unfolding writeOutput
-written-lengths p items output h =
-    acceptance-fills-the-buffer (writeRule p items (length output)) (streamOf p items) output h
-
-written-if-accepted
-    : (p : Profile) (items output : List ℕ)
-    → AcceptedProfile p
-    → listRule items .number ≡ 0
-    → length (streamOf p items) ≤ length output
-    → writeRule p items (length output) ≡ accepted (length (streamOf p items))
-unfolding writeRule streamRule streamOf
-written-if-accepted p items output accepts listed-items enough =
-    first-refusal-passes (profileRule p) _ accepts
-    ∙ first-refusal-passes (listRule items) _ listed-items
-    ∙ refuse-if-passes (ltb (length output) (length (streamOf p items))) 9 0 _
-    (le-ltb (length output) (length (streamOf p items)) enough)
-
 pub demand-2 : Demand2
-unfolding byteStream streamOf
+unfolding byteStream streamOf writeOutput writeRule streamRule
 demand-2 =
     record {
-      written-lengths = written-lengths;
-      written-if-accepted = written-if-accepted;
+      written-lengths = λ p items output h.
+          acceptance-fills-the-buffer (writeRule p items (length output)) (streamOf p items) output h;
+      written-if-accepted = λ p items output accepts listed-items enough.
+          first-refusal-passes (profileRule p) _ accepts
+          ∙ first-refusal-passes (listRule items) _ listed-items
+          ∙ refuse-if-passes _ 9 0 _ (le-ltb (length output) (length (streamOf p items)) enough);
       read-only-lists = read-only-lists;
       one-list = one-list;
       every-list-is-read = every-list-is-read;

@@ -1,7 +1,7 @@
 -- Why demand 3 holds: within the margin every interval keeps the class of its cell, so both streams still read as the
 -- lists that were written; one half clock beyond it, an interval of a one-byte list changes its class, and other
 -- classes are refused or are another list. Rests on no axiom.
-use Prim.Native.Nat.{ℕ, _≤_, _<_, _^_}
+use Prim.Native.Nat.{ℕ, _<_, _^_}
 use mathlib.Core.Path.{_≡_, refl, sym, ap, subst, _∙_}
 use mathlib.Core.Bool.{Bool, true, false}
 use mathlib.Core.List.{List, [], _∷_, map}
@@ -21,7 +21,7 @@ use Rattle.symbols.proofs.RoundTripLaws.{cells-are-read}
 use Rattle.lengths.specs.Stream.{byteStream, streamOf}
 use Rattle.lengths.specs.Units.{classOfUnits}
 use Rattle.lengths.proofs.NearLaws.{Near}
-use Rattle.lengths.specs.Margin.{IsMargin, marginOf, marginRule}
+use Rattle.lengths.specs.Margin.{marginOf, marginRule}
 use Rattle.lengths.proofs.WindowLaws.{near-stream-has-classes}
 use Rattle.lengths.proofs.MarginLaws.{Broken, margin-leaves-room, above-margin-is-broken}
 use Rattle.lengths.proofs.BrokenLaws.{brokenStream, broken-stream-is-near, broken-stream-has-other-classes}
@@ -29,10 +29,10 @@ use Rattle.lengths.proofs.NearLaws.{near-of-each, near-at, near-itself, near-st
 use Rattle.lengths.proofs.StreamLaws.{length-fits}
 use Rattle.lengths.proofs.PapersMargin.{margin-is-the-papers, one-byte-is-written}
 use Rattle.codec.specs.Reader.{itemsOfStream, readRule}
-use Rattle.demands.specs.Streams.{AcceptedProfile, AcceptedList, Moved, ReadsAs, Misread, turned-away}
+use Rattle.demands.specs.Streams.{AcceptedProfile, AcceptedList, Moved, Misread, turned-away}
 use Rattle.demands.specs.Streams.{another}
 use Rattle.demands.specs.Demand2.{CellsAreClasses}
-use Rattle.demands.specs.Demand3.{stated, Counterexample, Demand3}
+use Rattle.demands.specs.Demand3.{stated, Demand3}
 use Rattle.demands.proofs.ListLaws.{listed, one-byte-is-listed, written-is-listed, stream-of-written}
 use Rattle.demands.proofs.ClassCells.{number-of-units, class-numbers-injective}
 use Rattle.demands.proofs.Demand1.{room-for-its-list-is-enough}
@@ -40,13 +40,11 @@ use Rattle.demands.proofs.Demand2.{read-only-lists, one-list, every-lis
 
 pub stated-is-the-margin : (p : Profile) → AcceptedProfile p → stated p ≡ marginOf p
 unfolding marginRule
-stated-is-the-margin p h = ap (λ a. a .count) (first-refusal-passes (profileRule p) (accepted (marginOf p)) h)
+stated-is-the-margin p h = cc (first-refusal-passes (profileRule p) (accepted (marginOf p)) h)
 
 -- the numbers of the classes that the cells of written bytes ask for are the cells
 numbers-of-cells : (ws : List ℕ) → map classNumber (map classOfUnits (writtenCells ws)) ≡ writtenCells ws
-numbers-of-cells ws =
-    let (xs, same) = cells-are-read ws in
-    subst (λ (us : List ℕ). map classNumber (map classOfUnits us) ≡ us) same (number-of-units xs)
+numbers-of-cells ws = let (xs, same) = cells-are-read ws in rw (← same) (number-of-units xs)
 
 module _ (p : Profile) (accepts : AcceptedProfile p) where
   -- a stream near the written one has the cells' classes
@@ -75,38 +73,7 @@ module _ (p : Profile) (accepts : AcceptedProfile p) where
 
   moved-has-cells
       : (ws ds : List ℕ) → AcceptedList ws → Moved (stated p) (streamOf p ws) ds → CellsAreClasses p ws ds
-  moved-has-cells ws ds a moved =
-      ap (map classNumber)
-      (moved-has-classes ws ds moved
-      ∙ ap (λ (us : List ℕ). map classOfUnits (writtenCells us)) (listed a .as-written))
-      ∙ numbers-of-cells ws
-
-  pub reads-back
-      : (ws : List ℕ)
-      → AcceptedList ws
-      → (changed : List ℕ)
-      → Moved (stated p) (streamOf p ws) changed
-      → (output : List ℕ)
-      → length ws ≤ length output
-      → ReadsAs p changed output ws
-  reads-back ws a changed moved output enough =
-      every-list-is-read p changed output ws accepts a (moved-has-cells ws changed a moved) enough
-
-  never-equal
-      : (us ws : List ℕ)
-      → AcceptedList us
-      → AcceptedList ws
-      → (us ≡ ws → ⊥)
-      → (changed-us changed-ws : List ℕ)
-      → Moved (stated p) (streamOf p us) changed-us
-      → Moved (stated p) (streamOf p ws) changed-ws
-      → changed-us ≡ changed-ws
-      → ⊥
-  never-equal us ws a b differ ds es moved-us moved-ws same =
-      differ
-      (one-list p es us ws a b
-      (subst (λ (xs : List ℕ). CellsAreClasses p us xs) same (moved-has-cells us ds a moved-us))
-      (moved-has-cells ws es b moved-ws))
+  moved-has-cells ws ds a moved = cc (moved-has-classes ws ds moved, listed a .as-written, numbers-of-cells ws)
 
   -- a stream with other classes than the written one's is refused or read as another list
   misread
@@ -122,9 +89,7 @@ module _ (p : Profile) (accepts : AcceptedProfile p) where
       (λ same.
       other
       (class-numbers-injective (classesOf p ds) (classesOf p (byteStream p (b ∷ [])))
-      (cells
-      ∙ ap writtenCells same
-      ∙ sym (near-has-cells (b ∷ []) (byteStream p (b ∷ [])) (near-itself (marginOf p) (byteStream p (b ∷ [])))))))
+      (cc (near-has-cells (b ∷ []) (byteStream p (b ∷ [])) (near-itself (marginOf p) (byteStream p (b ∷ [])))))))
 
   -- the stream with one interval moved still holds 16-bit numbers
   broken-fits
@@ -146,36 +111,34 @@ module _ (p : Profile) (accepts : AcceptedProfile p) where
       let stream = one-byte-is-written p (x .byte) (x .is-byte) in
       let near : Near n (brokenStream x) (streamOf p (x .byte ∷ [])) = rw stream (broken-stream-is-near x) in
       record {
-        as-many = near-streams-are-equally-long n (brokenStream x) (streamOf p (x .byte ∷ [])) near;
+        as-many = near-streams-are-equally-long n _ _ near;
         sixteen-bits = λ k h. broken-fits n x k h (eqb k (x .place)) refl;
-        no-longer = λ k h. near-at n (brokenStream x) (streamOf p (x .byte ∷ [])) near k .0;
-        no-shorter = λ k h. near-at n (brokenStream x) (streamOf p (x .byte ∷ [])) near k .1;
-      }
-
-  largest : (n : ℕ) → stated p < n → Counterexample p n
-  largest n above =
-      let beyond : marginOf p < n = subst (λ (m : ℕ). m < n) (stated-is-the-margin p accepts) above in
-      let x : Broken p n = above-margin-is-broken (kept p accepts) n beyond in
-      record {
-        byte = x .byte;
-        accepted = one-byte-is-listed (x .byte) (x .is-byte);
-        changed = brokenStream x;
-        moved = moved-beyond n x;
-        room = length (itemsOfStream p (brokenStream x));
-        enough = λ output room. room-for-its-list-is-enough p (brokenStream x) (length output) room;
-        misread =
-            λ output enough.
-            misread (x .byte) (brokenStream x) output (broken-stream-has-other-classes x)
-            (eqb (readRule p (brokenStream x) (length output) .number) 0)
-            refl;
+        no-longer = λ k h. near-at n _ _ near k .0;
+        no-shorter = λ k h. near-at n _ _ near k .1;
       }
 
 pub demand-3 : Demand3
 demand-3 p accepts =
     record {
       check-orders-turned = λ items h. (written-is-listed items h, stream-of-written p items h);
-      never-equal = never-equal p accepts;
-      reads-back = reads-back p accepts;
-      largest = largest p accepts;
-      papers-margin = subst (IsMargin p) (sym (stated-is-the-margin p accepts)) (margin-is-the-papers p accepts);
+      never-equal = λ us ws a b differ ds es moved-us moved-ws same.
+          differ
+          (one-list p es us ws a b (rw same at (moved-has-cells p accepts us ds a moved-us))
+          (moved-has-cells p accepts ws es b moved-ws));
+      reads-back = λ ws a changed moved output enough.
+          every-list-is-read p changed output ws accepts a (moved-has-cells p accepts ws changed a moved) enough;
+      largest = λ n above.
+          let x : Broken p n =
+          above-margin-is-broken (kept p accepts) n (rw (stated-is-the-margin p accepts) at above) in
+          record {
+            byte = x .byte;
+            accepted = one-byte-is-listed (x .byte) (x .is-byte);
+            changed = brokenStream x;
+            moved = moved-beyond p accepts n x;
+            room = length (itemsOfStream p (brokenStream x));
+            enough = λ output room. room-for-its-list-is-enough p (brokenStream x) (length output) room;
+            misread = λ output enough.
+                misread p accepts (x .byte) (brokenStream x) output (broken-stream-has-other-classes x) _ refl;
+          };
+      papers-margin = rw (stated-is-the-margin p accepts) (margin-is-the-papers p accepts);
     }

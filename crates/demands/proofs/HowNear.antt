@@ -2,7 +2,7 @@
 -- its class when moved by margin − c more. And a one-byte list that margin + 1 breaks has an interval with no more room.
 -- Rests on no axiom.
 use Prim.Native.Nat.{ℕ, suc, _+_, _-_, _≤_, _<_}
-use mathlib.Core.Path.{_≡_, refl, sym, ap, subst, _∙_}
+use mathlib.Core.Path.{_≡_, refl, sym, ap, subst}
 use mathlib.Core.List.{List, [], _∷_}
 use native.Mathlib.Omega.{arith}
 use native.Mathlib.Nat.{le-refl}
@@ -26,7 +26,7 @@ use Rattle.demands.specs.Streams.{AcceptedProfile, Moved}
 use Rattle.demands.specs.Demand3.{stated}
 use Rattle.demands.specs.HowNear.{ReadsClear, ExactlyClear, HowNear}
 use Rattle.demands.proofs.ListLaws.{written-is-listed, stream-of-written, one-byte-is-listed}
-use Rattle.demands.proofs.Demand3.{stated-is-the-margin, reads-back}
+use Rattle.demands.proofs.Demand3.{stated-is-the-margin, demand-3}
 use Rattle.demands.proofs.UsedLaws.{strip-has-intervals, field-has-intervals}
 
 -- the class that a window's cell has is one with edges
@@ -51,23 +51,19 @@ module _ (p : Profile) (accepts : AcceptedProfile p) where
       → m - c ≤ clearanceOf p d
   near-length-is-clear m s w c few d longer shorter =
       let here = near-length-has-class s d w (omega arith) (omega arith) in
-      kept-is-cleared p accepts d (m - c) (subst Inner (sym here) (inner-of-window w))
-      (λ moved up down. near-length-has-class s moved w (omega arith) (omega arith) ∙ sym here)
+      kept-is-cleared p accepts d (m - c) (rw here (inner-of-window w))
+      (λ moved up down. cc (near-length-has-class s moved w (omega arith) (omega arith)))
 
   module _
-      (items : List ℕ)
-      (c : ℕ)
-      (few : c ≤ stated p)
-      (changed : List ℕ)
-      (moved : Moved c (streamOf p items) changed)
+      (items : List ℕ) (c : ℕ) (few : c ≤ stated p) (changed : List ℕ) (moved : Moved c (streamOf p items) changed)
     where
       -- each interval of a changed stream
       pub each-is-clear : (k : ℕ) → k < length changed → stated p - c ≤ clearanceOf p (getD changed k 0)
       unfolding streamOf
       each-is-clear k h =
-          let room = subst (Spare p) (sym (stated-is-the-margin p accepts)) (margin-leaves-room (kept p accepts)) in
+          let room = rw (← stated-is-the-margin p accepts) at (margin-leaves-room (kept p accepts)) in
           let us = writtenCells (written items) in
-          let there : k < length (streamOf p items) = subst (λ (n : ℕ). k < n) (moved .as-many) h in
+          let there : k < length (streamOf p items) = rw (← moved .as-many) h in
           let window = window-at us (streamOf p items) (stream-has-windows (kept p accepts) (written items)) k there in
           near-length-is-clear (stated p) room window c few (getD changed k 0) (moved .no-longer k h)
           (moved .no-shorter k h)
@@ -75,7 +71,7 @@ module _ (p : Profile) (accepts : AcceptedProfile p) where
       pub within-the-margin : Moved (stated p) (streamOf p items) changed
       within-the-margin =
           record {
-            as-many = moved .as-many;
+            as-many = cc;
             sixteen-bits = moved .sixteen-bits;
             no-longer = λ k h. let near = moved .no-longer k h in omega arith;
             no-shorter = λ k h. let near = moved .no-shorter k h in omega arith;
@@ -86,7 +82,7 @@ module _ (p : Profile) (accepts : AcceptedProfile p) where
           let listed = written-is-listed items lists in
           let same = sym (stream-of-written p items lists) in
           let read =
-          reads-back p accepts (written items) listed changed
+          demand-3 p accepts .reads-back (written items) listed changed
           (subst (λ (ls : List ℕ). Moved (stated p) ls changed) same within-the-margin) in
           -- there is an interval, since it is read
           let answer = read (written items) (le-refl _) .answer in
@@ -108,7 +104,6 @@ module _ (p : Profile) (accepts : AcceptedProfile p) where
       : (items : List ℕ) → listRule items .number ≡ 0 → ReadsClear p (streamOf p items) (written items) (stated p)
   written-strip items lists =
       let strip = changed-strip items 0 (omega arith) (streamOf p items) (unmoved items) lists in
-      let all = strip .clear in
       record { reads = strip .reads; clear = omega arith }
 
   -- the one-byte list that margin + 1 breaks
@@ -133,8 +128,7 @@ module _ (p : Profile) (accepts : AcceptedProfile p) where
 pub how-near : HowNear
 how-near =
     record {
-      strips =
-          λ p accepts.
+      strips = λ p accepts.
           record {
             changed-strip = λ items lists c few changed moved. changed-strip p accepts items c few changed moved lists;
             written-strip = written-strip p accepts;

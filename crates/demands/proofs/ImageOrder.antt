@@ -1,19 +1,18 @@
 -- Making an image and reading one make the tests of their order, and give the image's length and the list's, which are
 -- those of the written bytes and of the words. Rests on no axiom.
 use Prim.Native.Nat.{ℕ, _<_, _≤_}
-use mathlib.Core.Path.{_≡_, refl, sym, ap, _∙_}
+use mathlib.Core.Path.{_≡_, refl}
 use mathlib.Core.List.{List}
 use lib.Dec.{ltb}
 use lib.ListN.{length}
 use borrow.Author.Tests.{ltb-false}
-use Rattle.lists.specs.Place.{anywhere, everywhere, lowest, passed}
+use Rattle.lists.specs.Place.{everywhere}
 use Rattle.refusal.specs.Answer.{Answer, accepted, firstRefusal}
-use Rattle.refusal.proofs.AnswerLaws.{first-refusal-accepts, first-refusal-passes, refuse-if-accepts, refuse-if-passes}
+use Rattle.refusal.proofs.AnswerLaws.{first-refusal-accepts, refuse-if-accepts}
 use Rattle.symbols.specs.Bits.{O}
-use Rattle.items.specs.Item.{isForeign, writtenBytes}
 use Rattle.items.specs.Written.{written}
 use Rattle.items.specs.Rule.{listRule}
-use Rattle.images.specs.Image.{imageOf, unrulyIn, bytesIn}
+use Rattle.images.specs.Image.{imageOf, bytesIn}
 use Rattle.images.specs.Rules.{roomRule, makeRule, makeOutput, wordsRule, readImageRule, readImageOutput}
 use Rattle.images.proofs.ImageLaws.{length-of-image, length-of-bytes}
 use Rattle.demands.specs.Order.{accept, turn, at0, InTurn, orderNumbers, Answers, Lent}
@@ -44,18 +43,16 @@ pub image-maker : (items : List ℕ) (room : ℕ) → Answers (imageMakerOrder i
 unfolding makeRule listRule orderNumbers everywhere
 image-maker items room =
     answers refl
-    (turn-before 3 _ _ _ (means-either 6400 (length items) 6400 (writtenBytes items))
-    (turn-before 2 _ _ _ (means-at (anywhere isForeign items) (lowest isForeign items))
+    (turn-before 3 _ _ _ (means-either 6400 _ 6400 _)
+    (turn-before 2 _ _ _ (means-at _ _)
     (room-in-turn (imageOf (written items)) (length (written items)) room (image-count items))))
 
 pub image-reader : (words : List ℕ) (room : ℕ) → Answers (imageReaderOrder words room) (readImageRule words room)
 unfolding readImageRule wordsRule orderNumbers everywhere
 image-reader words room =
-    let flags = unrulyIn words in
     answers refl
     (turn-before 3 _ _ _ (means-below 6400 (length words))
-    (turn-before 15 _ _ _ (means-at (anywhere passed flags) (lowest passed flags))
-    (room-in-turn (bytesIn words) (length words) room (item-count words))))
+    (turn-before 15 _ _ _ (means-at _ _) (room-in-turn (bytesIn words) (length words) room (item-count words))))
 
 -- ---- the lent outputs
 
@@ -69,21 +66,19 @@ unfolding roomRule
 room-enough rule result count room same e =
     let after = first-refusal-accepts rule _ e in
     let after-9 = refuse-if-accepts (ltb room count) 8 0 (accepted count) (after .1) in
-    let counted =
-    first-refusal-passes rule _ (after .0) ∙ refuse-if-passes (ltb room count) 9 0 (accepted count) (after-9 .0) in
-    (rw same (ltb-false room count (after-9 .0)), ap (λ a. a .count) counted ∙ sym same)
+    (rw same (ltb-false room count (after-9 .0)), cc)
 
 pub image-output
     : (items old : List ℕ) → Lent (makeRule items (length old)) (imageOf (written items)) old (makeOutput items old)
 unfolding makeOutput makeRule
 image-output items old =
     let image = imageOf (written items) in
-    settled-is-lent (makeRule items (length old)) image old
+    settled-is-lent _ image old
     (room-enough (listRule items) image (length (written items)) (length old) (image-count items))
 
 pub image-items
     : (words old : List ℕ) → Lent (readImageRule words (length old)) (bytesIn words) old (readImageOutput words old)
 unfolding readImageOutput readImageRule
 image-items words old =
-    settled-is-lent (readImageRule words (length old)) (bytesIn words) old
+    settled-is-lent _ (bytesIn words) old
     (room-enough (wordsRule words) (bytesIn words) (length words) (length old) (item-count words))

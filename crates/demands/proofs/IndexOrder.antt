@@ -16,5 +16,4 @@ pub track-index : (p : Profile) (ds : List ℕ) → Answers (indexOrder p ds) (i
 unfolding indexRule crowdRule orderNumbers everywhere
 track-index p ds =
     let n = length (entriesOf p ds) in
-    answers refl
-    (profile-in-turn p _ _ (turn-by-test 15 accept (accepted n) (means-below 32 n) (accepted-in-turn n)))
+    answers refl (profile-in-turn p _ _ (turn-by-test 15 accept (accepted n) (means-below 32 n) (accepted-in-turn n)))

@@ -1,7 +1,7 @@
 -- What becomes of every lent output: it is settled by the rule's answer, and a rule that accepts has found room for the
 -- result, whose length it counts. Rests on no axiom.
 use Prim.Native.Nat.{ℕ}
-use mathlib.Core.Path.{ap, sym, _∙_}
+use mathlib.Core.Path.{_∙_}
 use mathlib.Core.List.{List}
 use lib.Dec.{ltb}
 use lib.ListN.{length}
@@ -30,7 +30,7 @@ pub writer-output
 unfolding writeOutput writeRule streamRule streamOf
 writer-output p items old =
     let n = length (byteStream p (written items)) in
-    settled-is-lent (writeRule p items (length old)) (streamOf p items) old
+    settled-is-lent _ (streamOf p items) old
     (λ e.
     let after-2 = first-refusal-accepts (profileRule p) _ e in
     let after-3 = first-refusal-accepts (listRule items) _ (after-2 .1) in
@@ -39,16 +39,16 @@ writer-output p items old =
     first-refusal-passes (profileRule p) _ (after-2 .0)
     ∙ first-refusal-passes (listRule items) _ (after-3 .0)
     ∙ refuse-if-passes (ltb (length old) n) 9 0 (accepted n) (after-9 .0) in
-    (ltb-false (length old) n (after-9 .0), ap (λ a. a .count) count))
+    (ltb-false (length old) n (after-9 .0), cc count))
 
 pub strip-output
     : (p : Profile) (ds old : List ℕ) → Lent (readRule p ds (length old)) (itemsOfStream p ds) old (readOutput p ds old)
 unfolding readOutput
 strip-output p ds old =
-    settled-is-lent (readRule p ds (length old)) (itemsOfStream p ds) old
+    settled-is-lent _ (itemsOfStream p ds) old
     (λ e.
     let passed = passed-of-accepted p ds (length old) e in
-    (passed .enough, ap (λ a. a .count) (accepted-of-passed p ds (length old) passed)))
+    (passed .enough, cc (accepted-of-passed p ds (length old) passed)))
 
 pub field-output
     : (p : Profile) (ds : List ℕ) (n : ℕ) (old : List ℕ)
@@ -65,12 +65,7 @@ field-output p ds n old =
     let after-11 = first-refusal-accepts (fieldStop cs n) _ (after-8 .0) in
     let after-9 = refuse-if-accepts (ltb room n) 8 0 (accepted n) (after-8 .1) in
     let items = field-items-count cs n (after-11 .0) in
-    let count =
-    first-refusal-passes (profileRule p) _ (after-2 .0)
-    ∙ refuse-if-passes (outside 1 1030 n) 12 0 _ (after-12 .0)
-    ∙ first-refusal-passes (gatherRule cs n) _ (after-8 .0)
-    ∙ refuse-if-passes (ltb room n) 9 0 (accepted n) (after-9 .0) in
-    (rw items (ltb-false room n (after-9 .0)), ap (λ a. a .count) count ∙ sym items))
+    (rw items (ltb-false room n (after-9 .0)), cc))
 
 pub maker-output
     : (track side sector code : ℕ) (bytes old : List ℕ)
@@ -80,11 +75,11 @@ unfolding sectorOutput sectorRule
 maker-output track side sector code bytes old =
     let items = sectorItems track side sector code bytes in
     let n = length items in
-    settled-is-lent (sectorRule track side sector code bytes (length old)) items old
+    settled-is-lent _ items old
     (λ e.
     let after-13 = refuse-if-accepts (isMisfit code bytes) 12 0 _ e in
     let after-9 = refuse-if-accepts (ltb (length old) n) 8 0 (accepted n) (after-13 .1) in
     let count =
     refuse-if-passes (isMisfit code bytes) 13 0 _ (after-13 .0)
     ∙ refuse-if-passes (ltb (length old) n) 9 0 (accepted n) (after-9 .0) in
-    (ltb-false (length old) n (after-9 .0), ap (λ a. a .count) count))
+    (ltb-false (length old) n (after-9 .0), cc count))

@@ -1,12 +1,12 @@
 -- The merge makes the tests of its order, and stores as many bytes as the merged set has. Rests on no axiom.
 use Prim.Native.Nat.{ℕ}
-use mathlib.Core.Path.{refl, ap}
-use mathlib.Core.Bool.{Bool, cond, _||_}
+use mathlib.Core.Path.{refl}
+use mathlib.Core.Bool.{_||_}
 use mathlib.Core.List.{List}
 use lib.Dec.{ltb}
 use lib.ListN.{length}
-use borrow.Author.Tests.{ltb-false, eq-eqb}
-use Rattle.lists.specs.Place.{anywhere, everywhere, lowest}
+use borrow.Author.Tests.{ltb-false}
+use Rattle.lists.specs.Place.{anywhere, everywhere}
 use Rattle.refusal.specs.Answer.{accepted}
 use Rattle.refusal.proofs.AnswerLaws.{refuse-if-accepts}
 use Rattle.merge.specs.Set.{Sector, setBytes, isMisfitSet, sectorsIn}
@@ -33,7 +33,7 @@ merge first second room =
     answers refl
     (turn-by-test 13 _ _ (means-or (means-itself (isMisfitSet first)) (means-itself (isMisfitSet second)))
     (turn-by-test 15 _ _ (means-crowded a b)
-    (turn-by-test 17 _ _ (means-at (anywhere (atOddsAt a b) numbers) (lowest (atOddsAt a b) numbers))
+    (turn-by-test 17 _ _ (means-at _ _)
     (turn-by-test 9 accept (accepted count) (means-below room (length (setBytes (merged a b))))
     (accepted-in-turn count)))))
 
@@ -47,12 +47,10 @@ merge-output first second old =
     let b = sectorsIn second in
     let room = length old in
     let n = length (setBytes (merged a b)) in
-    settled-is-lent (countedInBytes (mergeAnswer first second room)) (setBytes (merged a b)) old
+    settled-is-lent _ (setBytes (merged a b)) old
     (λ e.
     let after-13 = refuse-if-accepts (isMisfitSet first || isMisfitSet second) 12 0 _ e in
     let after-15 = refuse-if-accepts (isCrowded a b) 14 0 _ (after-13 .1) in
     let after-17 = refuse-if-accepts (anywhere (atOddsAt a b) numbers) 16 _ _ (after-15 .1) in
-    let after-9 = refuse-if-accepts (ltb room n) 8 0 (accepted (length (merged a b))) (after-17 .1) in (
-      ltb-false room n (after-9 .0),
-      ap (λ (t : Bool). cond t n 0) (eq-eqb (mergeRule first second room .number) 0 e),
-    ))
+    let after-9 = refuse-if-accepts (ltb room n) 8 0 _ (after-17 .1) in
+    (ltb-false room n (after-9 .0), cc))

@@ -1,13 +1,13 @@
 -- Laws of answers in an order of causes: a rule makes its tests one after the other, and where each test means its
 -- cause, the answer is that of the first cause that holds. Rests on no axiom.
 use Prim.Native.Nat.{ℕ, suc, _≤_, _<_}
-use mathlib.Core.Path.{_≡_, refl, sym, ap, _∙_}
+use mathlib.Core.Path.{_≡_, refl}
 use mathlib.Core.Bool.{Bool, true, false, cond, not, _||_, true≢false, false≢true}
 use mathlib.Core.List.{List, _∷_}
 use mathlib.Core.Logic.{_⊎_, inl, inr, ⊎-elim}
 use native.Mathlib.Omega.{arith}
 use lib.Dec.{ltb, eqb, eqb·suc-zero}
-use lib.ListN.{length, take, drop}
+use lib.ListN.{length, drop}
 use lib.Seq.{drop-append-seam}
 use borrow.Author.Tests.{ltb-true, ltb-false, eqb-false, ne-eqb}
 use Rattle.lists.specs.Place.{everywhere}
@@ -65,10 +65,7 @@ means-itself false = record { holds = λ e. absurd (false≢true e); fails = λ 
 
 pub means-below : (a b : ℕ) → Means (ltb a b) 0 (at0 (a < b))
 means-below a b =
-    record {
-      holds = λ e. (ltb-true a b e, refl);
-      fails = λ e k c. let h = ltb-false a b e in let l = c .0 in omega arith;
-    }
+    record { holds = λ e. (ltb-true a b e, refl); fails = λ e k c. let h = ltb-false a b e in omega arith }
 
 pub means-not : (t : Bool) → Means (not t) 0 (at0 (t ≡ false))
 means-not true = record { holds = λ e. absurd (false≢true e); fails = λ e k c. true≢false (c .0) }
@@ -99,19 +96,14 @@ named : (order : Order) (a : Answer) → InTurn order a → OneOf (a .number) (0
 unfolding InTurn OneOf orderNumbers
 named accept a e = inl e
 named (turn n Cause later) a q =
-    ⊎-elim
-    (λ here. inr (inl (here .1)))
-    (λ on. ⊎-elim (λ zero. inl zero) (λ among. inr (inr among)) (named later a (on .1)))
-    q
+    ⊎-elim (λ here. inr (inl (here .1)))
+    (λ on. ⊎-elim (λ zero. inl zero) (λ among. inr (inr among)) (named later a (on .1))) q
 
 accepted-if-no-cause : (order : Order) (a : Answer) → InTurn order a → NoCause order → a .number ≡ 0
 unfolding InTurn NoCause
 accepted-if-no-cause accept a e none = e
 accepted-if-no-cause (turn n Cause later) a q none =
-    ⊎-elim
-    (λ here. absurd (none .0 (a .place) (here .0)))
-    (λ on. accepted-if-no-cause later a (on .1) (none .1))
-    q
+    ⊎-elim (λ here. absurd (none .0 (a .place) (here .0))) (λ on. accepted-if-no-cause later a (on .1) (none .1)) q
 
 no-cause-if-accepted
     : (order : Order) (a : Answer)
@@ -123,8 +115,7 @@ unfolding InTurn NoCause orderNumbers
 no-cause-if-accepted accept a positive q e = tt
 no-cause-if-accepted (turn n Cause later) a positive q e =
     let some = ltb-true 0 n (everywhere-passes-at-first (ltb 0) n (orderNumbers later) positive) in
-    ⊎-elim
-    (λ here. absurd (let same = here .1 in omega arith))
+    ⊎-elim (λ here. absurd (omega arith))
     (λ on. (on .0, no-cause-if-accepted later a (everywhere-in-rest (ltb 0) n (orderNumbers later) positive) (on .1) e))
     q
 
@@ -164,7 +155,7 @@ unfolding InTurn
 turn-not-answered true m n Cause order a same none rest q e =
     ⊎-elim (λ here. none .0 (a .place) (here .0)) (λ on. rest (on .1) (none .1) e) q
 turn-not-answered false m n Cause order a other none rest q e =
-    ⊎-elim (λ here. eqb-false n m other (sym (here .1) ∙ e)) (λ on. rest (on .1) none e) q
+    ⊎-elim (λ here. eqb-false n m other (cc)) (λ on. rest (on .1) none e) q
 
 pub not-answered
     : (m : ℕ) (order : Order) (a : Answer) → InTurn order a → NoCauseOf (suc m) order → a .number ≡ suc m → ⊥
@@ -183,10 +174,9 @@ unfolding filled
 settled-is-lent a result old h =
     let fills = acceptance-fills-the-buffer a result old in
     record {
-      as-it-was = λ refuses. rw (ne-eqb (a .number) 0 refuses);
+      as-it-was = λ refuses. rw ne-eqb;
       has-room = λ e. h e .0;
       counted = λ e. h e .1;
-      front = λ e. ap (take (length result)) (fills e) ∙ front-of-filled result old;
-      remainder =
-          λ e. ap (drop (length result)) (fills e) ∙ drop-append-seam result (drop (length result) old);
+      front = λ e. cc (fills e, front-of-filled result old);
+      remainder = λ e. cc (fills e, drop-append-seam result (drop (length result) old));
     }

@@ -34,7 +34,7 @@ passed-of-accepted p ds room h =
     let after-4 = refuse-if-accepts (ltb 51202 (length ds)) 3 0 _ (after-1-2 .1) in
     let after-5-6 = first-refusal-accepts (edgeRule (classesOf p ds)) _ (after-4 .1) in
     let after-8 = first-refusal-accepts (stripRule (cellsRead p ds)) _ (after-5-6 .1) in
-    let after-9 = refuse-if-accepts (ltb room (length (itemsOfStream p ds))) 8 0 _ (after-8 .1) in
+    let after-9 = refuse-if-accepts _ 8 0 _ (after-8 .1) in
     record {
       profile = after-1-2 .0;
       short = ltb-false 51202 (length ds) (after-4 .0);
@@ -67,8 +67,7 @@ reads-as-its-list p ds output ws q e =
     let answer = accepted-of-passed p ds (length output) q in
     record {
       answer = answer ∙ ap (λ (us : List ℕ). accepted (length us)) e;
-      front =
-          ap (take (length ws))
+      front = ap (take (length ws))
           (acceptance-fills-the-buffer (readRule p ds (length output)) (itemsOfStream p ds) output
           (ap (λ a. a .number) answer)
           ∙ ap (λ (us : List ℕ). filled us output) e)

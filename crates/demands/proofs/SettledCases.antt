@@ -19,7 +19,8 @@ use Rattle.demands.specs.Settled.{worked, SettledCases}
 
 pub settled-cases : SettledCases
 unfolding isMark isCheck itemBytes writtenFrom written byteBits withGaps markBits writtenBits allBits bitsOf
-    pairSymbols symbolsFrom symbolsOf writtenSymbols anywhere lowest unset isTrue profileRule atStart classIn cursorPast classesFrom classOf classesOf point
+    pairSymbols symbolsFrom symbolsOf writtenSymbols anywhere lowest unset isTrue profileRule atStart classIn
+    cursorPast classesFrom classOf classesOf point
     symbolAfter cellLength lengthsFrom lengthsOf byteStream streamOf marginOf marginRule
     isByte isItem isForeign bytesOf writtenBytes listRule streamRule writeRule
 settled-cases =

@@ -1,21 +1,20 @@
 -- 5, 6 and 11 in their turn: both readers stop at the first interval that is narrow or wide, so that at most one of the
 -- causes holds, at one place. Rests on no axiom.
 use Prim.Native.Nat.{ℕ, _≤_, _<_}
-use mathlib.Core.Path.{_≡_, refl, sym, ap, subst, _∙_}
+use mathlib.Core.Path.{_≡_, refl}
 use mathlib.Core.Bool.{false, true≢false}
 use mathlib.Core.List.{List}
 use mathlib.Core.Logic.{inl, inr}
 use native.Mathlib.Nat.{zero-add}
 use native.Mathlib.Omega.{arith}
-use lib.ListN.{getD, take}
+use lib.ListN.{take}
 use lib.Seq.{take-length}
 use Rattle.lists.specs.Place.{anywhere, lowest}
 use Rattle.lists.proofs.PlaceLaws.{lowest-of-none}
 use Rattle.refusal.specs.Answer.{Answer, firstRefusal}
-use Rattle.timing.specs.Class.{classNumber}
 use Rattle.intervals.specs.Cells.{edgeRule}
 use Rattle.timing.specs.declared.Class.{Class}
-use Rattle.timing.specs.declared.Class.the-variants.{Narrow, Two, Wide}
+use Rattle.timing.specs.declared.Class.the-variants.{Narrow, Wide}
 use Rattle.symbols.specs.Bits.{O}
 use Rattle.symbols.specs.Reading.{readBits}
 use Rattle.fields.specs.Field.{bitsWanted, fieldStop}
@@ -31,13 +30,13 @@ module _ (cs : List Class) (order : Order) (later : Answer) (rest : InTurn order
   first-at f = (f .0, refl, f .1)
 
   first-is-one : {d e : Class} {k : ℕ} → IsFirst d cs → FirstUnread e cs k → d ≡ e
-  first-is-one f g = sym (f .1) ∙ ap (λ (j : ℕ). getD cs j Two) (sym (g .1)) ∙ g .2
+  first-is-one f g = cc (f .1, g .1, g .2)
 
   not-narrow : {k : ℕ} → IsFirst Wide cs → FirstUnread Narrow cs k → ⊥
-  not-narrow f g = let z : _≡_ {A = ℕ} 5 1 = ap classNumber (first-is-one f g) in omega arith
+  not-narrow f g = let z : _≡_ {A = ℕ} 5 1 = cc in omega arith
 
   none-first : {d : Class} {k : ℕ} → anywhere isUnread cs ≡ false → FirstUnread d cs k → ⊥
-  none-first none g = true≢false (sym (g .0) ∙ none)
+  none-first none g = true≢false (cc)
 
   -- ---- the strip reader's first of 5 or 6
 
@@ -68,33 +67,26 @@ module _ (cs : List Class) (order : Order) (later : Answer) (rest : InTurn order
 
     -- with no such interval the front is the whole list
     whole-front : anywhere isUnread cs ≡ false → take (lowest isUnread cs) cs ≡ cs
-    whole-front none = ap (λ (k : ℕ). take k cs) (lowest-of-none isUnread cs none) ∙ take-length cs
+    whole-front none = cc (lowest-of-none isUnread cs none, take-length cs)
 
     met-too-late : {d : Class} → bitsWanted n ≤ frontBits O cs → Nowhere (Stopped d)
     unfolding readBits
-    met-too-late h k s =
-        let fewer : frontBits O cs < bitsWanted n =
-        subst (λ (j : ℕ). Fewer (take j cs) n) (s .0 .1) (s .1) in
-        omega arith
+    met-too-late h k s = let fewer : frontBits O cs < bitsWanted n = rw (← s .0 .1) (s .1) in omega arith
 
     ends-too-late : bitsWanted n ≤ frontBits O cs → Nowhere (at0 Ended)
     unfolding readBits
     ends-too-late h k s =
-        let fewer : frontBits O cs < bitsWanted n =
-        subst (λ (l : List Class). Fewer l n) (sym (whole-front (s .0 .0))) (s .0 .1) in
-        omega arith
+        let fewer : frontBits O cs < bitsWanted n = rw (whole-front (s .0 .0)) (s .0 .1) in omega arith
 
     stops-in-turn : {a : Answer} → Stops cs 0 (bitsWanted n) O a → InTurn fieldStops (firstRefusal a later)
     unfolding InTurn readBits
     stops-in-turn (enough h e) = rw e (inr (met-too-late h, inr (met-too-late h, inr (ends-too-late h, rest))))
     stops-in-turn (at-narrow h f e) = rw (e, zero-add) (inl ((first-at f, h), refl))
-    stops-in-turn (at-wide h f e) =
-        rw (e, zero-add) (inr (λ k s. not-narrow f (s .0), inl ((first-at f, h), refl)))
+    stops-in-turn (at-wide h f e) = rw (e, zero-add) (inr (λ k s. not-narrow f (s .0), inl ((first-at f, h), refl)))
     stops-in-turn (at-end h none e) =
-        let whole = subst (λ (l : List Class). Fewer l n) (whole-front none) h in
+        let whole = rw (whole-front none) at h in
         rw e
-        (inr
-        (λ k s. none-first none (s .0), inr (λ k s. none-first none (s .0), inl (((none, whole), refl), refl))))
+        (inr (λ k s. none-first none (s .0), inr (λ k s. none-first none (s .0), inl (((none, whole), refl), refl))))
 
     pub stop-in-turn : InTurn fieldStops (firstRefusal (fieldStop cs n) later)
     unfolding fieldStop

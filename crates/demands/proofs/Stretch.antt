@@ -1,7 +1,7 @@
 -- Why compensation stretches no track: the compare points between the first and the last cancel out, the first lies
 -- between Early and Normal since a symbol 1 counts before it, and the last between Normal and Late since one counts
 -- after it. Rests on no axiom.
-use Prim.Native.Nat.{ℕ, suc, zero, _+_, _-_, _*_, _≤_}
+use Prim.Native.Nat.{ℕ, _+_, _-_, _*_, _≤_}
 use native.Mathlib.Nat.{add-mul, mul-assoc, mul-comm}
 use native.Mathlib.Omega.{arith}
 use mathlib.Core.Path.{_≡_, sym, ap, _∙_}
@@ -15,15 +15,12 @@ use Rattle.timing.specs.declared.Profile.{Profile}
 use Rattle.timing.proofs.ProfileLaws.{Kept, kept}
 use Rattle.lengths.specs.Stream.{streamOf}
 use Rattle.lengths.proofs.SumLaws.{sum-of-stream, units-of-stream, first-point-is-early, last-point-is-late}
-use Rattle.demands.specs.Stretch.{trackLength, firstPointOf, lastPointOf, zerosOf, Unstretched}
+use Rattle.demands.specs.Stretch.{trackLength, firstPointOf, lastPointOf, zerosOf}
 use Rattle.demands.specs.Stretch.{CompensationStretchesNothing}
 
 -- c cells of 2 t and z 0s of t are u units of t
 in-one-unit : (c z u t : ℕ) → 2 * c + z ≡ u → c * (2 * t) + z * t ≡ u * t
-in-one-unit c z u t e =
-    ap (λ (n : ℕ). n + z * t) (sym (mul-assoc c 2 t) ∙ ap (λ (n : ℕ). n * t) (mul-comm c 2))
-    ∙ sym (add-mul (2 * c) z t)
-    ∙ ap (λ (n : ℕ). n * t) e
+in-one-unit c z u t e = cc (mul-assoc c 2 t, mul-comm c 2, add-mul (2 * c) z t)
 
 module _ (p : Profile) (k : Kept p) (items : List ℕ) where
   by-cells
@@ -34,27 +31,14 @@ module _ (p : Profile) (k : Kept p) (items : List ℕ) where
 
   units : 2 * length (streamOf p items) + zerosOf items ≡ 16 * writtenBytes items + 4
   unfolding streamOf
-  units =
-      sym (units-of-stream p k (written items))
-      ∙ units-of-written (written items)
-      ∙ ap (λ (n : ℕ). 16 * n + 4) (length-of-written items)
+  units = cc (units-of-stream p k (written items), units-of-written (written items), length-of-written items)
 
   by-written-bytes
       : p .t1 .0 ≡ 2 * p .t0 .0
       → trackLength p items + 2 * firstPointOf p items
       ≡ (16 * writtenBytes items + 4) * p .t0 .0 + 2 * lastPointOf p items
   by-written-bytes double =
-      let cells = length (streamOf p items) in
-      by-cells
-      ∙ ap (λ (n : ℕ). n + 2 * lastPointOf p items)
-      (ap (λ (t1 : ℕ). cells * t1 + zerosOf items * p .t0 .0) double
-      ∙ in-one-unit cells (zerosOf items) (16 * writtenBytes items + 4) (p .t0 .0) units)
-
-  first-is-early : (p .early .0 ≤ firstPointOf p items) × (firstPointOf p items ≤ p .normal .0)
-  first-is-early = first-point-is-early p k (written items)
-
-  last-is-late : (p .normal .0 ≤ lastPointOf p items) × (lastPointOf p items ≤ p .late .0)
-  last-is-late = last-point-is-late p k (written items)
+      let cells = length (streamOf p items) in cc (by-cells, double, in-one-unit cells _ _ _ units)
 
 -- both sums lie between (16n + 4) × T0 and that with 2 × (Late − Early) added
 within-one-swing
@@ -73,19 +57,11 @@ compensation-stretches-nothing p accepts =
       by-cells-and-zeros = λ items listed. by-cells p k items;
       in-units = λ items listed. units p k items;
       by-bytes = λ double items listed. by-written-bytes p k items double;
-      near-each-other =
-          λ double items others listed listed-too same.
+      near-each-other = λ double items others listed listed-too same.
           let bytes = ap (λ (n : ℕ). (16 * n + 4) * p .t0 .0 + 2 * lastPointOf p others) (sym same) in
-          within-one-swing (trackLength p items) (trackLength p others) ((16 * writtenBytes items + 4) * p .t0 .0)
-          (firstPointOf p items)
-          (lastPointOf p items)
-          (firstPointOf p others)
-          (lastPointOf p others)
-          (p .early .0)
-          (p .normal .0)
-          (p .late .0)
-          (by-written-bytes p k items double)
-          (by-written-bytes p k others double ∙ bytes)
-          (first-is-early p k items .0, last-is-late p k items .1)
-          (first-is-early p k others .1, last-is-late p k others .0);
+          within-one-swing (trackLength p items) (trackLength p others) _ (firstPointOf p items) (lastPointOf p items)
+          (firstPointOf p others) (lastPointOf p others) (p .early .0) (p .normal .0) (p .late .0)
+          (by-written-bytes p k items double) (by-written-bytes p k others double ∙ bytes)
+          (first-point-is-early p k (written items) .0, last-point-is-late p k (written items) .1)
+          (first-point-is-early p k (written others) .1, last-point-is-late p k (written others) .0);
     }

@@ -36,22 +36,19 @@ record OneMore (c : Class) (x : Cell) (cs : List Class) : Type 0 where
 
 one-more : {c : Class} {x : Cell} → ReadAs c x → (cs : List Class) → OneMore c x cs
 unfolding anywhere lowest cellsOfClasses readFrom
-one-more as-short cs =
-    record { read = refl; place = refl; bits = λ b. length-append (given b Short) _ }
-one-more as-medium cs =
-    record { read = refl; place = refl; bits = λ b. length-append (given b Medium) _ }
-one-more as-long cs =
-    record { read = refl; place = refl; bits = λ b. length-append (given b Long) _ }
+one-more as-short cs = record { read = refl; place = refl; bits = λ b. length-append (given b Short) _ }
+one-more as-medium cs = record { read = refl; place = refl; bits = λ b. length-append (given b Medium) _ }
+one-more as-long cs = record { read = refl; place = refl; bits = λ b. length-append (given b Long) _ }
 
 first-of-one-more : {c d : Class} {x : Cell} {cs : List Class} → OneMore c x cs → IsFirst d cs → IsFirst d (c ∷ cs)
-first-of-one-more {c} {d} {x} {cs} m f = (m .read ∙ f .0, ap (λ (k : ℕ). getD (c ∷ cs) k Two) (m .place) ∙ f .1)
+first-of-one-more {c} {d} {x} {cs} m f = (cc, cc (m .place, f .1))
 
 place-of-one-more
     : {c : Class} {x : Cell} {cs : List Class} (n k : ℕ) {a : Answer}
     → OneMore c x cs
     → a ≡ refused n (suc k + lowest isUnread cs)
     → a ≡ refused n (k + lowest isUnread (c ∷ cs))
-place-of-one-more n k m e = e ∙ ap (refused n) (let p = m .place in omega arith)
+place-of-one-more n k m e = e ∙ ap (refused n) (omega arith)
 
 -- ---- what the strip reader meets, from place k on
 

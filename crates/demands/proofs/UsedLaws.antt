@@ -21,7 +21,7 @@ use Rattle.symbols.specs.Reading.{readBits, readFrom}
 use Rattle.symbols.specs.Strip.{stripRule, isRagged}
 use Rattle.intervals.specs.Cells.{cellsRead, cellsOfClasses}
 use Rattle.codec.specs.Reader.{readRule}
-use Rattle.fields.specs.Field.{stopFrom, cellsTaken, fieldStop, fieldCells, fieldUsed, bitsWanted, fieldHolds}
+use Rattle.fields.specs.Field.{stopFrom, cellsTaken, fieldStop, fieldCells, fieldUsed, bitsWanted}
 use Rattle.fields.specs.FieldRule.{gatherRule, checkedRule, fieldRule, fieldReading, fieldTurnedAway}
 use Rattle.demands.proofs.ReadLaws.{passed-of-accepted}
 
@@ -38,8 +38,7 @@ no-intervals-are-ragged p = rw (classes-of-none p) no-cells-are-ragged
 pub strip-has-intervals : (p : Profile) (ds : List ℕ) (room : ℕ) → readRule p ds room .number ≡ 0 → 0 < length ds
 strip-has-intervals p [] room h =
     let accepts = passed-of-accepted p [] room h .strip in
-    let refuses = no-intervals-are-ragged p in
-    absurd (omega arith)
+    let refuses = no-intervals-are-ragged p in absurd (omega arith)
 strip-has-intervals p (d ∷ ds) room h = omega arith
 
 -- ---- a field
@@ -73,8 +72,8 @@ unfolding fieldRule checkedRule gatherRule
 accepted-stops p ds n room h =
     let after-2 = first-refusal-accepts (profileRule p) _ h .1 in
     let after-12 = refuse-if-accepts (outside 1 1030 n) 11 0 _ after-2 .1 in
-    let gathers = first-refusal-accepts (gatherRule (classesOf p ds) n) _ after-12 .0 in
-    first-refusal-accepts (fieldStop (classesOf p ds) n) _ gathers .0
+    let gathers = first-refusal-accepts _ _ after-12 .0 in
+    first-refusal-accepts _ _ gathers .0
 
 by-acceptance
     : (t : Bool) (rule : Answer) (used : ℕ) (holds : Bool)
@@ -91,7 +90,5 @@ pub field-has-intervals
     → 0 < fieldReading p ds n room .used
 unfolding fieldReading
 field-has-intervals p ds n room =
-    by-acceptance (eqb (fieldRule p ds n room .number) 0) (fieldRule p ds n room) (fieldUsed (classesOf p ds) n)
-    (fieldHolds (classesOf p ds) n)
-    refl
+    by-acceptance _ (fieldRule p ds n room) _ _ refl
     (λ h. some-are-used (classesOf p ds) n (accepted-stops p ds n room h))

@@ -1,5 +1,5 @@
-// A block of cells, four at a time. They have 16 half cells at most and make one byte whole at most, so that whether they
-// do is told once for four, and without a jump.
+// A block of cells, four at a time. They have 16 half cells at most and make one byte whole at most, so that whether
+// they do is told once for four, and without a jump.
 ghost use Prim.Native.Nat.{_+_, _*_, _^_, _≤_, _<_};
 ghost use mathlib.Core.Path.{_≡_};
 ghost use mathlib.Core.List.{map};

@@ -28,23 +28,21 @@ clearedBy a e =
     }
 
 pub accepted-comes-with : (a : IsmAnswer) (e : ℕ) → a .number ≡ 0 → clearedBy a e ≡ withClearance e a
-accepted-comes-with a e accepts = rw (eq-eqb (a .number) 0 accepts)
+accepted-comes-with a e accepts = rw eq-eqb
 
 pub refused-comes-without
     : {r a : IsmAnswer} (e : ℕ) → r ≡ a → (r .number ≡ 0 → ⊥) → a .clearance ≡ 0 → r ≡ withClearance e a
 refused-comes-without {r} {a} e same refuses none =
-    same
-    ∙ ap (clearedBy a) none
-    ∙ rw (ne-eqb (a .number) 0 (λ h. refuses (ap (λ (x : IsmAnswer). x .number) same ∙ h)))
+    same ∙ ap (clearedBy a) none ∙ rw (ne-eqb _ 0 (λ h. refuses (ap (λ (x : IsmAnswer). x .number) same ∙ h)))
 
 pub class-accepts-profile : (p : Profile) (d : ℕ) → classRule p d .number ≡ 0 → profileRule p .number ≡ 0
 unfolding classRule
-class-accepts-profile p d h = first-refusal-accepts (profileRule p) _ h .0
+class-accepts-profile p d h = first-refusal-accepts _ _ h .0
 
 pub strip-accepts-profile
     : (p : Profile) (ds : List ℕ) (room : ℕ) → readRule p ds room .number ≡ 0 → profileRule p .number ≡ 0
 unfolding readRule
-strip-accepts-profile p ds room h = first-refusal-accepts (profileRule p) _ h .0
+strip-accepts-profile p ds room h = first-refusal-accepts _ _ h .0
 
 -- a field's answer is its rule's, whatever comes with it
 reading-is-its-rule

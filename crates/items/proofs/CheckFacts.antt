@@ -42,7 +42,8 @@ written-of-check-at-end ns = written-from-of-check-at-end freshCheck ns
 
 pub register-after-check-order-is-zero : (ns : List ℕ) → afterBytes freshCheck (written (ns ++ (512 ∷ []))) ≡ unmarked 0
 register-after-check-order-is-zero ns =
-    ap (afterBytes freshCheck) (written-of-check-at-end ns) ∙ crc-of-check-bytes-is-zero freshCheck (written ns) fresh-bound
+    ap (afterBytes freshCheck) (written-of-check-at-end ns)
+    ∙ crc-of-check-bytes-is-zero freshCheck (written ns) fresh-bound
 
 pub second-check-order-running-writes-zeros : (ns : List ℕ)
     → written (ns ++ (512 ∷ 512 ∷ [])) ≡ written (ns ++ (512 ∷ [])) ++ (0 ∷ 0 ∷ [])

@@ -84,8 +84,7 @@ after-two-data-from c ws k h high low =
 -- no mark is running after a data byte
 pub unmarked-after-data : (c : Check) (ws : List ℕ) (w : ℕ) → w < 256 → afterBytes c (ws ++ (w ∷ [])) .marked ≡ false
 unfolding afterBytes
-unmarked-after-data c ws w h =
-    ap (λ (s : Check). s .marked) (after-bytes-of-append c ws (w ∷ []) ∙ after-data (afterBytes c ws) w h)
+unmarked-after-data c ws w h = cc (after-bytes-of-append c ws (w ∷ []), after-data (afterBytes c ws) w h)
 
 -- so the register of the mark bytes that follow is that of a list of their own
 pub mark-starts-again : (c : Check) (w : ℕ) (ws : List ℕ) → isMark w ≡ true → c .marked ≡ false
@@ -100,9 +99,9 @@ unfolding afterCheck afterBytes
 after-check-is-zero c h =
     let high : ℕ = highByte (c .register) in
     let low : ℕ = lowByte (c .register) in
-    ap (λ (s : Check). afterByte s low) (after-data c high (high-byte-bound (c .register) h))
-    ∙ after-data (unmarked (fed (c .register) high)) low (low-byte-bound (c .register))
-    ∙ ap unmarked (fed-own-bytes-is-zero (c .register) h)
+    rw (after-data c high (high-byte-bound (c .register) h))
+    (after-data (unmarked (fed (c .register) high)) low (low-byte-bound (c .register))
+    ∙ ap unmarked (fed-own-bytes-is-zero (c .register) h))
 
 -- for every list: the two bytes of its own register after it leave 0
 pub crc-of-check-bytes-is-zero : (c : Check) (ws : List ℕ) → c .register < 0x10000

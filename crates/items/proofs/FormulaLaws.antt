@@ -40,13 +40,11 @@ folded-two-is-linear : Linear foldedTwo
 folded-two-is-linear =
     sum-is-linear (λ (x : ℕ). bitXor (folded x) (folded x / 2 ^ 8)) (λ (x : ℕ). x / 2 ^ 11)
     (sum-is-linear folded (λ (x : ℕ). folded x / 2 ^ 8) folded-is-linear
-    (chain-is-linear folded (λ (x : ℕ). x / 2 ^ 8) folded-is-linear (down-is-linear 8)))
-    (down-is-linear 11)
+    (chain-is-linear folded (λ (x : ℕ). x / 2 ^ 8) folded-is-linear (down-is-linear 8))) (down-is-linear 11)
 
 moved-out-is-linear : (n k : ℕ) → Linear (movedOut n k)
 moved-out-is-linear n k a b =
-    ap (shiftedBy n) (up-is-linear k a b)
-    ∙ shifted-by-of-xor n (a * 2 ^ k % 2 ^ 16) (b * 2 ^ k % 2 ^ 16) (omega arith) (omega arith)
+    cc (up-is-linear k a b, shifted-by-of-xor n (a * 2 ^ k % 2 ^ 16) (b * 2 ^ k % 2 ^ 16) (omega arith) (omega arith))
 
 -- ---- one byte
 
@@ -65,7 +63,7 @@ pub formula-is-fed : (r byte : ℕ) → r < 0x10000 → byte < 256
     → bitXor (r * 256 % 0x10000) (spread (folded (bitXor (r / 256) byte))) ≡ fed r byte
 formula-is-fed r byte hr hb =
     let top : ℕ = bitXor (r / 256) byte in
-    let bound : bitXor (r / 256) byte < 256 = xor-lt 8 (r / 256) byte (omega arith) hb in
+    let bound = xor-lt 8 (r / 256) byte (omega arith) hb in
     let moved : r * 256 % 0x10000 ≡ r % 256 * 256 = omega arith in
     ap₂ bitXor moved (sym (fed-zero-is-byte-moved-out top bound ∙ byte-moved-out top bound))
     ∙ xor-comm (r % 256 * 256) (fed 0 top)
@@ -86,8 +84,7 @@ unfolding fed shiftedBy
 fed-twice-is-sixteen-steps r high low hr hh hl =
     let first : ℕ = bitXor r (high * 256) in
     let bound : bitXor r (high * 256) < 0x10000 = xor-lt 16 r (high * 256) hr (omega arith) in
-    ap (λ (x : ℕ). shiftedBy 8 (bitXor (shiftedBy 8 first) x)) (sym (shifted-by-is-power 8 low (omega arith)))
-    ∙ ap (shiftedBy 8) (sym (shifted-by-of-xor 8 first low bound (omega arith)))
+    cc (shifted-by-is-power 8 low (omega arith), shifted-by-of-xor 8 first low bound (omega arith))
 
 -- the step that the code takes for two
 pub two-byte-formula-is-fed-twice : (r high low : ℕ) → r < 0x10000 → high < 256 → low < 256
@@ -98,7 +95,7 @@ two-byte-formula-is-fed-twice r high low hr hh hl =
     let bound : bitXor (bitXor r (high * 256)) low < 0x10000 =
     xor-lt 16 (bitXor r (high * 256)) low first (omega arith) in
     let whole : high * 256 % 0x10000 ≡ high * 256 = omega arith in
-    ap (λ (x : ℕ). spread (foldedTwo (bitXor (bitXor r x) low))) whole
-    ∙ sym (two-moved-out top bound)
+    rw whole
+    (sym (two-moved-out top bound)
     ∙ ap (shiftedBy 16) (omega arith)
-    ∙ sym (fed-twice-is-sixteen-steps r high low hr hh hl)
+    ∙ sym (fed-twice-is-sixteen-steps r high low hr hh hl))

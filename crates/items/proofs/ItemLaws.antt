@@ -84,7 +84,7 @@ pub items-but-no-check-are-bytes : (ns : List ℕ) → anywhere isForeign ns ≡
     → everywhere isByte ns ≡ true
 items-but-no-check-are-bytes [] e f = everywhere-of-none isByte
 items-but-no-check-are-bytes (n ∷ ns) e f =
-    let item : isItem n ≡ true = not-foreign-is-item n (nowhere-fails-at-first isForeign n ns e) in
+    let item = not-foreign-is-item n (nowhere-fails-at-first isForeign n ns e) in
     everywhere-of-passing isByte n ns (item-but-no-check-is-byte n item (nowhere-fails-at-first isCheck n ns f))
     ∙ items-but-no-check-are-bytes ns (nowhere-in-rest isForeign n ns e) (nowhere-in-rest isCheck n ns f)
 
@@ -107,7 +107,10 @@ bytes-of-bounds n =
 pub written-bytes-bounds : (ns : List ℕ) → (length ns ≤ writtenBytes ns) × (writtenBytes ns ≤ 2 * length ns)
 unfolding writtenBytes
 written-bytes-bounds [] = omega arith
-written-bytes-bounds (n ∷ ns) = let one = bytes-of-bounds n in let rest = written-bytes-bounds ns in omega arith
+written-bytes-bounds (n ∷ ns) =
+    let one = bytes-of-bounds n in
+    let rest = written-bytes-bounds ns in
+    omega arith
 
 -- a list that writes no more bytes than it has numbers
 pub one-byte-each-is-no-check : (ns : List ℕ) → writtenBytes ns ≡ length ns → anywhere isCheck ns ≡ false

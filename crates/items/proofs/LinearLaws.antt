@@ -22,7 +22,7 @@ down-is-linear k a b = xor-shr a b k
 
 -- up within 16 bits
 pub up-is-linear : (k : ℕ) → Linear (λ (x : ℕ). x * 2 ^ k % 2 ^ 16)
-up-is-linear k a b = ap (λ (x : ℕ). x % 2 ^ 16) (xor-up k a b) ∙ xor-mod (a * 2 ^ k) (b * 2 ^ k) 16
+up-is-linear k a b = cc (xor-up k a b, xor-mod (a * 2 ^ k) (b * 2 ^ k) 16)
 
 pub sum-is-linear : (f g : ℕ → ℕ) → Linear f → Linear g → Linear (λ (x : ℕ). bitXor (f x) (g x))
 sum-is-linear f g hf hg a b = ap₂ bitXor (hf a b) (hg a b) ∙ xor-exchange (f a) (f b) (g a) (g b)
@@ -60,8 +60,6 @@ linear-by-single-bits (suc n) f g hf hg bits a h =
     let half : a / 2 < 2 ^ n = omega (arith, pow-suc 2 n) in
     let above : f (a / 2 * 2) ≡ g (a / 2 * 2) =
     linear-by-single-bits n (λ (x : ℕ). f (x * 2)) (λ (x : ℕ). g (x * 2))
-    (chain-is-linear (λ (x : ℕ). x * 2) f (xor-up 1) hf) (chain-is-linear (λ (x : ℕ). x * 2) g (xor-up 1) hg)
-    others (a / 2) half in
-    linear-by-halves f hf a
-    ∙ ap₂ bitXor above (agree-on-digit f g hf hg lowest (a % 2) (omega arith))
-    ∙ sym (linear-by-halves g hg a)
+    (chain-is-linear (λ (x : ℕ). x * 2) f (xor-up 1) hf) (chain-is-linear (λ (x : ℕ). x * 2) g (xor-up 1) hg) others
+    (a / 2) half in
+    cc (linear-by-halves f hf a, agree-on-digit f g hf hg lowest (a % 2) (omega arith), linear-by-halves g hg a)

@@ -66,9 +66,7 @@ shifted-by-is-power zero r h = sym (mul-one r)
 shifted-by-is-power (suc n) r h =
     let doubled : r * 2 ^ suc n ≡ r * 2 * 2 ^ n = ap (λ (p : ℕ). r * p) (pow-succ' 2 n) ∙ sym (mul-assoc r 2 (2 ^ n)) in
     let least : r * 2 * 1 ≤ r * 2 * 2 ^ n = mul-le-mul-left (r * 2) (pow-pos n) in
-    ap (shiftedBy n) (shifted-below-top-is-double r (omega arith))
-    ∙ shifted-by-is-power n (r * 2) (omega arith)
-    ∙ sym doubled
+    cc (shifted-below-top-is-double r (omega arith), shifted-by-is-power n (r * 2) (omega arith))
 
 shifted-by-bound : (n r : ℕ) → r < 0x10000 → shiftedBy n r < 0x10000
 unfolding shiftedBy
@@ -102,9 +100,7 @@ zero-fed-zero = refl
 -- a register that is fed its own high byte
 pub fed-own-high-byte-is-low-byte-moved-up : (r : ℕ) → r < 0x10000 → fed r (highByte r) ≡ lowByte r * 256
 fed-own-high-byte-is-low-byte-moved-up r h =
-    fed-is-top-and-low-byte r (highByte r) h (omega arith)
-    ∙ ap (λ (x : ℕ). bitXor (fed 0 x) (lowByte r * 256)) (xor-self (highByte r))
-    ∙ ap (λ (x : ℕ). bitXor x (lowByte r * 256)) zero-fed-zero
+    cc (fed-is-top-and-low-byte r (highByte r) h (omega arith), xor-self (highByte r), zero-fed-zero)
 
 -- a register that is fed its own two bytes, high byte first
 pub fed-own-bytes-is-zero : (r : ℕ) → r < 0x10000 → fed (fed r (highByte r)) (lowByte r) ≡ 0

@@ -2,7 +2,7 @@
 -- is. Rests on no axiom.
 use Prim.Native.Nat.{ℕ, _≤_, _<_}
 use mathlib.Core.Path.{_≡_, refl, sym, ap, _∙_}
-use mathlib.Core.Bool.{Bool, true, false, cond, _||_, or-true, true≢false}
+use mathlib.Core.Bool.{Bool, true, false, cond, or-true}
 use mathlib.Mathlib.Data.Bool.Basic.{or-eq-false-eq-eq-false-and-eq-false}
 use mathlib.Core.List.{List}
 use native.Mathlib.Omega.{arith}
@@ -21,7 +21,7 @@ use Rattle.items.proofs.WrittenLaws.{written-of-no-check, length-of-wri
 module _ (ns : List ℕ) where
   pub rule-of-too-many : 6400 < length ns → refused 4 0 ≡ listRule ns
   unfolding listRule
-  rule-of-too-many h = rw (lt-ltb 6400 (length ns) h)
+  rule-of-too-many h = rw lt-ltb
 
   pub rule-of-too-many-bytes : (n : ℕ) → n ≡ writtenBytes ns → 6400 < n → refused 4 0 ≡ listRule ns
   unfolding listRule
@@ -35,7 +35,7 @@ module _ (ns : List ℕ) where
       → n ≤ 6400
       → cond (anywhere isForeign ns) (refused 3 (lowest isForeign ns)) (accepted 0) ≡ listRule ns
   unfolding listRule
-  within-counts n k few e few-bytes = rw (← e, le-ltb 6400 (length ns) few, le-ltb 6400 n few-bytes)
+  within-counts n k few e few-bytes = rw (← e, le-ltb, le-ltb)
 
   -- a place below the length is that of a number that is no item
   found : (t : Bool) → anywhere isForeign ns ≡ t → lowest isForeign ns < length ns → t ≡ true
@@ -56,9 +56,7 @@ module _ (ns : List ℕ) where
       → refused 3 k ≡ listRule ns
   rule-of-foreign n k few e few-bytes place h =
       let some : anywhere isForeign ns ≡ true = found (anywhere isForeign ns) refl (rw (← place) h) in
-      ap (refused 3) place
-      ∙ sym (ap (λ (t : Bool). cond t (refused 3 (lowest isForeign ns)) (accepted 0)) some)
-      ∙ within-counts n k few e few-bytes
+      cc (within-counts n k few e few-bytes)
 
   pub rule-of-accepted
       : (n k : ℕ)
@@ -70,8 +68,7 @@ module _ (ns : List ℕ) where
       → accepted 0 ≡ listRule ns
   rule-of-accepted n k few e few-bytes place h =
       let none : anywhere isForeign ns ≡ false = not-found (anywhere isForeign ns) refl (rw (← place) h) in
-      sym (ap (λ (t : Bool). cond t (refused 3 (lowest isForeign ns)) (accepted 0)) none)
-      ∙ within-counts n k few e few-bytes
+      cc (within-counts n k few e few-bytes)
 
 -- ---- accepted lists
 
@@ -83,9 +80,9 @@ pub record Listed (items : List ℕ) : Type 0 where
 pub listed : (items : List ℕ) → listRule items .number ≡ 0 → Listed items
 unfolding listRule
 listed items h =
-    let counts = refuse-if-accepts (ltb 6400 (length items) || ltb 6400 (writtenBytes items)) 3 0 _ h in
-    let few = or-eq-false-eq-eq-false-and-eq-false (ltb 6400 (length items)) (ltb 6400 (writtenBytes items)) .0 (counts .0) in
-    let foreign = refuse-if-accepts (anywhere isForeign items) 2 (lowest isForeign items) _ (counts .1) in
+    let counts = refuse-if-accepts _ 3 0 _ h in
+    let few = or-eq-false-eq-eq-false-and-eq-false (ltb 6400 (length items)) _ .0 (counts .0) in
+    let foreign = refuse-if-accepts _ 2 (lowest isForeign items) _ (counts .1) in
     record {
       few-items = ltb-false 6400 (length items) (few .0);
       few-bytes = ltb-false 6400 (writtenBytes items) (few .1);
@@ -97,5 +94,5 @@ pub bytes-are-listed : (ws : List ℕ) → everywhere isByte ws ≡ true → len
 unfolding listRule
 bytes-are-listed ws bytes few =
     let none = bytes-have-no-check ws bytes in
-    let count : writtenBytes ws ≡ length ws = sym (length-of-written ws) ∙ ap length (written-of-no-check ws none) in
+    let count = sym (length-of-written ws) ∙ ap length (written-of-no-check ws none) in
     rw (count, le-ltb 6400 (length ws) few, bytes-are-items ws bytes)

@@ -33,11 +33,11 @@ item-bytes-of-byte c n e = rw e
 
 pub after-item-of-check : (c : Check) (n : ℕ) → isCheck n ≡ true → afterItem c n ≡ afterCheck c
 unfolding afterItem afterCheck
-after-item-of-check c n e = ap (afterBytes c) (item-bytes-of-check c n e)
+after-item-of-check c n e = cc (item-bytes-of-check c n e)
 
 pub after-item-of-byte : (c : Check) (n : ℕ) → isCheck n ≡ false → afterItem c n ≡ afterByte c n
 unfolding afterItem afterBytes
-after-item-of-byte c n e = ap (afterBytes c) (item-bytes-of-byte c n e)
+after-item-of-byte c n e = cc (item-bytes-of-byte c n e)
 
 pub length-of-item-bytes : (c : Check) (n : ℕ) → length (itemBytes c n) ≡ bytesOf n
 unfolding itemBytes bytesOf
@@ -73,12 +73,10 @@ written-from-item c n ns = refl
 -- from place k on
 pub written-from-place : (c : Check) (ns : List ℕ) (k : ℕ) → k < length ns
     → writtenFrom c (drop k ns) ≡ itemBytes c (getD ns k 0) ++ writtenFrom (afterItem c (getD ns k 0)) (drop (k + 1) ns)
-written-from-place c ns k h =
-    ap (writtenFrom c) (drop-cons ns k 0 h ∙ ap (λ (j : ℕ). getD ns k 0 ∷ drop j ns) (sym (add-one k)))
-    ∙ written-from-item c (getD ns k 0) (drop (k + 1) ns)
+written-from-place c ns k h = cc (drop-cons ns k 0 h, add-one k, written-from-item c (getD ns k 0) (drop (k + 1) ns))
 
 pub written-from-end : (c : Check) (ns : List ℕ) (k : ℕ) → length ns ≤ k → writtenFrom c (drop k ns) ≡ []
-written-from-end c ns k h = ap (writtenFrom c) (drop-of-length-le ns h) ∙ written-from-none c
+written-from-end c ns k h = cc (drop-of-length-le ns h, written-from-none c)
 
 -- ---- how many
 
@@ -86,8 +84,7 @@ pub length-of-written-from : (c : Check) (ns : List ℕ) → length (writtenFrom
 unfolding writtenFrom writtenBytes
 length-of-written-from c [] = refl
 length-of-written-from c (n ∷ ns) =
-    length-append (itemBytes c n) (writtenFrom (afterItem c n) ns)
-    ∙ ap₂ _+_ (length-of-item-bytes c n) (length-of-written-from (afterItem c n) ns)
+    length-append (itemBytes c n) _ ∙ ap₂ _+_ (length-of-item-bytes c n) (length-of-written-from (afterItem c n) ns)
 
 pub length-of-written : (ns : List ℕ) → length (written ns) ≡ writtenBytes ns
 unfolding written
@@ -100,21 +97,21 @@ pub written-from-of-append : (c : Check) (ms ns : List ℕ)
 unfolding writtenFrom afterItem afterBytes
 written-from-of-append c [] ns = refl
 written-from-of-append c (m ∷ ms) ns =
-    ap (λ (l : List ℕ). itemBytes c m ++ l) (written-from-of-append (afterItem c m) ms ns)
-    ∙ sym (append-assoc (itemBytes c m) (writtenFrom (afterItem c m) ms) _)
+    rw (written-from-of-append (afterItem c m) ms ns)
+    (sym (append-assoc (itemBytes c m) (writtenFrom (afterItem c m) ms) _)
     ∙ ap (λ (s : Check). (itemBytes c m ++ writtenFrom (afterItem c m) ms) ++ writtenFrom s ns)
-    (sym (after-bytes-of-append c (itemBytes c m) (writtenFrom (afterItem c m) ms)))
+    (sym (after-bytes-of-append c (itemBytes c m) (writtenFrom (afterItem c m) ms))))
 
 -- ---- what they are
 
 pub written-from-are-bytes : (c : Check) (ns : List ℕ) → c .register < 0x10000 → anywhere isForeign ns ≡ false
     → everywhere isByte (writtenFrom c ns) ≡ true
-written-from-are-bytes c [] h e = ap (everywhere isByte) (written-from-none c) ∙ everywhere-of-none isByte
+written-from-are-bytes c [] h e = cc (written-from-none c, everywhere-of-none isByte)
 written-from-are-bytes c (n ∷ ns) h e =
-    ap (everywhere isByte) (written-from-item c n ns)
-    ∙ everywhere-of-append isByte (itemBytes c n) (writtenFrom (afterItem c n) ns)
+    rw (written-from-item c n ns)
+    (everywhere-of-append isByte (itemBytes c n) (writtenFrom (afterItem c n) ns)
     ∙ ap₂ _&&_ (item-bytes-are-bytes c n h (not-foreign-is-item n (nowhere-fails-at-first isForeign n ns e)))
-    (written-from-are-bytes (afterItem c n) ns (after-item-bound c n h) (nowhere-in-rest isForeign n ns e))
+    (written-from-are-bytes (afterItem c n) ns (after-item-bound c n h) (nowhere-in-rest isForeign n ns e)))
 
 pub written-are-bytes : (ns : List ℕ) → anywhere isForeign ns ≡ false → everywhere isByte (written ns) ≡ true
 unfolding written
@@ -140,4 +137,4 @@ pub front-of-stored-bytes : (c : Check) (ns : List ℕ) (n : ℕ) (out old : Lis
     → writtenBytes ns ≤ length old
     → take n out ≡ writtenFrom c ns
 front-of-stored-bytes c ns n out old p q h =
-    ap (take n) q ∙ front-of-stored (writtenFrom c ns) old n (length-of-written-from c ns ∙ sym p) (rw p h)
+    cc (front-of-stored (writtenFrom c ns) old n (length-of-written-from c ns ∙ sym p) (rw p h))

@@ -1,6 +1,6 @@
 -- Laws of exclusive-or that the library lacks: it works digit by digit, and on single digits it is computed.
 use Prim.Native.Nat.{ℕ, zero, suc, _+_, _*_, _/_, _%_, _^_, _<_}
-use mathlib.Core.Path.{_≡_, refl, sym, ap, ap₂, _∙_}
+use mathlib.Core.Path.{_≡_, refl, sym, ap₂, _∙_}
 use native.Mathlib.Nat.{div-add-mod', add-zero, zero-mul}
 use native.Mathlib.Omega.{arith}
 use lib.Arith.{bin-ind}
@@ -34,9 +34,7 @@ xor-assoc a =
 -- two sums of two terms, added
 pub xor-exchange : (a b c d : ℕ) → bitXor (bitXor a b) (bitXor c d) ≡ bitXor (bitXor a c) (bitXor b d)
 xor-exchange a b c d =
-    xor-assoc a b (bitXor c d)
-    ∙ ap (bitXor a) (sym (xor-assoc b c d) ∙ ap (λ (x : ℕ). bitXor x d) (xor-comm b c) ∙ xor-assoc c b d)
-    ∙ sym (xor-assoc a c (bitXor b d))
+    cc (xor-assoc a b (bitXor c d), xor-assoc b c d, xor-comm b c, xor-assoc c b d, xor-assoc a c (bitXor b d))
 
 -- a shift passes through
 pub xor-up : (k a b : ℕ) → bitXor a b * 2 ^ k ≡ bitXor (a * 2 ^ k) (b * 2 ^ k)
@@ -47,8 +45,8 @@ xor-up k a b =
 
 -- what a digit switches on
 pub xor-switch : (p x y : ℕ) → x < 2 → y < 2 → bitXor x y * p ≡ bitXor (x * p) (y * p)
-xor-switch p zero y hx hy = ap (λ (q : ℕ). bitXor q (y * p)) (sym (zero-mul p))
-xor-switch p (suc zero) zero hx hy = sym (xor-zero-r (1 * p)) ∙ ap (bitXor (1 * p)) (sym (zero-mul p))
+xor-switch p zero y hx hy = cc (zero-mul p)
+xor-switch p (suc zero) zero hx hy = cc (xor-zero-r (1 * p), zero-mul p)
 xor-switch p (suc zero) (suc zero) hx hy = zero-mul p ∙ sym (xor-self (1 * p))
 xor-switch p (suc zero) (suc (suc y)) hx hy = absurd (omega arith)
 xor-switch p (suc (suc x)) y hx hy = absurd (omega arith)

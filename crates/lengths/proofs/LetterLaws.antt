@@ -3,7 +3,7 @@
 -- eight Bools covers every data byte; of the mark bytes A1 is 1 0 1, the gap's four bits and 1, and C2 is 1 1, the
 -- gap's four bits and 1 0.
 use Prim.Native.Nat.{ℕ, _+_, _/_, _%_}
-use mathlib.Core.Path.{_≡_, refl, sym, subst}
+use mathlib.Core.Path.{_≡_, refl}
 use mathlib.Core.Bool.{Bool, true, false, cond, _||_}
 use mathlib.Core.List.{List, [], _∷_, _++_, append-assoc}
 use lib.Dec.{eqb}
@@ -17,8 +17,7 @@ letter t = cond t I O
 
 -- P t bs speaks of the letters bs after the bit t
 module _
-    (P : Bool → List Bit → Type 0)
-    (data-bit : (t : Bool) (bs : List Bit) → P t bs → (u : Bool) → P u (letter t ∷ bs))
+    (P : Bool → List Bit → Type 0) (data-bit : (t : Bool) (bs : List Bit) → P t bs → (u : Bool) → P u (letter t ∷ bs))
     (mark-gap : (bs : List Bit) → P false bs → P true (O ∷ G ∷ O ∷ O ∷ bs))
   where
     eight-bits :
@@ -50,20 +49,17 @@ module _
     mark-byte : (x y : Bool) (w : ℕ) (bs : List Bit)
         → eqb w (256 + 0xa1) ≡ x → eqb w (256 + 0xc2) ≡ y
         → ((t : Bool) → P t bs) → (u : Bool) → P u (cond (x || y) (markBits (w % 256)) (byteBits w) ++ bs)
-    mark-byte true y w bs ex ey p u =
-        subst (λ (v : ℕ). P u (markBits (v % 256) ++ bs)) (sym (eqb-true w (256 + 0xa1) ex)) (mark-a1 bs (p true) u)
-    mark-byte false true w bs ex ey p u =
-        subst (λ (v : ℕ). P u (markBits (v % 256) ++ bs)) (sym (eqb-true w (256 + 0xc2) ey)) (mark-c2 bs (p false) u)
+    mark-byte true y w bs ex ey p u = rw (eqb-true w (256 + 0xa1) ex) (mark-a1 bs (p true) u)
+    mark-byte false true w bs ex ey p u = rw (eqb-true w (256 + 0xc2) ey) (mark-c2 bs (p false) u)
     mark-byte false false w bs ex ey p u = data-byte w bs p u
 
     written-byte : (w : ℕ) (bs : List Bit) → ((t : Bool) → P t bs) → (u : Bool) → P u (writtenBits w ++ bs)
     unfolding writtenBits isMark
-    written-byte w bs = mark-byte (eqb w (256 + 0xa1)) (eqb w (256 + 0xc2)) w bs refl refl
+    written-byte w bs = mark-byte _ _ w bs refl refl
 
     pub every-list-has-it
         : (end : List Bit) → ((t : Bool) → P t end) → (ws : List ℕ) (u : Bool) → P u (allBits ws ++ end)
     unfolding allBits
     every-list-has-it end p [] u = p u
     every-list-has-it end p (w ∷ ws) u =
-        subst (P u) (sym (append-assoc (writtenBits w) (allBits ws) end))
-        (written-byte w (allBits ws ++ end) (every-list-has-it end p ws) u)
+        rw append-assoc (written-byte w (allBits ws ++ end) (every-list-has-it end p ws) u)

@@ -4,7 +4,7 @@ use Prim.Native.Nat.{ℕ, _+_, _-_, _*_, _≤_, _<_, min}
 use native.Mathlib.Omega.{arith}
 use native.Mathlib.Nat.{min-le-left, min-le-right, le-refl, le-trans}
 use native.Mathlib.Decide.{decLt}
-use mathlib.Core.Path.{_≡_, sym, ap, _∙_}
+use mathlib.Core.Path.{_≡_}
 use mathlib.Core.List.{[], _∷_}
 use lib.Dec.{lit<}
 use lib.ListN.{length, getD}
@@ -68,7 +68,7 @@ pub record Broken (p : Profile) (n : ℕ) : Type 0 where
   pub other-class : classOf p moved ≡ classOf p (getD (byteStream p (byte ∷ [])) place 0) → ⊥
 
 classes-differ : {a b : Class} (c e : Class) → a ≡ c → b ≡ e → (classNumber c ≡ classNumber e → ⊥) → a ≡ b → ⊥
-classes-differ c e ac be differ same = differ (ap classNumber (sym ac ∙ same ∙ be))
+classes-differ c e ac be differ same = differ (cc)
 
 broken-at :
     {p : Profile} {b place l : ℕ} (n d : ℕ)
@@ -95,51 +95,39 @@ broken-at {p} {b} {place} {l} n d t byte fits longer shorter other =
 module _ {p : Profile} (k : Kept p) (n : ℕ) where
   broken-below-two : p .t1 .0 - swing p - p .min .0 < n → Broken p n
   broken-below-two h =
-      broken-at n (p .min .0 - 1) (shortest-two-is-taken k) (lit< tt)
-      (omega (arith, k)) (omega (arith, k)) (omega (arith, k))
-      (classes-differ Narrow Two (class-below-min-is-narrow p _ (omega (arith, k)))
-      (class-below-b23-is-two p _ (omega (arith, k)) (omega (arith, k))) (omega arith))
+      broken-at n (p .min .0 - 1) (shortest-two-is-taken k) (lit< tt) (omega arith) (omega arith) (omega arith)
+      (classes-differ Narrow Two (class-below-min-is-narrow p _ (omega arith))
+      (class-below-b23-is-two p _ (omega arith) (omega arith)) (omega arith))
 
   broken-above-two : p .b23 .0 - 1 - p .t1 .0 < n → Broken p n
   broken-above-two h =
-      broken-at n (p .b23 .0) (longest-two-is-taken k) (lit< tt)
-      (omega (arith, k)) (omega (arith, k)) (omega (arith, k))
-      (classes-differ Three Two
-      (class-below-b34-is-three p _ (omega (arith, k)) (omega (arith, k)) (omega (arith, k)))
-      (class-below-b23-is-two p _ (omega (arith, k)) (omega (arith, k))) (omega arith))
+      broken-at n (p .b23 .0) (longest-two-is-taken k) (lit< tt) (omega arith) (omega arith) (omega arith)
+      (classes-differ Three Two (class-below-b34-is-three p _ (omega arith) (omega arith) (omega arith))
+      (class-below-b23-is-two p _ (omega arith) (omega arith)) (omega arith))
 
   broken-below-three : p .t1 .0 + p .t0 .0 - p .b23 .0 < n → Broken p n
   broken-below-three h =
-      broken-at n (p .b23 .0 - 1) (shortest-three-is-taken k) (lit< tt)
-      (omega (arith, k)) (omega (arith, k)) (omega (arith, k))
-      (classes-differ Two Three (class-below-b23-is-two p _ (omega (arith, k)) (omega (arith, k)))
-      (class-below-b34-is-three p _ (omega (arith, k)) (omega (arith, k)) (omega (arith, k))) (omega arith))
+      broken-at n (p .b23 .0 - 1) (shortest-three-is-taken k) (lit< tt) (omega arith) (omega arith) (omega arith)
+      (classes-differ Two Three (class-below-b23-is-two p _ (omega arith) (omega arith))
+      (class-below-b34-is-three p _ (omega arith) (omega arith) (omega arith)) (omega arith))
 
   broken-above-three : p .b34 .0 - 1 - (p .t1 .0 + p .t0 .0 + swing p) < n → Broken p n
   broken-above-three h =
-      broken-at n (p .b34 .0) (longest-three-is-taken k) (lit< tt)
-      (omega (arith, k)) (omega (arith, k)) (omega (arith, k))
-      (classes-differ Four Three
-      (class-below-rpt-is-four p _ (omega (arith, k)) (omega (arith, k)) (omega (arith, k)) (omega (arith, k)))
-      (class-below-b34-is-three p _ (omega (arith, k)) (omega (arith, k)) (omega (arith, k))) (omega arith))
+      broken-at n (p .b34 .0) (longest-three-is-taken k) (lit< tt) (omega arith) (omega arith) (omega arith)
+      (classes-differ Four Three (class-below-rpt-is-four p _ (omega arith) (omega arith) (omega arith) (omega arith))
+      (class-below-b34-is-three p _ (omega arith) (omega arith) (omega arith)) (omega arith))
 
   broken-below-four : p .t1 .0 + 2 * p .t0 .0 - p .b34 .0 < n → Broken p n
   broken-below-four h =
-      broken-at n (p .b34 .0 - 1) (shortest-four-is-taken k) (lit< tt)
-      (omega (arith, k)) (omega (arith, k)) (omega (arith, k))
-      (classes-differ Three Four
-      (class-below-b34-is-three p _ (omega (arith, k)) (omega (arith, k)) (omega (arith, k)))
-      (class-below-rpt-is-four p _ (omega (arith, k)) (omega (arith, k)) (omega (arith, k)) (omega (arith, k)))
-      (omega arith))
+      broken-at n (p .b34 .0 - 1) (shortest-four-is-taken k) (lit< tt) (omega arith) (omega arith) (omega arith)
+      (classes-differ Three Four (class-below-b34-is-three p _ (omega arith) (omega arith) (omega arith))
+      (class-below-rpt-is-four p _ (omega arith) (omega arith) (omega arith) (omega arith)) (omega arith))
 
   broken-above-four : p .rpt .0 - 1 - (p .t1 .0 + 2 * p .t0 .0 + swing p) < n → Broken p n
   broken-above-four h =
-      broken-at n (p .rpt .0) (longest-four-is-taken k) (lit< tt)
-      (omega (arith, k)) (omega (arith, k)) (omega (arith, k))
-      (classes-differ Wide Four
-      (class-from-rpt-is-wide p _ (omega (arith, k)) (omega (arith, k)) (omega (arith, k)) (omega (arith, k)))
-      (class-below-rpt-is-four p _ (omega (arith, k)) (omega (arith, k)) (omega (arith, k)) (omega (arith, k)))
-      (omega arith))
+      broken-at n (p .rpt .0) (longest-four-is-taken k) (lit< tt) (omega arith) (omega arith) (omega arith)
+      (classes-differ Wide Four (class-from-rpt-is-wide p _ (omega arith) (omega arith) (omega arith) (omega arith))
+      (class-below-rpt-is-four p _ (omega arith) (omega arith) (omega arith) (omega arith)) (omega arith))
 
   broken-by-either : {a b : ℕ} → (a < n → Broken p n) → (b < n → Broken p n) → min a b < n → Broken p n
   broken-by-either {a} {b} f g h = decided (decLt a n)

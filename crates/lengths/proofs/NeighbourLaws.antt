@@ -8,7 +8,7 @@ use mathlib.Core.List.{List, [], _∷_, _++_}
 use lib.Dec.{eqb}
 use borrow.Author.Tests.{ne-eqb}
 use Rattle.timing.specs.declared.Profile.{Profile}
-use Rattle.symbols.specs.Cells.{cellsFrom, cellsOf, writtenCells, writtenSymbols}
+use Rattle.symbols.specs.Cells.{cellsFrom, cellsOf, writtenCells}
 use Rattle.lengths.specs.Lengths.{point, symbolAfter, cellLength, lengthsFrom, lengthsOf}
 use Rattle.lengths.specs.Neighbours.{pointBetween, between, nextCell, lengthsBetween}
 use Rattle.lengths.specs.Stream.{byteStream}
@@ -73,17 +73,12 @@ module _ (p : Profile) where
       ≡ lengthsBetween p before (cellsFrom (suc (suc zeros)) (closed ss))
   unfolding lengthsFrom lengthsBetween nextCell cellsFrom symbolAfter afterStart
   lengths-from-by-neighbours [] before zeros =
-      ap (λ (l : ℕ). l ∷ [])
-      (cell-between before zeros 2 (afterStart zeros (true ∷ [])) true (after-start-of-one zeros []) refl)
+      cc (cell-between before zeros 2 _ true (after-start-of-one zeros []) refl)
   lengths-from-by-neighbours (false ∷ ss) before zeros =
-      ap (λ (s : Bool). lengthsFrom p (point p (eqb before 2) s) (suc zeros) false (closed ss))
-      (after-start-of-zero zeros (closed ss))
-      ∙ lengths-from-by-neighbours ss before (suc zeros)
+      cc (after-start-of-zero zeros (closed ss), lengths-from-by-neighbours ss before (suc zeros))
   lengths-from-by-neighbours (true ∷ ss) before zeros =
       ap₂ (λ (l : ℕ) (ls : List ℕ). l ∷ ls)
-      (cell-between before zeros (nextCell (cellsFrom 2 (closed ss))) (afterStart zeros (true ∷ closed ss))
-      (symbolAfter (closed ss))
-      (after-start-of-one zeros (closed ss))
+      (cell-between before zeros _ _ (symbolAfter (closed ss)) (after-start-of-one zeros (closed ss))
       (symbol-after-by-next ss))
       (ap (λ (t : Bool). lengthsFrom p (point p t (symbolAfter (closed ss))) 0 true (closed ss)) (two-units zeros)
       ∙ lengths-from-by-neighbours ss (suc (suc zeros)) 0)
@@ -91,8 +86,7 @@ module _ (p : Profile) where
 pub lengths-by-neighbours : LengthsByNeighbours
 unfolding byteStream lengthsOf writtenCells cellsOf afterStart
 lengths-by-neighbours p ws =
-    let ends = written-symbols-end-in-one ws in
-    rw (ends .1) (lengths-from-by-neighbours p (ends .0) 2 0)
+    let ends = written-symbols-end-in-one ws in rw (ends .1) (lengths-from-by-neighbours p (ends .0) 2 0)
 
 -- ---- by zeros, as a program has them
 

@@ -4,7 +4,7 @@
 use Prim.Native.Nat.{ℕ, _≤_, _<_}
 use native.Mathlib.Omega.{arith}
 use native.Mathlib.Decide.{decLe}
-use mathlib.Core.Path.{_≡_, sym, ap, _∙_}
+use mathlib.Core.Path.{_≡_, sym, _∙_}
 use mathlib.Core.List.{[], _∷_}
 use lib.ListN.{getD}
 use borrow.Author.Tests.{lt-ltb, ne-eqb}
@@ -32,8 +32,7 @@ one-byte-is-accepted b h = rw (lt-ltb b 256 h, ne-eqb b 512 (omega arith))
 
 pub one-byte-is-written : (p : Profile) (b : ℕ) → b < 256 → streamOf p (b ∷ []) ≡ byteStream p (b ∷ [])
 unfolding streamOf anywhere
-one-byte-is-written p b h =
-    ap (byteStream p) (written-of-no-check (b ∷ []) (rw (byte-is-no-check b (data-is-byte b h))))
+one-byte-is-written p b h = cc (written-of-no-check (b ∷ []) (rw (byte-is-no-check b (data-is-byte b h))))
 
 -- ---- the margin keeps every class, and nothing larger does
 
@@ -43,8 +42,7 @@ room-keeps-classes {p} k m s items ok i h d above below =
     let us = writtenCells (written items) in
     let ls = byteStream p (written items) in
     let w = window-at us ls (stream-has-windows k (written items)) i h in
-    near-length-has-class s d w above below
-    ∙ sym (near-length-has-class s (getD ls i 0) w (omega arith) (omega arith))
+    near-length-has-class s d w above below ∙ sym (near-length-has-class s (getD ls i 0) w (omega arith) (omega arith))
 
 broken-is-not-kept : {p : Profile} (n : ℕ) → Broken p n → Keeps p n → ⊥
 broken-is-not-kept {p} n x keeps =

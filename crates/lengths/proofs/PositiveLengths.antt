@@ -33,8 +33,7 @@ module _ {p : Profile} (k : Kept p) where
       → 2 * start < p .t1 .0 + zeros * p .t0 .0 + 2 * end
   cell-takes-less zeros start end not-late not-early =
       shift-is-less (p .t1 .0) (zeros * p .t0 .0) start end (p .early .0) (p .late .0) (p .min .0) not-late not-early
-      (omega (arith, k))
-      (k .two-from)
+      (omega arith) (k .two-from)
 
   lengths-are-signed
       : (ss : List Bool) (start zeros : ℕ) (before : Bool)
@@ -46,15 +45,11 @@ module _ {p : Profile} (k : Kept p) where
   lengths-are-signed (true ∷ ss) start zeros before h =
       let end = point p before (symbolAfter ss) in
       let range = point-is-in-range k before (symbolAfter ss) in
-      let less = cell-takes-less zeros start end h (range .0) in (
-        omega arith,
-        sym (signed-sum (p .t1 .0 + zeros * p .t0 .0) (2 * start) (2 * end) (omega arith)),
-        lengths-are-signed ss end 0 true (range .1),
-      )
+      (omega arith, sym (signed-sum _ _ _ (omega arith)), lengths-are-signed ss end 0 true (range .1))
 
 pub lengths-are-positive : LengthsArePositive
 unfolding streamOf byteStream lengthsOf
 lengths-are-positive p accepts items listed =
     let ss = writtenSymbols (written items) in
     let k = kept p accepts in
-    lengths-are-signed k ss (point p true (symbolAfter ss)) 0 true (point-is-in-range k true (symbolAfter ss) .1)
+    lengths-are-signed k ss _ 0 true (point-is-in-range k true (symbolAfter ss) .1)

@@ -38,9 +38,7 @@ pub written-runs-are-short : (ws : List ℕ) → ShortRuns 0 (writtenSymbols ws)
 unfolding Short writtenSymbols symbolsOf bitsOf
 written-runs-are-short ws =
     every-list-has-it Short data-bit-keeps-runs-short mark-gap-keeps-runs-short (O ∷ O ∷ []) closing-zeros-are-short ws
-    false
-    0
-    (omega arith)
+    false 0 (omega arith)
 
 -- ---- the cells
 

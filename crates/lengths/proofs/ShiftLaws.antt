@@ -3,7 +3,7 @@
 -- numbers.
 use Prim.Native.Nat.{ℕ, zero, suc, _+_, _-_, _≤_, _<_}
 use native.Mathlib.Omega.{arith}
-use mathlib.Core.Path.{_≡_, sym, ap, ap₂, subst, _∙_}
+use mathlib.Core.Path.{_≡_, sym, ap, ap₂, _∙_}
 use mathlib.Core.Bool.{Bool, true, false, cond}
 use lib.Dec.{ltb}
 use lib.IntN.{ℤ, pos, negsuc, negℤ, _+ℤ_, _-ℤ_, +ℤ-assoc}
@@ -44,7 +44,7 @@ module _ (n s e : ℕ) (enough : s ≤ n + e) (small : n + e < 65536) where
       ∙ signed-sum n s e enough
 
   pub shifted-fits : SFits w32 (toZ w32 n +ℤ toZ w32 (ofZ w32 (toZ w32 e -ℤ toZ w32 s)))
-  shifted-fits = subst (SFits w32) (sym shifted-length) (record { sfits = omega arith })
+  shifted-fits = rw shifted-length (record { sfits = omega arith })
 
   pub shifted-reads-back : toZ w32 (ofZ w32 (toZ w32 n +ℤ toZ w32 (ofZ w32 (toZ w32 e -ℤ toZ w32 s)))) ≡ pos (n + e - s)
   shifted-reads-back = toZ-ofZ shifted-fits ∙ shifted-length

@@ -46,10 +46,10 @@ Began p start (suc z) after = Starts p start false
 module _ {p : Profile} (k : Kept p) where
   pub transition-starts-a-cell : (before after : Bool) → Starts p (point p before after) after
   unfolding point
-  transition-starts-a-cell true true = before-one (omega (arith, k)) (omega (arith, k))
-  transition-starts-a-cell true false = before-zero (omega (arith, k)) (omega (arith, k))
-  transition-starts-a-cell false true = before-one (omega (arith, k)) (omega (arith, k))
-  transition-starts-a-cell false false = before-zero (omega (arith, k)) (omega (arith, k))
+  transition-starts-a-cell true true = before-one (omega arith) (omega arith)
+  transition-starts-a-cell true false = before-zero (omega arith) (omega arith)
+  transition-starts-a-cell false true = before-one (omega arith) (omega arith)
+  transition-starts-a-cell false false = before-zero (omega arith) (omega arith)
 
   closed-cell-has-window :
       (start zeros : ℕ) (after : Bool)
@@ -57,12 +57,12 @@ module _ {p : Profile} (k : Kept p) where
       → Began p start zeros true
       → Window p (cellLength p zeros start (point p (noZero zeros) after)) (suc (suc zeros))
   unfolding point cellLength
-  closed-cell-has-window start zero true z (before-one l h) = two (omega (arith, k)) (omega (arith, k))
-  closed-cell-has-window start zero false z (before-one l h) = two (omega (arith, k)) (omega (arith, k))
-  closed-cell-has-window start (suc zero) true z (before-zero l h) = three (omega (arith, k)) (omega (arith, k))
-  closed-cell-has-window start (suc zero) false z (before-zero l h) = three (omega (arith, k)) (omega (arith, k))
-  closed-cell-has-window start (suc (suc zero)) true z (before-zero l h) = four (omega (arith, k)) (omega (arith, k))
-  closed-cell-has-window start (suc (suc zero)) false z (before-zero l h) = four (omega (arith, k)) (omega (arith, k))
+  closed-cell-has-window start zero true z (before-one l h) = two (omega arith) (omega arith)
+  closed-cell-has-window start zero false z (before-one l h) = two (omega arith) (omega arith)
+  closed-cell-has-window start (suc zero) true z (before-zero l h) = three (omega arith) (omega arith)
+  closed-cell-has-window start (suc zero) false z (before-zero l h) = three (omega arith) (omega arith)
+  closed-cell-has-window start (suc (suc zero)) true z (before-zero l h) = four (omega arith) (omega arith)
+  closed-cell-has-window start (suc (suc zero)) false z (before-zero l h) = four (omega arith) (omega arith)
   closed-cell-has-window start (suc (suc (suc n))) after z b = absurd (omega arith)
 
   longer-cell-began : (start zeros : ℕ) → Began p start zeros false → Began p start (suc zeros) true
@@ -101,7 +101,7 @@ lengths-are-as-many-as-cells p [] start zeros units before = refl
 lengths-are-as-many-as-cells p (false ∷ ss) start zeros units before =
     lengths-are-as-many-as-cells p ss start (suc zeros) (suc units) false
 lengths-are-as-many-as-cells p (true ∷ ss) start zeros units before =
-    ap suc (lengths-are-as-many-as-cells p ss (point p before (symbolAfter ss)) 0 2 true)
+    ap suc (lengths-are-as-many-as-cells p ss _ 0 2 true)
 
 pub stream-is-as-long-as-its-cells : (p : Profile) (ws : List ℕ) → length (byteStream p ws) ≡ length (writtenCells ws)
 unfolding writtenCells cellsOf byteStream lengthsOf
@@ -121,9 +121,9 @@ window-at (u ∷ us) (l ∷ ls) w zero h = w .0
 window-at (u ∷ us) (l ∷ ls) w (suc k) h = window-at us ls (w .1) k (omega arith)
 
 window-fits : {p : Profile} → Kept p → {l u : ℕ} → Window p l u → l < 65536
-window-fits k (two low high) = omega (arith, k)
-window-fits k (three low high) = omega (arith, k)
-window-fits k (four low high) = omega (arith, k)
+window-fits k (two low high) = omega arith
+window-fits k (three low high) = omega arith
+window-fits k (four low high) = omega arith
 
 module _ {p : Profile} (k : Kept p) (ws : List ℕ) (i : ℕ) (h : i < length (byteStream p ws)) where
   window-of-length : Window p (getD (byteStream p ws) i 0) (getD (writtenCells ws) i 0)

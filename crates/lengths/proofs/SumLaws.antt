@@ -1,15 +1,14 @@
 -- What the lengths of a stream add up to: where one cell ends the next starts, so each compare point between the first
 -- and the last is added once and taken away once, and only the nominal lengths and the two outer points are left. Rests
 -- on no axiom.
-use Prim.Native.Nat.{ℕ, zero, suc, _+_, _-_, _*_, _≤_, _<_}
+use Prim.Native.Nat.{ℕ, suc, _+_, _-_, _*_, _≤_}
 use native.Mathlib.Nat.{add-mul}
 use native.Mathlib.Omega.{arith}
-use mathlib.Core.Path.{_≡_, refl, sym, ap, _∙_}
+use mathlib.Core.Path.{_≡_, refl, ap, _∙_}
 use mathlib.Core.Bool.{Bool, true, false}
 use mathlib.Core.List.{List, [], _∷_, _++_, append-assoc}
 use lib.ListN.{length}
 use Rattle.lists.specs.Sum.{sumOf}
-use Rattle.timing.specs.Profile.{swing}
 use Rattle.timing.specs.declared.Profile.{Profile}
 use Rattle.timing.proofs.ProfileLaws.{Kept}
 use Rattle.symbols.specs.Bits.{Bit, O, I, G, allBits, bitsOf}
@@ -57,10 +56,8 @@ module _ {p : Profile} (k : Kept p) where
   sum-from (true ∷ ss) start zeros before h =
       let end = point p before (symbolAfter ss) in
       let rest = lengthsFrom p end 0 true ss in
-      cell-adds (p .t1 .0) (zeros * p .t0 .0) start end (sumOf rest) (openZeros 0 ss * p .t0 .0) (length rest * p .t1 .0)
-      (zerosIn ss * p .t0 .0)
-      (lastPointFrom p end true ss)
-      (shift-is-less zeros start before (symbolAfter ss) h)
+      cell-adds (p .t1 .0) (zeros * p .t0 .0) start end (sumOf rest) _ (length rest * p .t1 .0) (zerosIn ss * p .t0 .0)
+      _ (shift-is-less zeros start before (symbolAfter ss) h)
       (sum-from ss end 0 true (point-is-in-range k before (symbolAfter ss) .1)
       ∙ ap (λ (n : ℕ). length rest * p .t1 .0 + n * p .t0 .0 + 2 * lastPointFrom p end true ss) (omega arith))
       ∙ omega (arith, add-mul zeros (zerosIn ss) (p .t0 .0))
@@ -90,9 +87,7 @@ unfolding symbolsFrom pairSymbols
 ends-in-one O [] = (true ∷ [], refl)
 ends-in-one I [] = (false ∷ [], refl)
 ends-in-one G [] = (false ∷ false ∷ [], refl)
-ends-in-one b (x ∷ bs) =
-    let rest = ends-in-one x bs in
-    (pairSymbols b x ++ rest .0, ap (λ (ss : List Bool). pairSymbols b x ++ ss) (rest .1) ∙ sym (append-assoc (pairSymbols b x) (rest .0) (true ∷ [])))
+ends-in-one b (x ∷ bs) = let rest = ends-in-one x bs in (pairSymbols b x ++ rest .0, cc (append-assoc _ _ _))
 
 pub written-symbols-end-in-one : (ws : List ℕ) → (ss : List Bool) × (writtenSymbols ws ≡ ss ++ (true ∷ []))
 unfolding writtenSymbols symbolsOf bitsOf
@@ -101,18 +96,18 @@ written-symbols-end-in-one ws = ends-in-one O (allBits ws)
 module _ {p : Profile} (k : Kept p) where
   point-after-one : (after : Bool) → (p .early .0 ≤ point p true after) × (point p true after ≤ p .normal .0)
   unfolding point
-  point-after-one true = (omega (arith, k), omega (arith, k))
-  point-after-one false = (omega (arith, k), omega (arith, k))
+  point-after-one true = (omega arith, omega arith)
+  point-after-one false = (omega arith, omega arith)
 
   last-before-one
       : (ss : List Bool) (at : ℕ) (before : Bool)
       → (p .normal .0 ≤ lastPointFrom p at before (ss ++ (true ∷ [])))
       × (lastPointFrom p at before (ss ++ (true ∷ [])) ≤ p .late .0)
   unfolding lastPointFrom symbolAfter point
-  last-before-one [] at true = (omega (arith, k), omega (arith, k))
-  last-before-one [] at false = (omega (arith, k), omega (arith, k))
+  last-before-one [] at true = (omega arith, omega arith)
+  last-before-one [] at false = (omega arith, omega arith)
   last-before-one (false ∷ ss) at before = last-before-one ss at false
-  last-before-one (true ∷ ss) at before = last-before-one ss (point p before (symbolAfter (ss ++ (true ∷ [])))) true
+  last-before-one (true ∷ ss) at before = last-before-one ss _ true
 
 module _ (p : Profile) (k : Kept p) (ws : List ℕ) where
   -- cells × T1 and 0s × T0, and the two outer compare points
@@ -124,9 +119,9 @@ module _ (p : Profile) (k : Kept p) (ws : List ℕ) where
   unfolding byteStream lengthsOf firstPoint lastPoint
   sum-of-stream =
       let ends = written-symbols-end-in-one ws in
-      let closed : openZeros 0 (writtenSymbols ws) ≡ 0 = ap (openZeros 0) (ends .1) ∙ closed-by-one (ends .0) 0 in
+      let closed : openZeros 0 (writtenSymbols ws) ≡ 0 = cc (closed-by-one (ends .0) 0) in
       let first = point-is-in-range k true (symbolAfter (writtenSymbols ws)) in
-      omega (arith, rw closed at (sum-from k (writtenSymbols ws) (firstPoint p (writtenSymbols ws)) 0 true (first .1)))
+      omega (arith, rw closed at (sum-from k (writtenSymbols ws) _ 0 true (first .1)))
 
   -- a cell has 2 units and one for each 0
   pub units-of-stream
@@ -134,7 +129,7 @@ module _ (p : Profile) (k : Kept p) (ws : List ℕ) where
   unfolding writtenCells cellsOf
   units-of-stream =
       let ends = written-symbols-end-in-one ws in
-      let closed : openZeros 0 (writtenSymbols ws) ≡ 0 = ap (openZeros 0) (ends .1) ∙ closed-by-one (ends .0) 0 in
+      let closed : openZeros 0 (writtenSymbols ws) ≡ 0 = cc (closed-by-one (ends .0) 0) in
       omega (arith, rw closed at (units-from (writtenSymbols ws) 0), stream-is-as-long-as-its-cells p ws)
 
   -- the first transition has a symbol 1 before it
@@ -147,6 +142,4 @@ module _ (p : Profile) (k : Kept p) (ws : List ℕ) where
   pub last-point-is-late
       : (p .normal .0 ≤ lastPoint p (writtenSymbols ws)) × (lastPoint p (writtenSymbols ws) ≤ p .late .0)
   unfolding lastPoint
-  last-point-is-late =
-      let ends = written-symbols-end-in-one ws in
-      rw (ends .1) (last-before-one k (ends .0) (firstPoint p (ends .0 ++ (true ∷ []))) true)
+  last-point-is-late = let ends = written-symbols-end-in-one ws in rw (ends .1) (last-before-one k (ends .0) _ true)

@@ -31,12 +31,11 @@ module _ {p : Profile} {m : ℕ} (s : Spare p m) where
   pub near-length-has-class :
       (d : ℕ) {l u : ℕ} → Window p l u → d ≤ l + m → l ≤ d + m → classOf p d ≡ classOfUnits u
   unfolding classOfUnits
-  near-length-has-class d (two low high) above below =
-      class-below-b23-is-two p d (omega (arith, s)) (omega (arith, s))
+  near-length-has-class d (two low high) above below = class-below-b23-is-two p d (omega arith) (omega arith)
   near-length-has-class d (three low high) above below =
-      class-below-b34-is-three p d (omega (arith, s)) (omega (arith, s)) (omega (arith, s))
+      class-below-b34-is-three p d (omega arith) (omega arith) (omega arith)
   near-length-has-class d (four low high) above below =
-      class-below-rpt-is-four p d (omega (arith, s)) (omega (arith, s)) (omega (arith, s)) (omega (arith, s))
+      class-below-rpt-is-four p d (omega arith) (omega arith) (omega arith) (omega arith)
 
   near-lengths-have-classes :
       (us ls ds : List ℕ) → Windows p us ls → Near m ds ls → classesOf p ds ≡ map classOfUnits us

@@ -30,24 +30,24 @@ opened = tt
 module _ {p : Profile} (k : Kept p) where
   pub shortest-two-is-taken : Taken p 0x03 7 (p .t1 .0 - swing p)
   unfolding opened
-  shortest-two-is-taken = record { in-stream = lit< tt; is-there = omega (arith, k) }
+  shortest-two-is-taken = record { in-stream = lit< tt; is-there = omega arith }
 
   pub longest-two-is-taken : Taken p 0x00 0 (p .t1 .0)
   unfolding opened
-  longest-two-is-taken = record { in-stream = lit< tt; is-there = omega (arith, k) }
+  longest-two-is-taken = record { in-stream = lit< tt; is-there = omega arith }
 
   pub shortest-three-is-taken : Taken p 0x09 5 (p .t1 .0 + p .t0 .0)
   unfolding opened
-  shortest-three-is-taken = record { in-stream = lit< tt; is-there = omega (arith, k) }
+  shortest-three-is-taken = record { in-stream = lit< tt; is-there = omega arith }
 
   pub longest-three-is-taken : Taken p 0x03 6 (p .t1 .0 + p .t0 .0 + swing p)
   unfolding opened
-  longest-three-is-taken = record { in-stream = lit< tt; is-there = omega (arith, k) }
+  longest-three-is-taken = record { in-stream = lit< tt; is-there = omega arith }
 
   pub shortest-four-is-taken : Taken p 0x05 6 (p .t1 .0 + 2 * p .t0 .0)
   unfolding opened
-  shortest-four-is-taken = record { in-stream = lit< tt; is-there = omega (arith, k) }
+  shortest-four-is-taken = record { in-stream = lit< tt; is-there = omega arith }
 
   pub longest-four-is-taken : Taken p 0x1b 5 (p .t1 .0 + 2 * p .t0 .0 + swing p)
   unfolding opened
-  longest-four-is-taken = record { in-stream = lit< tt; is-there = omega (arith, k) }
+  longest-four-is-taken = record { in-stream = lit< tt; is-there = omega arith }

@@ -45,7 +45,7 @@ abbrev pub classesFor : List ℕ → List Class
 classesFor ws = map classOfUnits (writtenCells ws)
 
 pub cells-classes : (ws : List ℕ) → classesFor ws ≡ map classOfCell (cells ws)
-cells-classes ws = ap (map classOfUnits) (sym (cells-units ws)) ∙ classes-of-cells (cells ws)
+cells-classes ws = cc (cells-units ws, classes-of-cells (cells ws))
 
 -- ---- sync, mark and gap
 
@@ -54,13 +54,11 @@ classes-after us ws = map-append classOfUnits us (writtenCells ws)
 
 pub sync-classes : (ws : List ℕ) → classesFor (replicate 12 0x00 ++ ws) ≡ replicate 96 Two ++ classesFor ws
 unfolding classOfUnits
-sync-classes ws = ap (map classOfUnits) (cells-of-zero-bytes 12 ws) ∙ classes-after (replicate 96 2) ws
+sync-classes ws = cc (cells-of-zero-bytes 12 ws)
 
 pub mark-classes : (ws : List ℕ) → (cs : List Class) × (classesFor (A1 ∷ ws) ≡ markA1 cs)
 unfolding classOfUnits
-mark-classes ws =
-    let (us, mark) = cells-of-mark-A1 ws in
-    (map classOfUnits us, ap (map classOfUnits) mark)
+mark-classes ws = let (us, mark) = cells-of-mark-A1 ws in (map classOfUnits us, cc mark)
 
 -- a gap of n + 1 bytes 4E after a bit, up to the first minimum interval of the sync
 abbrev pub fillerClasses : Bit → ℕ → List Class
@@ -92,7 +90,7 @@ filler-classes b n ws xs no-gap h =
     ∙ ap (map classOfUnits)
     (filler-is-read b n (replicate 11 0x00 ++ ws) xs no-gap h
     ∙ ap (λ (us : List ℕ). fillerAfter b n ++ (replicate 7 2 ++ us)) (cells-of-zero-bytes 11 ws))
-    ∙ map-append classOfUnits (fillerAfter b n) (replicate 95 2 ++ writtenCells ws)
+    ∙ map-append classOfUnits (fillerAfter b n) _
     ∙ ap (λ (cs : List Class). fillerClasses b n ++ cs) (classes-after (replicate 95 2) ws)
 
 -- ---- places
@@ -104,7 +102,7 @@ pub classes-from
     → classesOf p ds ≡ before ++ rest
     → length before ≡ k
     → classesOf p (drop k ds) ≡ rest
-classes-from p ds before rest k h long = classes-of-drop p k ds ∙ ap (drop k) h ∙ drop-at before rest k long
+classes-from p ds before rest k h long = cc (classes-of-drop p k ds, drop-at before rest k long)
 
 -- the classes after a run of class 2, where a list is classed as from its start on
 module _ (p : Profile) (ds : List ℕ) (front rest : List Class) (m : ℕ) where
@@ -124,18 +122,18 @@ module _ (p : Profile) (ds : List ℕ) (front rest : List Class) (m : ℕ) where
     last-is-two : getD (classesOf p ds) (length front + m) Narrow ≡ Two
     last-is-two =
         let long = run-length in
-        ap (λ (cs : List Class). getD cs (length front + m) Narrow) h
-        ∙ List·getD-append (front ++ run) rest Narrow (length front + m) (omega arith)
+        rw h
+        (List·getD-append (front ++ run) rest Narrow (length front + m) (omega arith)
         ∙ getD-append-add front run m Narrow
-        ∙ getD-replicate (suc m) m Two Narrow (omega arith)
+        ∙ getD-replicate (suc m) m Two Narrow (omega arith))
 
     pub classes-after-run : (k : ℕ) → length (front ++ run) ≡ k → classesOf p (drop k ds) ≡ rest
     classes-after-run k long =
         let next : k ≡ suc (length front + m) = sym long ∙ run-length in
-        ap (λ (i : ℕ). classesOf p (drop i ds)) next
-        ∙ classes-after-two p ds (length front + m) run-inside last-is-two
-        ∙ ap (drop (suc (length front + m))) h
-        ∙ drop-at (front ++ run) rest (suc (length front + m)) run-length
+        cc (
+          classes-after-two p ds (length front + m) run-inside last-is-two,
+          drop-at (front ++ run) rest (suc (length front + m)) run-length,
+        )
 
 -- the place after a byte 00, by the classes before what follows
 pub place-after-zero
@@ -149,6 +147,6 @@ place-after-zero us ws before h =
     ap length (cells-after-byte us ws 0x00 (omega arith) refl)
     ∙ length-append (cellsBefore (us ++ (0x00 ∷ []))) (writtenCells ws) in
     let same : length all ≡ length before + length (classesFor ws) =
-    sym (length-map all classOfUnits) ∙ ap length h ∙ length-append before (classesFor ws) in
+    cc (length-map all classOfUnits, length-append before (classesFor ws)) in
     let follow : length (classesFor ws) ≡ length (writtenCells ws) = length-map (writtenCells ws) classOfUnits in
     omega arith

@@ -58,7 +58,7 @@ gap-and-sync p changed start n ws ahead =
       filler = fillerClasses (ahead .last) n;
       more = 31;
       no-run = no-run-in-filler (ahead .last) n;
-      classes = ahead .classes ∙ filler-classes (ahead .last) n ws (ahead .left) (ahead .no-gap) (ahead .bits);
+      classes = cc (filler-classes (ahead .last) n ws (ahead .left) (ahead .no-gap) (ahead .bits));
     }
 
 -- ---- a field that was found
@@ -74,13 +74,8 @@ pub record FieldFound (p : Profile) (changed : List ℕ) (start : ℕ) (field re
       → BytesAhead p changed (place + fieldUsed (classesOf p (drop place changed)) (length field)) rest
 
 module _
-    (p : Profile)
-    (accepts : AcceptedProfile p)
-    (changed : List ℕ)
-    (start : ℕ)
-    (ws rest : List ℕ)
-    (bytes : everywhere isByte (A1 ∷ ws) ≡ true)
-    (few : length ws + 3 ≤ 1030)
+    (p : Profile) (accepts : AcceptedProfile p) (changed : List ℕ) (start : ℕ) (ws rest : List ℕ)
+    (bytes : everywhere isByte (A1 ∷ ws) ≡ true) (few : length ws + 3 ≤ 1030)
     (ahead : SyncAhead p changed start (withCheck (A1 ∷ ws) ++ rest))
   where
     abbrev field : List ℕ
@@ -108,17 +103,13 @@ module _
         ∙ lock-after-filler (ahead .filler) (ahead .more) rest-classes (ahead .no-run)
 
     on-is : length (ahead .filler ++ replicate (suc (ahead .more + 63)) Two) ≡ on
-    on-is =
-        length-append (ahead .filler) (replicate (suc (ahead .more + 63)) Two)
-        ∙ ap (λ (n : ℕ). length (ahead .filler) + n) (length-replicate (suc (ahead .more + 63)) Two ∙ run-is)
+    on-is = cc (length-append (ahead .filler) _, length-replicate (suc (ahead .more + 63)) Two, run-is)
 
     there : classesOf p (drop at changed) ≡ classesFor (field ++ rest)
     there =
         ap (classesOf p) (sym (drop-drop on start changed))
         ∙ classes-after-run p (drop start changed) (ahead .filler) (classesFor (field ++ rest)) (ahead .more + 63)
-        (ahead .classes ∙ sym (append-assoc (ahead .filler) _ (classesFor (field ++ rest))))
-        on
-        on-is
+        (ahead .classes ∙ sym (append-assoc (ahead .filler) _ (classesFor (field ++ rest)))) on on-is
 
     all : List Cell
     all = cells (field ++ rest)
@@ -142,19 +133,14 @@ module _
 
     used-length : length (map classOfCell used) ≡ fieldUsed (classesOf p (drop at changed)) (length field)
     unfolding used fieldUsed
-    used-length =
-        length-map used classOfCell
-        ∙ ap (λ (cs : List Class). length (fieldCells cs (length field))) (sym cells-there)
+    used-length = cc (length-map used classOfCell, cells-there)
 
     after : List Cell
     after = restOfCells field rest all all-bits
 
     parted : classesOf p (drop at changed) ≡ map classOfCell used ++ map classOfCell after
     unfolding used after
-    parted =
-        cells-there
-        ∙ ap (map classOfCell) (sym (used-and-rest field rest all all-bits))
-        ∙ map-append classOfCell used after
+    parted = cc (cells-there, used-and-rest field rest all all-bits, map-append classOfCell used after)
 
     bytes-behind
         : (tail : List Bit)

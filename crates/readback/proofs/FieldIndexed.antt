@@ -1,9 +1,9 @@
 -- What the index sees of a field that was found: it reads, its items are the field's bytes, and its sum holds. Rests on
 -- no axiom.
 use Prim.Native.Nat.{ℕ, _<_}
-use mathlib.Core.Path.{_≡_, sym, ap, _∙_}
+use mathlib.Core.Path.{_≡_, sym}
 use mathlib.Core.Bool.{true}
-use mathlib.Core.List.{List, _++_, append-nil}
+use mathlib.Core.List.{List, append-nil}
 use native.Mathlib.Omega.{arith}
 use lib.ListN.{length, replicate, drop-of-length-le, length-replicate}
 use Rattle.lists.specs.Filled.{filled}
@@ -26,15 +26,12 @@ module _ {p : Profile} {ds : List ℕ} {n : ℕ} {items : List ℕ} (r : ReadsFi
   items-are-its-bytes =
       let zeros : List ℕ = replicate n 0 in
       let room : length zeros ≡ n = length-replicate {A = ℕ} n 0 in
-      let count = r .count in
-      r .output zeros (omega arith)
-      ∙ ap (λ (rest : List ℕ). items ++ rest) (drop-of-length-le zeros {i = length items} (omega arith))
-      ∙ append-nil items
+      cc (r .output zeros (omega arith), drop-of-length-le zeros {i = length items} (omega arith), append-nil items)
 
 module _ {p : Profile} {changed : List ℕ} {start : ℕ} {field rest : List ℕ} (f : FieldFound p changed start field rest)
   where
     pub lock-there : (hasLock p changed start ≡ true) × (lockPlace p changed start ≡ f .place)
-    lock-there = found-is-lock p changed start (f .place) (sym (f .lock))
+    lock-there = found-is-lock p changed start (f .place) (cc)
 
     pub lock-within : f .place < length changed
     lock-within =

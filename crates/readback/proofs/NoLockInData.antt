@@ -1,19 +1,17 @@
 -- Why no lock stands in data: a pattern of either mark reads a mark's missing clock whichever bit was last known, and
 -- what is written from data bytes alone reads back without one, since the letters of a data byte have no gap. Rests on
 -- no axiom.
-use Prim.Native.Nat.{ℕ, _/_, _%_, _<_}
-use mathlib.Core.Path.{_≡_, refl, ap, _∙_}
+use Prim.Native.Nat.{ℕ, _<_}
+use mathlib.Core.Path.{_≡_, refl, _∙_}
 use mathlib.Core.Bool.{Bool, true, false, cond}
 use mathlib.Core.List.{List, [], _∷_, map}
 use mathlib.Core.Logic.{⊎-elim}
 use native.Mathlib.Omega.{arith}
-use lib.Dec.{eqb}
 use lib.ListN.{drop}
 use Rattle.lists.specs.Place.{anywhere}
 use Rattle.lists.proofs.PlaceLaws.{anywhere-of-none, anywhere-of-append, nowhere-fails-at-first, nowhere-in-rest}
 use Rattle.timing.specs.Class.{classesOf}
 use Rattle.timing.specs.declared.Profile.{Profile}
-use Rattle.timing.specs.declared.Class.{Class}
 use Rattle.timing.proofs.ClassLaws.{classes-of-drop}
 use Rattle.timing.proofs.ProfileLaws.{kept}
 use Rattle.items.specs.Item.{isMark}
@@ -49,14 +47,14 @@ unfolding anywhere writtenBits byteBits
 data-bits-have-no-gap w e =
     rw (
       e,
-      letter-is-no-gap (eqb (w / 128 % 2) 1),
-      letter-is-no-gap (eqb (w / 64 % 2) 1),
-      letter-is-no-gap (eqb (w / 32 % 2) 1),
-      letter-is-no-gap (eqb (w / 16 % 2) 1),
-      letter-is-no-gap (eqb (w / 8 % 2) 1),
-      letter-is-no-gap (eqb (w / 4 % 2) 1),
-      letter-is-no-gap (eqb (w / 2 % 2) 1),
-      letter-is-no-gap (eqb (w / 1 % 2) 1),
+      letter-is-no-gap,
+      letter-is-no-gap,
+      letter-is-no-gap,
+      letter-is-no-gap,
+      letter-is-no-gap,
+      letter-is-no-gap,
+      letter-is-no-gap,
+      letter-is-no-gap,
     )
 
 all-bits-have-no-gap : (ws : List ℕ) → anywhere isMark ws ≡ false → anywhere isGap (allBits ws) ≡ false
@@ -72,9 +70,7 @@ all-bits-have-no-gap (w ∷ ws) e =
 data-is-read-without-gap : (ws : List ℕ) → anywhere isMark ws ≡ false → anywhere isGap (readBits (cells ws)) ≡ false
 unfolding anywhere
 data-is-read-without-gap ws e =
-    ap (anywhere isGap) (cells-bits ws)
-    ∙ anywhere-of-append isGap (allBits ws) (O ∷ [])
-    ∙ rw (all-bits-have-no-gap ws e)
+    rw (cells-bits ws) (anywhere-of-append isGap (allBits ws) (O ∷ []) ∙ rw (all-bits-have-no-gap ws e))
 
 -- ---- the written bytes of data
 
@@ -85,24 +81,23 @@ no-mark-in-item c n bound e =
     ⊎-elim
     (λ check.
     let r : ℕ = c .register in
-    ap (anywhere isMark) (item-bytes-of-check c n check)
-    ∙ rw (data-is-no-mark (highByte r) (high-byte-bound r bound), data-is-no-mark (lowByte r) (low-byte-bound r)))
-    (λ other. ap (anywhere isMark) (item-bytes-of-byte c n other) ∙ rw e)
-    (check-or-not n)
+    rw (item-bytes-of-check c n check)
+    (rw (data-is-no-mark (highByte r) (high-byte-bound r bound), data-is-no-mark (lowByte r) (low-byte-bound r))))
+    (λ other. cc (item-bytes-of-byte c n other)) (check-or-not n)
 
 no-mark-from
     : (c : Check) (ns : List ℕ)
     → c .register < 0x10000
     → anywhere isMark ns ≡ false
     → anywhere isMark (writtenFrom c ns) ≡ false
-no-mark-from c [] bound e = ap (anywhere isMark) (written-from-none c) ∙ anywhere-of-none isMark
+no-mark-from c [] bound e = cc (written-from-none c, anywhere-of-none isMark)
 no-mark-from c (n ∷ ns) bound e =
-    ap (anywhere isMark) (written-from-item c n ns)
-    ∙ anywhere-of-append isMark (itemBytes c n) (writtenFrom (afterItem c n) ns)
+    rw (written-from-item c n ns)
+    (anywhere-of-append isMark (itemBytes c n) (writtenFrom (afterItem c n) ns)
     ∙ rw (
       no-mark-in-item c n bound (nowhere-fails-at-first isMark n ns e),
       no-mark-from (afterItem c n) ns (after-item-bound c n bound) (nowhere-in-rest isMark n ns e),
-    )
+    ))
 
 written-has-no-mark : (ns : List ℕ) → anywhere isMark ns ≡ false → anywhere isMark (written ns) ≡ false
 unfolding written
@@ -119,12 +114,9 @@ module _ (p : Profile) (accepts : AcceptedProfile p) (items : List ℕ) (data-al
     none-stands : (start k : ℕ) → lockAt (classesOf p (drop start changed)) k ≡ false
     unfolding readBits
     none-stands start k =
-        ap (λ (cs : List Class). lockAt cs k)
-        (classes-of-drop p start changed ∙ ap (λ (cs : List Class). drop start cs) classes-are)
-        ∙ no-lock-without-gap O (cells (written items))
-        (data-is-read-without-gap (written items) (written-has-no-mark items (data-alone .no-marks)))
-        start
-        k
+        rw (classes-of-drop p start changed, classes-are)
+        (no-lock-without-gap O (cells (written items))
+        (data-is-read-without-gap (written items) (written-has-no-mark items (data-alone .no-marks))) start k)
 
     moved-has-no-lock : NoLock p changed
     moved-has-no-lock =

@@ -77,21 +77,13 @@ pub record FieldsFound (p : Profile) (changed : List ℕ) (start : ℕ) (s : Sec
   pub behind : BytesAhead p changed (endOf p changed (contents .place) (length (datas s))) (replicate 54 0x4e ++ rest)
 
 module _
-    (p : Profile)
-    (accepts : AcceptedProfile p)
-    (changed : List ℕ)
-    (start : ℕ)
-    (s : Sector)
-    (made : MadeOf s)
-    (rest : List ℕ)
-    (ahead : SyncAhead p changed start (fromId s rest))
+    (p : Profile) (accepts : AcceptedProfile p) (changed : List ℕ) (start : ℕ) (s : Sector) (made : MadeOf s)
+    (rest : List ℕ) (ahead : SyncAhead p changed start (fromId s rest))
   where
     id-found : FieldFound p changed start (ids s) (afterId s rest)
     id-found =
         field-found p accepts changed start (idRest s) (afterId s rest)
-        (id-bytes (s .track) (s .side) (s .sector) (s .code) (s .bytes) made)
-        (omega arith)
-        ahead
+        (id-bytes (s .track) (s .side) (s .sector) (s .code) (s .bytes) made) (omega arith) ahead
 
     abbrev id-end : ℕ
     id-end = endOf p changed (id-found .place) 10
@@ -103,8 +95,7 @@ module _
     data-found : FieldFound p changed id-end (datas s) (replicate 54 0x4e ++ rest)
     data-found =
         field-found p accepts changed id-end (dataRest s) (replicate 54 0x4e ++ rest)
-        (data-bytes (s .track) (s .side) (s .sector) (s .code) (s .bytes) made)
-        (data-is-short s made)
+        (data-bytes (s .track) (s .side) (s .sector) (s .code) (s .bytes) made) (data-is-short s made)
         (gap-and-sync p changed id-end 21 (fromData s rest) id-behind)
 
     pub fields-found : FieldsFound p changed start s rest

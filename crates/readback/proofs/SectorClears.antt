@@ -1,7 +1,7 @@
 -- Why a made sector's fields are clear: each interval of its stream is, those of a field are among them, and a field
 -- that reads uses some. Rests on no axiom.
 use Prim.Native.Nat.{ℕ, _+_, _-_, _≤_, _<_}
-use mathlib.Core.Path.{_≡_, ap, subst}
+use mathlib.Core.Path.{_≡_, ap}
 use mathlib.Core.List.{List}
 use native.Mathlib.Omega.{arith}
 use native.Mathlib.Nat.{le-refl}
@@ -26,25 +26,23 @@ use Rattle.readback.proofs.SectorReads.{made-sectors-read-back}
 
 -- a field that reads, at a place of a list whose intervals all have so much
 module _
-    (p : Profile) (ds : List ℕ) (e : ℕ)
-    (each : (k : ℕ) → k < length ds → e ≤ clearanceOf p (getD ds k 0))
-    (place n : ℕ) (items : List ℕ)
-    (reads : ReadsField p (drop place ds) n items)
+    (p : Profile) (ds : List ℕ) (e : ℕ) (each : (k : ℕ) → k < length ds → e ≤ clearanceOf p (getD ds k 0)) (place n : ℕ)
+    (items : List ℕ) (reads : ReadsField p (drop place ds) n items)
   where
     used : ℕ
     used = fieldUsed (classesOf p (drop place ds)) n
 
     answer : fieldReading p (drop place ds) n n .used ≡ used
     unfolding used
-    answer = ap (λ (a : FieldAnswer). a .used) (reads .answer n (le-refl n))
+    answer = cc (reads .answer n (le-refl n))
 
     uses-some : 0 < used
     uses-some =
         let accepts = ap (λ (a : FieldAnswer). a .answer .number) (reads .answer n (le-refl n)) in
-        subst (λ (k : ℕ). 0 < k) answer (field-has-intervals p (drop place ds) n n accepts)
+        rw (← answer) (field-has-intervals p (drop place ds) n n accepts)
 
     within : used ≤ length (drop place ds)
-    within = subst (λ (k : ℕ). k ≤ length (drop place ds)) answer (used-is-within p (drop place ds) n n)
+    within = rw (← answer) (used-is-within p (drop place ds) n n)
 
     abbrev front : List ℕ
     front = take used (drop place ds)
@@ -54,9 +52,9 @@ module _
 
     front-is-clear : (k : ℕ) → k < length front → e ≤ clearanceOf p (getD front k 0)
     front-is-clear k h =
-        let below : k < used = subst (λ (m : ℕ). k < m) front-length h in
-        let most : used ≤ length ds - place = subst (λ (m : ℕ). used ≤ m) (length-drop place ds) within in
-        rw (getD-take used (drop place ds) k 0 below, getD-drop place ds k 0) (each (place + k) (omega arith))
+        let below : k < used = rw (← front-length) h in
+        let most : used ≤ length ds - place = rw (← length-drop place ds) within in
+        rw (getD-take, getD-drop) (each (place + k) (omega arith))
 
     pub field-is-clear : e ≤ fieldClearance p (drop place ds) n
     unfolding used
@@ -81,8 +79,7 @@ module _ (track side sector code : ℕ) (bytes : List ℕ) (made : Made track si
         let read = made-sectors-read-back track side sector code bytes made p accepts changed near in
         record {
           id-clear = field-is-clear p changed _ each idPlace 10 _ (read .id-reads);
-          data-clear =
-              field-is-clear p changed _ each (dataPlace track side sector code bytes) (sectorSize code + 6) _
+          data-clear = field-is-clear p changed _ each (dataPlace track side sector code bytes) (sectorSize code + 6) _
               (read .data-reads);
         }
 
@@ -90,8 +87,6 @@ module _ (track side sector code : ℕ) (bytes : List ℕ) (made : Made track si
     written-sector =
         let items = sectorItems track side sector code bytes in
         let sector = changed-sector 0 (omega arith) stream (unmoved p accepts items) in
-        let id = sector .id-clear in
-        let data-field = sector .data-clear in
         record { id-clear = omega arith; data-clear = omega arith }
 
 pub made-sectors-clear : MadeSectorsClear

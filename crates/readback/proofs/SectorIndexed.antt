@@ -1,7 +1,7 @@
 -- Why the index lists a made sector that a search has ahead of it: the ID's lock is found and reads as an ID, the next
 -- lock after it reads as its data, and the search goes on in the gap behind. Rests on no axiom.
-use Prim.Native.Nat.{ℕ, _+_, _≤_, _<_}
-use mathlib.Core.Path.{_≡_, refl, sym, ap, subst, _∙_}
+use Prim.Native.Nat.{ℕ, _≤_, _<_}
+use mathlib.Core.Path.{_≡_, refl, sym, ap, _∙_}
 use mathlib.Core.Bool.{true}
 use mathlib.Mathlib.Data.Bool.Basic.{or-eq-false-eq-eq-false-and-eq-false}
 use mathlib.Core.List.{List, [], _∷_, _++_}
@@ -35,16 +35,14 @@ use Rattle.readback.proofs.SectorAhead.{fields-found}
 module _ (s : Sector) (makes : Makes s) where
   code-is-small : s .code ≤ 3
   unfolding isMisfit
-  code-is-small =
-      ltb-false 3 (s .code) (or-eq-false-eq-eq-false-and-eq-false (ltb 3 (s .code)) _ .0 (makes .fits) .0)
+  code-is-small = ltb-false 3 (s .code) (or-eq-false-eq-eq-false-and-eq-false (ltb 3 (s .code)) _ .0 (makes .fits) .0)
 
   pub made-of : MadeOf s
   made-of =
       let small = code-is-small in
       record {
         fits = makes .fits;
-        id-bytes =
-            everywhere-of-passing isByte (s .track) _ (data-is-byte _ (makes .track))
+        id-bytes = everywhere-of-passing isByte (s .track) _ (data-is-byte _ (makes .track))
             ∙ everywhere-of-passing isByte (s .side) _ (data-is-byte _ (makes .side))
             ∙ everywhere-of-passing isByte (s .sector) _ (data-is-byte _ (makes .sector))
             ∙ everywhere-of-passing isByte (s .code) [] (data-is-byte _ (omega arith))
@@ -95,14 +93,8 @@ pub record SectorFound (p : Profile) (changed : List ℕ) (start : ℕ) (s : Sec
   pub behind : BytesAhead p changed next (replicate 54 0x4e ++ rest)
 
 module _
-    (p : Profile)
-    (accepts : AcceptedProfile p)
-    (changed : List ℕ)
-    (start : ℕ)
-    (s : Sector)
-    (makes : Makes s)
-    (rest : List ℕ)
-    (ahead : SyncAhead p changed start (fromId s rest))
+    (p : Profile) (accepts : AcceptedProfile p) (changed : List ℕ) (start : ℕ) (s : Sector) (makes : Makes s)
+    (rest : List ℕ) (ahead : SyncAhead p changed start (fromId s rest))
   where
     -- ---- the two fields
 
@@ -143,11 +135,11 @@ module _
 
     id-ends : fieldEnd p changed id-place 10 ≡ id-end
     unfolding fieldEnd id-end
-    id-ends = ap (λ (n : ℕ). id-place + n) (field-is-read id-reads .uses)
+    id-ends = cc (field-is-read id-reads .uses)
 
     id-byte : (i : ℕ) → idByte p changed id-place i ≡ getD (ids s) i 0
     unfolding idByte
-    id-byte i = ap (λ (us : List ℕ). getD us i 0) (items-are-its-bytes id-reads)
+    id-byte i = cc (items-are-its-bytes id-reads)
 
     code-is : idByte p changed id-place 7 ≡ s .code
     code-is = id-byte 7
@@ -156,9 +148,7 @@ module _
 
     data-reads : ReadsField p (drop data-place changed) (dataBytes (s .code)) (datas s)
     unfolding data-place
-    data-reads =
-        subst (λ (n : ℕ). ReadsField p (drop (contents .place) changed) n (datas s)) (data-bytes-count s makes)
-        (contents .reads)
+    data-reads = rw (← data-bytes-count s makes) (contents .reads)
 
     data-lock : (hasLock p changed id-end ≡ true) × (lockPlace p changed id-end ≡ data-place)
     unfolding data-place

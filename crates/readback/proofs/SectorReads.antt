@@ -1,7 +1,7 @@
 -- Why a made sector reads back: within the margin the intervals keep the classes of the sector's cells, so that its
 -- sync is ahead of the search from 0, and its two fields are found one after the other. Rests on no axiom.
 use Prim.Native.Nat.{ℕ}
-use mathlib.Core.Path.{_≡_, ap, subst, _∙_}
+use mathlib.Core.Path.{_≡_, subst}
 use mathlib.Core.List.{List, [], _++_}
 use lib.ListN.{drop, replicate}
 use Rattle.timing.specs.Class.{classesOf}
@@ -21,12 +21,8 @@ use Rattle.readback.proofs.SectorAhead.{ids, datas, fromData, fromId, d
 use Rattle.readback.proofs.SectorAhead.{sync-at-front, place-is}
 
 module _
-    (track side sector code : ℕ)
-    (bytes : List ℕ)
-    (made : Made track side sector code bytes)
-    (p : Profile)
-    (accepts : AcceptedProfile p)
-    (changed : List ℕ)
+    (track side sector code : ℕ) (bytes : List ℕ) (made : Made track side sector code bytes) (p : Profile)
+    (accepts : AcceptedProfile p) (changed : List ℕ)
     (moved : Moved (stated p) (streamOf p (sectorItems track side sector code bytes)) changed)
   where
     abbrev s : Sector
@@ -34,9 +30,7 @@ module _
 
     classes-are : classesOf p changed ≡ classesFor (replicate 12 0x00 ++ fromId s [])
     unfolding idField dataField
-    classes-are =
-        moved-has-classes p accepts (sectorItems track side sector code bytes) changed moved
-        ∙ ap classesFor (sector-written track side sector code bytes made)
+    classes-are = cc (moved-has-classes p accepts _ changed moved, sector-written track side sector code bytes made)
 
     found : FieldsFound p changed 0 s []
     found = fields-found p accepts changed 0 s made [] (sync-at-front p changed (fromId s []) classes-are)
@@ -51,10 +45,7 @@ module _
     unfolding dataPlace idField
     data-place =
         place-is p changed (replicate 12 0x00 ++ (ids s ++ (replicate 22 0x4e ++ replicate 11 0x00))) (fromData s [])
-        (found .contents .place)
-        classes-are
-        (found .contents .classes)
-        (lock-within (found .contents))
+        (found .contents .place) classes-are (found .contents .classes) (lock-within (found .contents))
 
     pub sector-reads : SectorReads track side sector code bytes p changed
     unfolding idField dataField
@@ -64,8 +55,7 @@ module _
           id-lock = rw id-place (found .id .lock);
           id-reads = rw id-place (found .id .reads);
           data-lock = rw (id-place, data-place) (found .contents .lock);
-          data-reads =
-              rw data-place
+          data-reads = rw data-place
               (subst (λ (n : ℕ). ReadsField p (drop (found .contents .place) changed) n (datas s)) (data-count s made)
               (found .contents .reads));
         }

@@ -15,7 +15,6 @@ use Rattle.refusal.proofs.AnswerLaws.{first-refusal-passes}
 use Rattle.timing.specs.Profile.{profileRule}
 use Rattle.timing.specs.Class.{classesOf}
 use Rattle.timing.specs.declared.Profile.{Profile}
-use Rattle.timing.specs.declared.Class.{Class}
 use Rattle.items.specs.Item.{isMark, writtenBytes}
 use Rattle.items.specs.Written.{freshCheck, writtenFrom, written}
 use Rattle.items.specs.Rule.{listRule}
@@ -87,13 +86,13 @@ module _ (p : Profile) (accepts : AcceptedProfile p) (changed : List ℕ) where
         let id : placeAfter (before ++ replicate 12 0x00) ≡ f .id-place =
         ap placeAfter (sym (append-assoc before (replicate 11 0x00) (0x00 ∷ [])))
         ∙ place-is p changed (before ++ replicate 11 0x00) (fromId s rest) (f .id-place)
-        (whole ∙ ap classesFor (sym (append-assoc before (replicate 11 0x00) (0x00 ∷ fromId s rest))))
-        (f .id-classes) (f .id-within) in
-        let data-there : placeAfter (before ++ (to-data ++ (0x00 ∷ []))) ≡ f .data-place =
+        (whole ∙ ap classesFor (sym (append-assoc before (replicate 11 0x00) (0x00 ∷ fromId s rest)))) (f .id-classes)
+        (f .id-within) in
+        let data-there =
         ap placeAfter (sym (append-assoc before to-data (0x00 ∷ [])))
         ∙ place-is p changed (before ++ to-data) (fromData s rest) (f .data-place)
-        (whole ∙ ap classesFor (sym (append-assoc before to-data (0x00 ∷ fromData s rest))))
-        (f .data-classes) (f .data-within) in
+        (whole ∙ ap classesFor (sym (append-assoc before to-data (0x00 ∷ fromData s rest)))) (f .data-classes)
+        (f .data-within) in
         ap₂ (listedAs s) (sym id) (sym data-there)
 
   -- ---- behind the last sector
@@ -105,9 +104,7 @@ module _ (p : Profile) (accepts : AcceptedProfile p) (changed : List ℕ) where
   nothing-behind : (start : ℕ) → BytesAhead p changed start (replicate 54 0x4e) → entriesFrom p changed start ≡ []
   nothing-behind start ahead =
       let none : (k : ℕ) → lockAt (classesOf p (drop start changed)) k ≡ false =
-      λ k.
-      ap (λ (cs : List Class). lockAt cs k) (ahead .classes)
-      ∙ no-lock-without-gap (ahead .last) (ahead .left) (ap (anywhere isGap) (ahead .bits) ∙ no-gap-in-filler) 0 k in
+      λ k. cc (no-lock-without-gap (ahead .last) (ahead .left) (rw (ahead .bits) no-gap-in-filler) 0 k) in
       search-ends p changed start
       (refused-is-no-lock p changed start NoLock (sym (none-is-found p changed start accepts none)))
 
@@ -140,7 +137,7 @@ module _ (p : Profile) (accepts : AcceptedProfile p) (changed : List ℕ) where
 as-many : (before : List ℕ) (ss : List Sector) → length (entriesBehind before ss) ≡ length ss
 unfolding entriesBehind
 as-many before [] = refl
-as-many before (s ∷ ss) = ap suc (as-many (before ++ written (itemsOfSector s)) ss)
+as-many before (s ∷ ss) = ap suc (as-many _ ss)
 
 -- the whole track, from its first sync on
 whole-track
@@ -174,9 +171,7 @@ all-listed [] made p accepts changed moved =
     search-ends p changed 0 (refused-is-no-lock p changed 0 NoLock (sym (none .adrift 0)))
 all-listed (s ∷ ss) made p accepts changed moved =
     let whole = whole-track s ss made p accepts changed moved in
-    sectors-listed p accepts changed s ss made [] 0
-    (sync-at-front p changed (fromId s (bytesOf ss)) whole)
-    whole
+    sectors-listed p accepts changed s ss made [] 0 (sync-at-front p changed (fromId s (bytesOf ss)) whole) whole
 
 pub made-tracks-are-indexed : MadeTracksAreIndexed
 unfolding indexRule crowdRule indexEntries handedBack

@@ -1,7 +1,7 @@
 -- The written bytes of a sector are its gaps as they stand and its two fields with their check bytes: a mark after a
 -- data byte starts the register again, so a field is written as if it stood alone. Rests on no axiom.
 use Prim.Native.Nat.{ℕ, _+_}
-use mathlib.Core.Path.{_≡_, refl, sym, ap, _∙_}
+use mathlib.Core.Path.{_≡_, refl, ap, _∙_}
 use mathlib.Core.Bool.{true, false}
 use mathlib.Core.List.{List, [], _∷_, _++_, append-nil, append-assoc}
 use native.Mathlib.Omega.{arith}
@@ -63,12 +63,12 @@ gap-and-field c gap ws rest gap-bytes bytes =
     let start : Check = afterBytes c whole in
     let field : List ℕ = (A1 ∷ ws) ++ (512 ∷ []) in (
       afterBytes start (withCheck (A1 ∷ ws)),
-      written-from-of-append c whole (field ++ rest)
-          ∙ ap (λ (us : List ℕ). us ++ writtenFrom (afterBytes c us) (field ++ rest))
-          (written-from-of-no-check c whole (bytes-have-no-check whole gap-bytes))
-          ∙ ap (λ (us : List ℕ). whole ++ us) (written-from-of-append start field rest)
-          ∙ ap (λ (us : List ℕ). whole ++ (us ++ writtenFrom (afterBytes start us) rest))
-          (field-written start ws (unmarked-after-data c gap 0x00 (omega arith)) bytes),
+      cc (
+        written-from-of-append c whole (field ++ rest),
+        written-from-of-no-check c whole (bytes-have-no-check whole gap-bytes),
+        written-from-of-append start field rest,
+        field-written start ws (unmarked-after-data c gap 0x00 (omega arith)) bytes,
+      ),
     )
 
 -- ---- the sector
@@ -113,7 +113,7 @@ module _ (track side sector code : ℕ) (bytes : List ℕ) where
       ≡ replicate 12 0x00
       ++ (((A1 ∷ idBytes) ++ (512 ∷ []))
       ++ (middleFiller ++ (((A1 ∷ dataBytes) ++ (512 ∷ [])) ++ (replicate 54 0x4e ++ items))))
-  grouped-before items = ap (λ (us : List ℕ). us ++ items) sector-grouped ∙ simp append-assoc
+  grouped-before items = rw sector-grouped (simp append-assoc)
 
   module _ (made : Made track side sector code bytes) where
     after-marks : (kind : ℕ) (ws : List ℕ) → isByte kind ≡ true → everywhere isByte ws ≡ true
@@ -145,21 +145,17 @@ module _ (track side sector code : ℕ) (bytes : List ℕ) where
         let last : List ℕ = replicate 54 0x4e in
         let (after-id, first) =
         gap-and-field c (replicate 11 0x00) idBytes
-        (middleFiller ++ (((A1 ∷ dataBytes) ++ (512 ∷ [])) ++ (last ++ items)))
-        (data-repeated 12 0x00 00-is-byte) id-bytes in
+        (middleFiller ++ (((A1 ∷ dataBytes) ++ (512 ∷ [])) ++ (last ++ items))) (data-repeated 12 0x00 00-is-byte)
+        id-bytes in
         let (after-data, second) =
         gap-and-field after-id (replicate 22 0x4e ++ replicate 11 0x00) dataBytes (last ++ items) middle-filler-bytes
         data-bytes in (
           afterBytes after-data last,
-          ap (writtenFrom c) (grouped-before items)
-              ∙ first
-              ∙ ap (λ (us : List ℕ). replicate 12 0x00 ++ (withCheck (A1 ∷ idBytes) ++ us))
-              (second
-              ∙ ap (λ (us : List ℕ). middleFiller ++ (withCheck (A1 ∷ dataBytes) ++ us))
-              (written-from-of-append after-data last items
-              ∙ ap (λ (us : List ℕ). us ++ writtenFrom (afterBytes after-data us) items)
-              (written-from-of-no-check after-data last
-              (bytes-have-no-check last (data-repeated 54 0x4e 4E-is-byte))))),
+          cc (
+            grouped-before items,
+            written-from-of-append after-data last items,
+            written-from-of-no-check after-data last (bytes-have-no-check last (data-repeated 54 0x4e 4E-is-byte)),
+          ),
         )
 
     pub sector-written
@@ -170,14 +166,7 @@ module _ (track side sector code : ℕ) (bytes : List ℕ) where
     unfolding written
     sector-written =
         let (after, all) = sector-written-before freshCheck [] in
-        ap written (sym (append-nil (sectorItems track side sector code bytes)))
-        ∙ all
-        ∙ ap
-        (λ (us : List ℕ).
-        replicate 12 0x00
-        ++ (idField track side sector code bytes
-        ++ (middleFiller ++ (dataField track side sector code bytes ++ (replicate 54 0x4e ++ us)))))
-        (written-from-none after)
+        cc (append-nil (sectorItems track side sector code bytes), written-from-none after)
 
     -- ---- the writer takes it
 
@@ -194,8 +183,8 @@ module _ (track side sector code : ℕ) (bytes : List ℕ) where
         let last : List ℕ = replicate 54 0x4e in
         let id : List ℕ = (A1 ∷ idBytes) ++ (512 ∷ []) in
         let data-field : List ℕ = (A1 ∷ dataBytes) ++ (512 ∷ []) in
-        ap (anywhere isForeign) sector-grouped
-        ∙ anywhere-of-append isForeign (replicate 12 0x00) (id ++ (middleFiller ++ (data-field ++ last)))
+        rw sector-grouped
+        (anywhere-of-append isForeign (replicate 12 0x00) (id ++ (middleFiller ++ (data-field ++ last)))
         ∙ rw (
           bytes-are-items (replicate 12 0x00) (data-repeated 12 0x00 00-is-byte),
           anywhere-of-append isForeign id (middleFiller ++ (data-field ++ last)),
@@ -205,12 +194,10 @@ module _ (track side sector code : ℕ) (bytes : List ℕ) where
           anywhere-of-append isForeign data-field last,
           field-has-no-foreign (A1 ∷ dataBytes) data-bytes,
           bytes-are-items last (data-repeated 54 0x4e 4E-is-byte),
-        )
+        ))
 
     all-bytes : everywhere isByte (track ∷ side ∷ sector ∷ code ∷ bytes) ≡ true
-    all-bytes =
-        everywhere-of-append isByte (track ∷ side ∷ sector ∷ code ∷ []) bytes
-        ∙ rw (made .id-bytes, made .data-bytes)
+    all-bytes = cc (everywhere-of-append isByte (track ∷ side ∷ sector ∷ code ∷ []) bytes)
 
     pub sector-is-listed : listRule (sectorItems track side sector code bytes) .number ≡ 0
     unfolding listRule

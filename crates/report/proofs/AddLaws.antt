@@ -31,12 +31,10 @@ module _ (a b : Row) where
   add-row-comm =
       by-count a
       (λ e.
-      by-count b
-      (λ f. two-empty-rows a b e f ∙ sym (two-empty-rows b a f e))
+      by-count b (λ f. two-empty-rows a b e f ∙ sym (two-empty-rows b a f e))
       (λ f. first-row-is-empty a b e f ∙ sym (second-row-is-empty b a f e)))
       (λ e.
-      by-count b
-      (λ f. second-row-is-empty a b e f ∙ sym (first-row-is-empty b a f e))
+      by-count b (λ f. second-row-is-empty a b e f ∙ sym (first-row-is-empty b a f e))
       (λ f.
       no-row-is-empty a b e f
       ∙ same-row (add-comm _ _) (min-comm _ _) (max-comm _ _) (add-comm _ _)
@@ -45,9 +43,7 @@ module _ (a b : Row) where
   -- a sum is empty only where both rows are
   added-row-is-not-empty : (countIn a ≡ 0 → ⊥) → countIn (addRow a b) ≡ 0 → ⊥
   added-row-is-not-empty e =
-      by-count b
-      (λ f. rw (second-row-is-empty a b e f) e)
-      (λ f. rw (no-row-is-empty a b e f) (λ h. e (omega arith)))
+      by-count b (λ f. rw (second-row-is-empty a b e f) e) (λ f. rw (no-row-is-empty a b e f) (λ h. e (omega arith)))
 
 module _ (a b c : Row) where
   first-of-three-is-empty : countIn a ≡ 0 → addRow (addRow a b) c ≡ addRow a (addRow b c)
@@ -56,29 +52,21 @@ module _ (a b c : Row) where
       (λ f.
       by-count c
       (λ g.
-      ap (λ (r : Row). addRow r c) (two-empty-rows a b e f)
-      ∙ two-empty-rows noRow c refl g
-      ∙ sym (two-empty-rows a noRow e refl)
-      ∙ ap (addRow a) (sym (two-empty-rows b c f g)))
+      rw (two-empty-rows a b e f)
+      (cc (two-empty-rows noRow c refl g, two-empty-rows a noRow e refl, two-empty-rows b c f g)))
       (λ g.
-      ap (λ (r : Row). addRow r c) (two-empty-rows a b e f)
-      ∙ first-row-is-empty noRow c refl g
+      rw (two-empty-rows a b e f)
+      (first-row-is-empty noRow c refl g
       ∙ sym (first-row-is-empty a c e g)
-      ∙ ap (addRow a) (sym (first-row-is-empty b c f g))))
-      (λ f.
-      ap (λ (r : Row). addRow r c) (first-row-is-empty a b e f)
-      ∙ sym (first-row-is-empty a (addRow b c) e (added-row-is-not-empty b c f)))
+      ∙ ap (addRow a) (sym (first-row-is-empty b c f g)))))
+      (λ f. cc (first-row-is-empty a b e f, first-row-is-empty a (addRow b c) e (added-row-is-not-empty b c f)))
 
   second-of-three-is-empty
       : (countIn a ≡ 0 → ⊥) → countIn b ≡ 0 → addRow (addRow a b) c ≡ addRow a (addRow b c)
   second-of-three-is-empty e f =
-      ap (λ (r : Row). addRow r c) (second-row-is-empty a b e f)
-      ∙ by-count c
-      (λ g.
-      second-row-is-empty a c e g
-      ∙ sym (second-row-is-empty a noRow e refl)
-      ∙ ap (addRow a) (sym (two-empty-rows b c f g)))
-      (λ g. ap (addRow a) (sym (first-row-is-empty b c f g)))
+      rw (second-row-is-empty a b e f)
+      (by-count c (λ g. cc (second-row-is-empty a c e g, second-row-is-empty a noRow e refl, two-empty-rows b c f g))
+      (λ g. cc (first-row-is-empty b c f g)))
 
   none-of-three-is-empty
       : (countIn a ≡ 0 → ⊥)
@@ -101,8 +89,7 @@ module _ (a b c : Row) where
       by-count c
       (λ g.
       second-row-is-empty (addRow a b) c (added-row-is-not-empty a b e) g
-      ∙ ap (addRow a) (sym (second-row-is-empty b c f g)))
-      (none-of-three-is-empty e f)))
+      ∙ ap (addRow a) (sym (second-row-is-empty b c f g))) (none-of-three-is-empty e f)))
 
 -- ---- reports, row by row
 
@@ -119,21 +106,14 @@ same-report p q r s t = cc
 pub add-reports-comm : (a b : Report) → addReports a b ≡ addReports b a
 unfolding addReports
 add-reports-comm a b =
-    same-report
-    (add-row-comm (rowAt a 0) (rowAt b 0))
-    (add-row-comm (rowAt a 1) (rowAt b 1))
-    (add-row-comm (rowAt a 2) (rowAt b 2))
-    (add-row-comm (rowAt a 3) (rowAt b 3))
-    (add-row-comm (rowAt a 4) (rowAt b 4))
+    same-report (add-row-comm (rowAt a 0) (rowAt b 0)) (add-row-comm (rowAt a 1) (rowAt b 1))
+    (add-row-comm (rowAt a 2) (rowAt b 2)) (add-row-comm (rowAt a 3) (rowAt b 3)) (add-row-comm (rowAt a 4) (rowAt b 4))
 
 pub add-reports-assoc : (a b c : Report) → addReports (addReports a b) c ≡ addReports a (addReports b c)
 unfolding addReports
 add-reports-assoc a b c =
-    same-report
-    (add-row-assoc (rowAt a 0) (rowAt b 0) (rowAt c 0))
-    (add-row-assoc (rowAt a 1) (rowAt b 1) (rowAt c 1))
-    (add-row-assoc (rowAt a 2) (rowAt b 2) (rowAt c 2))
-    (add-row-assoc (rowAt a 3) (rowAt b 3) (rowAt c 3))
+    same-report (add-row-assoc (rowAt a 0) (rowAt b 0) (rowAt c 0)) (add-row-assoc (rowAt a 1) (rowAt b 1) (rowAt c 1))
+    (add-row-assoc (rowAt a 2) (rowAt b 2) (rowAt c 2)) (add-row-assoc (rowAt a 3) (rowAt b 3) (rowAt c 3))
     (add-row-assoc (rowAt a 4) (rowAt b 4) (rowAt c 4))
 
 -- ---- what fits
@@ -141,11 +121,9 @@ add-reports-assoc a b c =
 -- a part of a sum that fits, fits
 part-fits : (a b : Row) → (countIn b ≡ 0 → ⊥) → isOverlarge (addRow a b) ≡ false → isOverlarge b ≡ false
 part-fits a b f fits =
-    by-count a
-    (λ e. ap isOverlarge (sym (first-row-is-empty a b e f)) ∙ fits)
+    by-count a (λ e. cc (first-row-is-empty a b e f))
     (λ e.
-    let both = fitting-row (bothAdded a b) (ap isOverlarge (sym (no-row-is-empty a b e f)) ∙ fits) in
-    row-fits b (omega arith) (omega arith))
+    let both = fitting-row (bothAdded a b) (cc (no-row-is-empty a b e f)) in row-fits b (omega arith) (omega arith))
 
 pub later-rows-fit
     : (a b c : Row)
@@ -155,8 +133,6 @@ pub later-rows-fit
 later-rows-fit a b c first whole =
     by-count b
     (λ f.
-    by-count c
-    (λ g. ap isOverlarge (two-empty-rows b c f g) ∙ row-fits noRow (omega arith) (omega arith))
+    by-count c (λ g. ap isOverlarge (two-empty-rows b c f g) ∙ row-fits noRow (omega arith) (omega arith))
     (λ g. ap isOverlarge (first-row-is-empty b c f g) ∙ part-fits (addRow a b) c g whole))
-    (λ f.
-    part-fits a (addRow b c) (added-row-is-not-empty b c f) (ap isOverlarge (sym (add-row-assoc a b c)) ∙ whole))
+    (λ f. part-fits a (addRow b c) (added-row-is-not-empty b c f) (cc (add-row-assoc a b c)))

@@ -5,14 +5,11 @@ use Prim.Native.Nat.{ℕ, _<_}
 use mathlib.Core.Path.{_≡_, refl, sym, ap, ap₂, _∙_}
 use mathlib.Core.Bool.{false}
 use mathlib.Core.List.{List, [], _∷_, _++_}
-use Rattle.refusal.specs.Answer.{accepted, refuseIf}
-use Rattle.lists.specs.Place.{anywhere}
 use Rattle.timing.specs.Class.{atStart, classesOf}
 use Rattle.timing.specs.declared.Profile.{Profile}
-use Rattle.timing.specs.declared.cursor.Cursor.{Cursor}
 use Rattle.timing.proofs.ClassLaws.{classes-from-start, classes-none, classes-length, cursor-stays}
-use Rattle.report.specs.Row.{Row, addRow, isOverlarge}
-use Rattle.report.specs.Report.{Report, rowAt, reportOf, reportFrom, addReports, noReport, addRule}
+use Rattle.report.specs.Row.{addRow, isOverlarge}
+use Rattle.report.specs.Report.{Report, rowAt, reportOf, addReports, noReport, addRule}
 use Rattle.report.specs.Report.{added}
 use Rattle.report.specs.Claims.{allJoined, allAdded, Regrouped, DriveReports}
 use Rattle.report.proofs.AddLaws.{add-reports-comm, add-reports-assoc, later-rows-fit}
@@ -22,13 +19,7 @@ use Rattle.report.proofs.WholeLaws.{counts-add-up, sums-add-up}
 use Rattle.report.proofs.SpanLaws.{spanned}
 
 joined : (p : Profile) (ds es : List ℕ) → reportOf p (ds ++ es) ≡ addReports (reportOf p ds) (reportOf p es)
-joined p ds es =
-    report-from-start p (ds ++ es)
-    ∙ report-from-append (atStart p) ds es
-    ∙ ap
-    (λ (cursor : Cursor). addReports (reportFrom (atStart p) ds) (reportFrom cursor es))
-    (cursor-stays (atStart p) ds)
-    ∙ ap₂ addReports (sym (report-from-start p ds)) (sym (report-from-start p es))
+joined p ds es = simp (report-from-start, report-from-append, cursor-stays)
 
 no-interval : (p : Profile) → reportOf p [] ≡ noReport
 no-interval p = report-from-start p [] ∙ report-of-none (atStart p)
@@ -36,7 +27,7 @@ no-interval p = report-from-start p [] ∙ report-of-none (atStart p)
 all-joined : (p : Profile) (lists : List (List ℕ)) → reportOf p (allJoined lists) ≡ allAdded p lists
 unfolding allJoined allAdded
 all-joined p [] = no-interval p
-all-joined p (ds ∷ lists) = joined p ds (allJoined lists) ∙ ap (addReports (reportOf p ds)) (all-joined p lists)
+all-joined p (ds ∷ lists) = cc (joined p ds (allJoined lists), all-joined p lists)
 
 -- ---- no interval
 
@@ -47,24 +38,15 @@ neutral-first : (p : Profile) (ds : List ℕ) → addReports (reportOf p []) (re
 unfolding reportOf
 neutral-first p ds = rw (no-classes p) (sym (report-by-append [] (classesOf p ds) [] ds refl))
 
-neutral-second : (p : Profile) (ds : List ℕ) → addReports (reportOf p ds) (reportOf p []) ≡ reportOf p ds
-neutral-second p ds = add-reports-comm (reportOf p ds) (reportOf p []) ∙ neutral-first p ds
-
 -- ---- the operation
-
-commutative : (a b : Report) → (addRule a b ≡ addRule b a) × (added a b ≡ added b a)
-unfolding addRule added
-commutative a b =
-    let same = add-reports-comm a b in
-    (ap (λ (r : Report). refuseIf (anywhere isOverlarge r) 4 0 (accepted 0)) same, rw same)
 
 module _ (a b c : Report) (first : addRule a b .number ≡ 0) (whole : addRule (added a b) c .number ≡ 0) where
   whole-row
       : (k : ℕ) → k < 5 → isOverlarge (addRow (addRow (rowAt a k) (rowAt b k)) (rowAt c k)) ≡ false
   whole-row k h =
-      ap (λ (r : Row). isOverlarge (addRow r (rowAt c k))) (row-of-sum a b k h)
-      ∙ row-of-sum-fits (addReports a b) c k h
-      (ap (λ (r : Report). addRule r c .number) (sym (added-if-accepted a b first)) ∙ whole)
+      rw (row-of-sum a b k h)
+      (row-of-sum-fits (addReports a b) c k h
+      (ap (λ (r : Report). addRule r c .number) (sym (added-if-accepted a b first)) ∙ whole))
 
   later : addRule b c .number ≡ 0
   later =
@@ -73,11 +55,7 @@ module _ (a b c : Report) (first : addRule a b .number ≡ 0) (whole : addRule (
 
   whole-again : addRule a (added b c) .number ≡ 0
   unfolding addRule
-  whole-again =
-      ap (λ (r : Report). addRule a r .number) (added-if-accepted b c later)
-      ∙ ap (λ (r : Report). refuseIf (anywhere isOverlarge r) 4 0 (accepted 0) .number) (sym (add-reports-assoc a b c))
-      ∙ ap (λ (r : Report). addRule r c .number) (sym (added-if-accepted a b first))
-      ∙ whole
+  whole-again = cc (added-if-accepted b c later, add-reports-assoc a b c, added-if-accepted a b first)
 
   associative : Regrouped a b c
   associative =
@@ -93,15 +71,15 @@ module _ (a b c : Report) (first : addRule a b .number ≡ 0) (whole : addRule (
       }
 
 pub drive-reports : DriveReports
-unfolding reportOf
+unfolding reportOf addRule added
 drive-reports =
     record {
       joined-there = report-from-append;
       joined = joined;
       all-joined = all-joined;
       neutral-first = neutral-first;
-      neutral-second = neutral-second;
-      commutative = commutative;
+      neutral-second = λ p ds. add-reports-comm (reportOf p ds) (reportOf p []) ∙ neutral-first p ds;
+      commutative = λ a b. let same = add-reports-comm a b in (cc same, rw same);
       associative = associative;
       counts = λ p ds. counts-add-up (classesOf p ds) ds (classes-length p ds);
       sums = λ p ds. sums-add-up (classesOf p ds) ds (classes-length p ds);

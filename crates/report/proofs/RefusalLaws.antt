@@ -3,9 +3,8 @@ use Prim.Native.Nat.{ℕ, _≤_}
 use mathlib.Core.Path.{_≡_, sym}
 use mathlib.Core.List.{List}
 use lib.ListN.{length}
-use lib.Dec.{ltb}
 use borrow.Author.Tests.{eq-eqb, ltb-false}
-use Rattle.refusal.specs.Answer.{Answer, accepted, refuseIf}
+use Rattle.refusal.specs.Answer.{Answer}
 use Rattle.refusal.specs.Answer.{verdictAnswer}
 use Rattle.refusal.specs.declared.Refusal.{Refusal}
 use Rattle.refusal.specs.declared.Verdict.{Verdict}
@@ -26,5 +25,5 @@ module _ (v : Verdict) (rule : Answer) (report : Report) (e : verdictAnswer v �
 pub reported-list-is-short : (p : Profile) (ds : List ℕ) → reportRule p ds .number ≡ 0 → length ds ≤ 51202
 unfolding reportRule
 reported-list-is-short p ds h =
-    let later = first-refusal-accepts (profileRule p) (refuseIf (ltb 51202 (length ds)) 4 0 (accepted 0)) h .1 in
-    ltb-false 51202 (length ds) (refuse-if-accepts (ltb 51202 (length ds)) 3 0 (accepted 0) later .0)
+    let later = first-refusal-accepts (profileRule p) _ h .1 in
+    ltb-false 51202 (length ds) (refuse-if-accepts _ 3 0 _ later .0)

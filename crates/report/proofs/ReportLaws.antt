@@ -44,8 +44,7 @@ pub report-by-append
     → length cs ≡ length ds
     → reportBy (cs ++ es) (ds ++ fs) ≡ addReports (reportBy cs ds) (reportBy es fs)
 unfolding reportBy addReports
-report-by-append cs es ds fs h =
-    same-report (row Narrow) (row Two) (row Three) (row Four) (row Wide)
+report-by-append cs es ds fs h = same-report (row Narrow) (row Two) (row Three) (row Four) (row Wide)
   where
     row
         : (c : Class)
@@ -57,12 +56,11 @@ pub report-from-append
     → reportFrom cursor (ds ++ es) ≡ addReports (reportFrom cursor ds) (reportFrom (cursorAfter cursor ds) es)
 unfolding reportFrom
 report-from-append cursor ds es =
-    ap (λ (cs : List Class). reportBy cs (ds ++ es)) (classes-append cursor ds es)
-    ∙ report-by-append (classesFrom cursor ds) (classesFrom (cursorAfter cursor ds) es) ds es (classes-count cursor ds)
+    rw (classes-append cursor ds es) (report-by-append (classesFrom cursor ds) _ ds es (classes-count cursor ds))
 
 pub report-from-start : (p : Profile) (ds : List ℕ) → reportOf p ds ≡ reportFrom (atStart p) ds
 unfolding reportOf reportFrom
-report-from-start p ds = ap (λ (cs : List Class). reportBy cs ds) (classes-from-start p ds)
+report-from-start p ds = cc (classes-from-start p ds)
 
 -- the report of no intervals
 pub report-of-none : (cursor : Cursor) → reportFrom cursor [] ≡ noReport

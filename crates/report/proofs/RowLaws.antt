@@ -1,14 +1,14 @@
 -- The row of two lists joined is their rows added: counts and sums add, and least and greatest are taken over both; of
 -- an empty list nothing comes in. Rests on no axiom.
 use Prim.Native.Nat.{ℕ, _+_, _≤_, min, max}
-use mathlib.Core.Path.{_≡_, refl, sym, ap, _∙_}
+use mathlib.Core.Path.{_≡_, refl, sym, _∙_}
 use mathlib.Core.Bool.{Bool, true, false}
 use mathlib.Core.List.{List, [], _∷_, _++_, append-nil}
 use mathlib.Mathlib.Data.Bool.Basic.{or-eq-false-eq-eq-false-and-eq-false}
 use native.Mathlib.Nat.{zero-add, add-zero, zero-max, max-zero}
 use native.Mathlib.Omega.{arith}
 use borrow.Author.Tests.{eqb-true, eqb-false, eq-eqb, ne-eqb, ltb-false, le-ltb}
-use lib.Dec.{eqb, ltb}
+use lib.Dec.{eqb}
 use lib.ListN.{length-append}
 use Rattle.report.specs.Row.{Row, countIn, leastIn, greatestIn, sumIn, least, greatest, total, rowOf}
 use Rattle.report.specs.Row.{noRow, addRow, largest, isOverlarge}
@@ -81,38 +81,30 @@ unfolding rowOf
 row-of-append [] [] = row-of-none ∙ sym (two-empty-rows (rowOf []) (rowOf []) refl refl)
 row-of-append [] (e ∷ es) = sym (first-row-is-empty (rowOf []) (rowOf (e ∷ es)) refl (λ h. omega arith))
 row-of-append (d ∷ ds) [] =
-    ap rowOf (append-nil (d ∷ ds)) ∙ sym (second-row-is-empty (rowOf (d ∷ ds)) (rowOf []) (λ h. omega arith) refl)
+    cc (append-nil (d ∷ ds), second-row-is-empty (rowOf (d ∷ ds)) (rowOf []) (λ h. omega arith) refl)
 row-of-append (d ∷ ds) (e ∷ es) =
-    rw (
-      length-append (d ∷ ds) (e ∷ es),
-      least-of-append d ds e es,
-      greatest-of-append (d ∷ ds) (e ∷ es),
-      total-of-append (d ∷ ds) (e ∷ es),
-    )
+    rw (length-append, least-of-append, greatest-of-append, total-of-append)
     (sym (no-row-is-empty (rowOf (d ∷ ds)) (rowOf (e ∷ es)) (λ h. omega arith) (λ h. omega arith)))
 
 -- ---- rows that do not fit
 
 pub row-fits : (row : Row) → countIn row ≤ largest → sumIn row ≤ largest → isOverlarge row ≡ false
 unfolding isOverlarge
-row-fits row count sum = rw (le-ltb largest (countIn row) count, le-ltb largest (sumIn row) sum)
+row-fits row count sum = rw (le-ltb, le-ltb)
 
 pub fitting-row : (row : Row) → isOverlarge row ≡ false → (countIn row ≤ largest) × (sumIn row ≤ largest)
 unfolding isOverlarge
 fitting-row row fits =
-    let both =
-    or-eq-false-eq-eq-false-and-eq-false (ltb largest (countIn row)) (ltb largest (sumIn row)) .0 fits in
+    let both = or-eq-false-eq-eq-false-and-eq-false _ _ .0 fits in
     (ltb-false largest (countIn row) (both .0), ltb-false largest (sumIn row) (both .1))
 
 module _ (a b : Row) where
   pub fits-if-first-is-empty
       : countIn a ≡ 0 → countIn b ≤ largest → sumIn b ≤ largest → isOverlarge (addRow a b) ≡ false
   fits-if-first-is-empty e count sum =
-      by-count b
-      (λ f. ap isOverlarge (two-empty-rows a b e f) ∙ row-fits noRow (omega arith) (omega arith))
-      (λ f. ap isOverlarge (first-row-is-empty a b e f) ∙ row-fits b count sum)
+      by-count b (λ f. cc (two-empty-rows a b e f, row-fits noRow (omega arith) (omega arith)))
+      (λ f. cc (first-row-is-empty a b e f, row-fits b count sum))
 
   pub fits-if-second-is-empty
       : (countIn a ≡ 0 → ⊥) → countIn b ≡ 0 → countIn a ≤ largest → sumIn a ≤ largest → isOverlarge (addRow a b) ≡ false
-  fits-if-second-is-empty e f count sum =
-      ap isOverlarge (second-row-is-empty a b e f) ∙ row-fits a count sum
+  fits-if-second-is-empty e f count sum = cc (second-row-is-empty a b e f, row-fits a count sum)

@@ -51,15 +51,11 @@ module _ (d x : ℕ) (ds : List ℕ) (there : StandsIn ds x) where
 
   lesser-is-there : (t : Bool) → leb d x ≡ t → StandsIn (d ∷ ds) (min d x)
   lesser-is-there true q = (0, omega arith, sym (min-eq-left (leb-true d x q)))
-  lesser-is-there false q =
-      let lower = leb-false d x q in
-      rw (min-eq-right {n = x} {m = d} (omega arith)) one-on
+  lesser-is-there false q = let lower = leb-false d x q in rw (min-eq-right {n = x} {m = d} (omega arith)) one-on
 
   greater-is-there : (t : Bool) → leb x d ≡ t → StandsIn (d ∷ ds) (max d x)
   greater-is-there true q = (0, omega arith, sym (max-eq-left (leb-true x d q)))
-  greater-is-there false q =
-      let higher = leb-false x d q in
-      rw (max-eq-right {n = d} {m = x} (omega arith)) one-on
+  greater-is-there false q = let higher = leb-false x d q in rw (max-eq-right {n = d} {m = x} (omega arith)) one-on
 
 low-is-there : (d : ℕ) (ds : List ℕ) → StandsIn (d ∷ ds) (least (d ∷ ds))
 unfolding least

@@ -1,7 +1,7 @@
 -- What the loops over the rows of a sum keep: a row that does not fit is found where it stands, and each turn adds the
 -- next row. Rests on no axiom.
 use Prim.Native.Nat.{ℕ, zero, suc, _+_, _<_, _≤_}
-use mathlib.Core.Path.{_≡_, refl, sym, ap, _∙_}
+use mathlib.Core.Path.{_≡_, refl, sym, _∙_}
 use mathlib.Core.Bool.{true, false}
 use mathlib.Core.List.{[], _++_}
 use native.Mathlib.Numerals.{add-one}
@@ -11,7 +11,6 @@ use lib.ListN.{length, set, take, drop, drop-of-length-le}
 use lib.Seq.{drop-cons, take-suc, append-snoc, set-at, length-take-le}
 use Rattle.lists.specs.Place.{anywhere}
 use Rattle.lists.proofs.PlaceLaws.{anywhere-of-failing, lowest-of-none, below-lowest-fails}
-use Rattle.refusal.specs.Answer.{accepted}
 use Rattle.refusal.proofs.AnswerLaws.{refuse-if-accepts}
 use Rattle.report.specs.Row.{addRow, isOverlarge}
 use Rattle.report.specs.Report.{Report, rowAt, addReports, addRule, added, noReport}
@@ -48,19 +47,16 @@ module _ (a b : Report) where
         : isOverlarge (addRow (rowAt a k) (rowAt b k)) ≡ false
         → anywhere isOverlarge (drop (k + 1) rows) ≡ anywhere isOverlarge (drop k rows)
     fits-here e =
-        rw (add-one k, drop-cons rows k [] inside)
-        (sym
-        (anywhere-of-failing isOverlarge (rowAt rows k) (drop (suc k) rows)
-        (ap isOverlarge (sym (row-of-sum a b k h)) ∙ e)))
+        rw (add-one k, drop-cons rows k [] inside) (sym (anywhere-of-failing isOverlarge _ _ (cc (row-of-sum a b k h))))
 
     -- where the sum is accepted, each of its rows fits
     pub row-of-sum-fits : addRule a b .number ≡ 0 → isOverlarge (addRow (rowAt a k) (rowAt b k)) ≡ false
     unfolding addRule
     row-of-sum-fits e =
-        let nowhere = refuse-if-accepts (anywhere isOverlarge rows) 3 0 (accepted 0) e .0 in
+        let nowhere = refuse-if-accepts _ 3 0 _ e .0 in
         let none = lowest-of-none isOverlarge rows nowhere in
         let count = rows-of-sum in
-        ap isOverlarge (row-of-sum a b k h) ∙ below-lowest-fails isOverlarge rows [] k (omega arith)
+        cc (row-of-sum a b k h, below-lowest-fails isOverlarge rows [] k (omega arith))
 
     -- ---- the rows so far
 
@@ -86,13 +82,7 @@ module _ (a b : Report) where
       : ((k : ℕ) → k < 5 → isOverlarge (addRow (rowAt a k) (rowAt b k)) ≡ false) → addRule a b .number ≡ 0
   unfolding addRule addReports anywhere
   sum-is-accepted fits =
-      rw (
-        fits 0 (omega arith),
-        fits 1 (omega arith),
-        fits 2 (omega arith),
-        fits 3 (omega arith),
-        fits 4 (omega arith),
-      )
+      rw (fits 0 (omega arith), fits 1 (omega arith), fits 2 (omega arith), fits 3 (omega arith), fits 4 (omega arith))
 
   pub added-if-accepted : addRule a b .number ≡ 0 → added a b ≡ rows
   unfolding added

@@ -16,10 +16,7 @@ overClasses f = f Narrow + (f Two + (f Three + (f Four + (f Wide + 0))))
 
 -- a number of a list to which each element adds
 module _
-    (f : List ℕ → ℕ)
-    (step : ℕ → ℕ)
-    (none : f [] ≡ 0)
-    (more : (d : ℕ) (ds : List ℕ) → f (d ∷ ds) ≡ step d + f ds)
+    (f : List ℕ → ℕ) (step : ℕ → ℕ) (none : f [] ≡ 0) (more : (d : ℕ) (ds : List ℕ) → f (d ∷ ds) ≡ step d + f ds)
   where
     over-classes
         : (cs : List Class) (ds : List ℕ)
@@ -29,16 +26,11 @@ module _
     over-classes [] [] h = rw none (omega arith)
     over-classes [] (d ∷ ds) h = absurd (omega arith)
     over-classes (e ∷ cs) [] h = absurd (omega arith)
-    over-classes (Narrow ∷ cs) (d ∷ ds) h =
-        let rest = over-classes cs ds (omega arith) in rw (more d ds, more d (ofClass Narrow cs ds)) (omega arith)
-    over-classes (Two ∷ cs) (d ∷ ds) h =
-        let rest = over-classes cs ds (omega arith) in rw (more d ds, more d (ofClass Two cs ds)) (omega arith)
-    over-classes (Three ∷ cs) (d ∷ ds) h =
-        let rest = over-classes cs ds (omega arith) in rw (more d ds, more d (ofClass Three cs ds)) (omega arith)
-    over-classes (Four ∷ cs) (d ∷ ds) h =
-        let rest = over-classes cs ds (omega arith) in rw (more d ds, more d (ofClass Four cs ds)) (omega arith)
-    over-classes (Wide ∷ cs) (d ∷ ds) h =
-        let rest = over-classes cs ds (omega arith) in rw (more d ds, more d (ofClass Wide cs ds)) (omega arith)
+    over-classes (Narrow ∷ cs) (d ∷ ds) h = let rest = over-classes cs ds (omega arith) in rw (more, more) (omega arith)
+    over-classes (Two ∷ cs) (d ∷ ds) h = let rest = over-classes cs ds (omega arith) in rw (more, more) (omega arith)
+    over-classes (Three ∷ cs) (d ∷ ds) h = let rest = over-classes cs ds (omega arith) in rw (more, more) (omega arith)
+    over-classes (Four ∷ cs) (d ∷ ds) h = let rest = over-classes cs ds (omega arith) in rw (more, more) (omega arith)
+    over-classes (Wide ∷ cs) (d ∷ ds) h = let rest = over-classes cs ds (omega arith) in rw (more, more) (omega arith)
 
 module _ (cs : List Class) (ds : List ℕ) (h : length cs ≡ length ds) where
   pub counts-add-up : total (map countIn (reportBy cs ds)) ≡ length ds

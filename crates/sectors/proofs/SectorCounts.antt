@@ -6,7 +6,7 @@ use mathlib.Core.List.{List, [], _∷_, _++_}
 use native.Mathlib.Omega.{arith}
 use borrow.Author.Tests.{eqb-true, not-false}
 use lib.Dec.{eqb, ltb}
-use lib.ListN.{length, replicate}
+use lib.ListN.{length}
 use Rattle.lists.specs.Place.{everywhere}
 use Rattle.lists.proofs.PlaceLaws.{everywhere-passes-at-first, everywhere-in-rest}
 use Rattle.items.specs.Item.{isByte, isCheck, bytesOf, writtenBytes}
@@ -26,8 +26,7 @@ bytes-count-one-each : (ns : List ℕ) → everywhere isByte ns ≡ true → wri
 unfolding writtenBytes
 bytes-count-one-each [] e = refl
 bytes-count-one-each (n ∷ ns) e =
-    ap₂ _+_
-    (byte-counts-one n (everywhere-passes-at-first isByte n ns e))
+    ap₂ _+_ (byte-counts-one n (everywhere-passes-at-first isByte n ns e))
     (bytes-count-one-each ns (everywhere-in-rest isByte n ns e))
     ∙ omega arith
 
@@ -43,15 +42,14 @@ module _ (track side sector code : ℕ) (bytes : List ℕ) where
       let after-side = everywhere-in-rest isByte side (sector ∷ code ∷ bytes) after-track in
       let after-sector = everywhere-in-rest isByte sector (code ∷ bytes) after-side in
       rw (
-        written-bytes-of-append (bytes ++ (512 ∷ [])) (replicate 54 0x4e),
+        written-bytes-of-append _ _,
         written-bytes-of-append bytes (512 ∷ []),
         byte-counts-one track (everywhere-passes-at-first isByte track (side ∷ sector ∷ code ∷ bytes) e),
         byte-counts-one side (everywhere-passes-at-first isByte side (sector ∷ code ∷ bytes) after-track),
         byte-counts-one sector (everywhere-passes-at-first isByte sector (code ∷ bytes) after-side),
         byte-counts-one code (everywhere-passes-at-first isByte code bytes after-sector),
         bytes-count-one-each bytes (everywhere-in-rest isByte code bytes after-sector),
-      )
-      (omega arith)
+      ) (omega arith)
 
 fits-size : (above : Bool) (n m : ℕ) → (above || not (eqb n m)) ≡ false → n ≡ m
 fits-size true n m e = absurd (true≢false e)

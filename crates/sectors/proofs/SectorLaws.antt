@@ -1,7 +1,7 @@
 -- Laws of a sector's items: how many there are, and that its parts stored one after the other are the whole. Rests on
 -- no axiom.
 use Prim.Native.Nat.{ℕ, _+_, _≤_, _<_}
-use mathlib.Core.Path.{_≡_, refl, ap, _∙_}
+use mathlib.Core.Path.{_≡_, refl, _∙_}
 use mathlib.Core.Bool.{true, false}
 use mathlib.Core.List.{List, [], _∷_, _++_}
 use native.Mathlib.Omega.{arith}
@@ -34,10 +34,10 @@ module _ (track side sector code : ℕ) (bytes : List ℕ) where
       → storedAt after-data end (replicate 54 0x4e) ≡ storedAt l 0 (sectorItems track side sector code bytes)
   unfolding sectorItems opening identity
   sector-stored l o i g s d id gap second first end e₁ e₂ e₃ e₄ e₅ e₆ e₇ e₈ e₉ e₀ =
-      stored-next (bytes ++ (512 ∷ [])) (replicate 54 0x4e) s d first end e₉ (simp length-append (omega arith))
+      stored-next _ _ s d first end e₉ (simp length-append (omega arith))
       ∙ stored-next (opening 0xfb) _ g s second first e₇ e₈
       ∙ stored-next (replicate 22 0x4e) _ i g gap second e₅ e₆
-      ∙ stored-next (identity track side sector code) _ o i id gap e₃ e₄
+      ∙ stored-next _ _ o i id gap e₃ e₄
       ∙ stored-next (opening 0xfe) _ l o 0 id e₁ e₂
 
   code-above-3-is-misfit : 3 < code → isMisfit code bytes ≡ true
@@ -46,11 +46,11 @@ module _ (track side sector code : ℕ) (bytes : List ℕ) where
 
   wrong-size-is-misfit : code ≤ 3 → (length bytes ≡ sectorSize code → ⊥) → isMisfit code bytes ≡ true
   unfolding isMisfit
-  wrong-size-is-misfit h n = rw (le-ltb 3 code h, ne-eqb (length bytes) (sectorSize code) n)
+  wrong-size-is-misfit h n = rw (le-ltb, ne-eqb)
 
   right-size-fits : code ≤ 3 → length bytes ≡ sectorSize code → isMisfit code bytes ≡ false
   unfolding isMisfit
-  right-size-fits h e = rw (le-ltb 3 code h, eq-eqb (length bytes) (sectorSize code) e)
+  right-size-fits h e = rw (le-ltb, eq-eqb)
 
   -- the maker's answer and output from what its tests found
   abbrev Settles : Answer → List ℕ → List ℕ → Type 0
@@ -77,7 +77,7 @@ module _ (track side sector code : ℕ) (bytes : List ℕ) where
       → Settles (refused 9 0) l l
   unfolding sectorRule sectorOutput
   short-output-settles l h e room =
-      let full = lt-ltb (length l) (length bytes + 114) room in
+      let full = lt-ltb _ _ room in
       (rw (right-size-fits h e, sector-length, full), rw (right-size-fits h e, sector-length, full))
 
   pub sector-settles
@@ -88,10 +88,9 @@ module _ (track side sector code : ℕ) (bytes : List ℕ) where
       → Settles (accepted (length bytes + 114)) (storedAt l 0 (sectorItems track side sector code bytes)) l
   unfolding sectorRule sectorOutput
   sector-settles l h e room =
-      let enough = le-ltb (length l) (length bytes + 114) room in (
+      let enough = le-ltb _ _ room in (
         rw (right-size-fits h e, sector-length, enough),
-        stored-at-front-fills (sectorItems track side sector code bytes) l (rw sector-length room)
-            ∙ rw (right-size-fits h e, sector-length, enough),
+        stored-at-front-fills _ l (rw sector-length room) ∙ rw (right-size-fits h e, sector-length, enough),
       )
 
 pub opening-stored
@@ -100,6 +99,4 @@ pub opening-stored
     → k ≡ i + 15
     → set (storedAt (storedAt l i (replicate 12 0)) j (replicate 3 0x1a1)) k kind ≡ storedAt l i (opening kind)
 unfolding opening
-opening-stored l i j k kind e f =
-    ap (λ (m : List ℕ). set m k kind) (stored-next (replicate 12 0) (replicate 3 0x1a1) l _ i j refl e)
-    ∙ stored-one-more (replicate 12 0 ++ replicate 3 0x1a1) l i k kind f
+opening-stored l i j k kind e f = rw (stored-next _ _ l _ i j refl e) (stored-one-more _ l i k kind f)

@@ -1,6 +1,6 @@
 -- The printed text: how long its lines can get, and its cells one at a time. Rests on no axiom.
 use Prim.Native.Nat.{ℕ, suc, _+_, _*_, _^_, _≤_, _<_}
-use mathlib.Core.Path.{_≡_, sym, _∙_, ap, ap₂}
+use mathlib.Core.Path.{_≡_, sym, _∙_, ap}
 use mathlib.Core.List.{List, [], _∷_, _++_}
 use native.Mathlib.Omega.{arith}
 use lib.ListN.{length, drop, getD, length-append, drop-of-length-le}
@@ -41,8 +41,7 @@ printed-is-front text before after r p =
 
 -- a line of one, two or three numbers
 line-of-one : (word : List ℕ) (a : ℕ) → length (lineOf word (a ∷ [])) ≡ length word + length (decimal a) + 2
-line-of-one word a =
-    line-length word (a ∷ []) ∙ omega (arith, fields-length-of-more a [], fields-length-of-none)
+line-of-one word a = line-length word (a ∷ []) ∙ omega (arith, fields-length-of-more a [], fields-length-of-none)
 
 line-of-two : (word : List ℕ) (a b : ℕ)
     → length (lineOf word (a ∷ b ∷ [])) ≡ length word + length (decimal a) + length (decimal b) + 3
@@ -119,9 +118,7 @@ pub cells-of-stream : (p : Profile) (c : Cursor) (stream : List ℕ)
     → c ≡ atStart p
     → cellsLeft c 0 stream ≡ streamText p stream
 unfolding streamText
-cells-of-stream p c stream e =
-    ap (λ (cs : List Class). cellsText 0 cs stream)
-    (ap (λ (start : Cursor). classesFrom start stream) e ∙ sym (classes-from-start p stream))
+cells-of-stream p c stream e = cc (classes-from-start p stream)
 
 pub no-cells-left : (c : Cursor) (stream : List ℕ) (k : ℕ) → length stream ≤ k → cellsLeft c k stream ≡ []
 unfolding cellsText
@@ -137,7 +134,7 @@ cellsAfter c k stream = cellsLeft (cursorPast c (getD stream k 0)) (suc k) strea
 module _ (c : Cursor) (stream : List ℕ) (k : ℕ) (h : k < length stream) where
   cells-next : cellsLeft c k stream ≡ cellHere c k stream ++ cellsAfter c k stream
   unfolding cellsText
-  cells-next = ap₂ (cellsText k) (classes-here c stream k h) (drop-cons stream k 0 h)
+  cells-next = cc (classes-here c stream k h, drop-cons stream k 0 h)
 
   pub cells-length-next : length (cellsLeft c k stream) ≡ length (cellHere c k stream) + length (cellsAfter c k stream)
   cells-length-next = ap length cells-next ∙ length-append (cellHere c k stream) (cellsAfter c k stream)
@@ -147,8 +144,7 @@ module _ (c : Cursor) (stream : List ℕ) (k : ℕ) (h : k < length stream) wher
       → storedAt (storedAt out end (cellHere c k stream)) next (cellsAfter c k stream)
       ≡ storedAt out end (cellsLeft c k stream)
   cells-stored-next out end next e =
-      stored-after-stored (cellHere c k stream) (cellsAfter c k stream) out end next e
-      ∙ ap (storedAt out end) (sym cells-next)
+      cc (stored-after-stored (cellHere c k stream) (cellsAfter c k stream) out end next e, cells-next)
 
 -- the report is its three parts, and fits
 module _ (p : Profile) (margin : ℕ) (stream : List ℕ) where
@@ -176,11 +172,7 @@ module _ (p : Profile) (margin : ℕ) (stream : List ℕ) where
       + length (streamText p stream)
       + length (lineOf (ascii "end") (length stream ∷ []))
   unfolding reportText
-  report-length =
-      length-append (lineOf (ascii "margin") (margin ∷ []) ++ streamText p stream)
-      (lineOf (ascii "end") (length stream ∷ []))
-      ∙ ap (λ (n : ℕ). n + length (lineOf (ascii "end") (length stream ∷ [])))
-      (length-append (lineOf (ascii "margin") (margin ∷ [])) (streamText p stream))
+  report-length = simp length-append
 
   pub report-stored : (out : List ℕ) (cells end : ℕ)
       → cells ≡ 0 + length (lineOf (ascii "margin") (margin ∷ []))
@@ -192,8 +184,6 @@ module _ (p : Profile) (margin : ℕ) (stream : List ℕ) where
       ≡ storedAt out 0 (reportText p margin stream)
   unfolding reportText
   report-stored out cells end e k =
-      ap (λ (l : List ℕ). storedAt l end (lineOf (ascii "end") (length stream ∷ [])))
-      (stored-after-stored (lineOf (ascii "margin") (margin ∷ [])) (streamText p stream) out 0 cells e)
-      ∙ stored-after-stored (lineOf (ascii "margin") (margin ∷ []) ++ streamText p stream)
-      (lineOf (ascii "end") (length stream ∷ [])) out 0 end
-      (omega (arith, length-append (lineOf (ascii "margin") (margin ∷ [])) (streamText p stream)))
+      rw (stored-after-stored _ _ out 0 cells e)
+      (stored-after-stored _ _ out 0 end
+      (omega (arith, length-append (lineOf (ascii "margin") (margin ∷ [])) (streamText p stream))))

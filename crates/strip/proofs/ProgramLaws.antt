@@ -2,7 +2,7 @@
 -- written bytes has at most 4,098 cells, so that the writer's output is never too short. Rests on no axiom.
 use Prim.Native.Nat.{ℕ, _≤_, _<_}
 use mathlib.Core.Path.{_≡_, refl, sym, _∙_, ap}
-use mathlib.Core.Bool.{Bool, true, false, cond, false≢true}
+use mathlib.Core.Bool.{Bool, true, false, cond}
 use mathlib.Core.List.{List}
 use native.Mathlib.Omega.{arith}
 use lib.Dec.{eqb, ltb}
@@ -43,7 +43,7 @@ margin-refused p r e = refused-earlier r (profileRule p) (marginOf p) e
 
 pub margin-accepted : (p : Profile) (m : ℕ) → accepted m ≡ marginRule p → (profileRule p .number ≡ 0) × (m ≡ marginOf p)
 unfolding marginRule
-margin-accepted p m e = accepted-later (profileRule p) m (marginOf p) e
+margin-accepted p m e = accepted-later _ m _ e
 
 -- the text of a refused and of an accepted script
 module _ (p : Profile) (items : List ℕ) where
@@ -56,7 +56,7 @@ module _ (p : Profile) (items : List ℕ) where
   pub accepted-script-text : scriptRule p items .number ≡ 0
       → scriptText p items ≡ reportText p (marginOf p) (streamOf p items)
   unfolding scriptText
-  accepted-script-text e = rw (eq-eqb (scriptRule p items .number) 0 e)
+  accepted-script-text e = rw eq-eqb
 
   -- 1 and 2
   pub profile-refuses-script : (r : Refusal)
@@ -68,19 +68,15 @@ module _ (p : Profile) (items : List ℕ) where
   -- 4, above 512 written bytes
   pub long-list-is-refused : profileRule p .number ≡ 0 → 512 < writtenBytes items → scriptRule p items ≡ refused 4 0
   unfolding scriptRule
-  long-list-is-refused e h = rw (eq-eqb (profileRule p .number) 0 e, lt-ltb 512 (writtenBytes items) h)
+  long-list-is-refused e h = rw (eq-eqb, lt-ltb)
 
 -- 512 written bytes have at most 4,098 cells
 module _ (p : Profile) (items : List ℕ) (h : writtenBytes items ≤ 512) where
   stream-fits : length (streamOf p items) ≤ 4098
   unfolding streamOf
   stream-fits =
-      omega (
-        arith,
-        stream-is-as-long-as-its-cells p (written items),
-        cells-at-most (written items),
-        length-of-written items,
-      )
+      omega
+      (arith, stream-is-as-long-as-its-cells p (written items), cells-at-most (written items), length-of-written items)
 
   -- so the writer answers as the program does
   pub writer-answers : writeRule p items 4098 ≡ scriptRule p items
@@ -148,11 +144,7 @@ module _ (text : List ℕ) where
       → programText text ≡ refusalText (refused (numberOf r) (placeOf r))
   unfolding programText programRule
   garbled-input-text r n e =
-      rw (
-        ← refusal-decides r (inputRule text) (scriptRule (profileIn text) (itemsIn text))
-            (refused-earlier r (inputRule text) n e),
-        number-is-not-zero r,
-      )
+      rw (← refusal-decides r (inputRule text) _ (refused-earlier r (inputRule text) n e), number-is-not-zero r)
 
   pub read-input-text : (m n : ℕ)
       → accepted m ≡ firstRefusal (inputRule text) (accepted n)

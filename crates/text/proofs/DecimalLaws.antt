@@ -95,10 +95,10 @@ cond-number false v n e = absurd (let q : _≡_ {A = ℕ} 0 1 = cc in omega arit
 -- what an answer says of the field
 pub malformed-is-no-decimal : (field : List ℕ) → decimalRead field ≡ Malformed → isDecimal field ≡ false
 unfolding decimalRead
-malformed-is-no-decimal field e = cond-malformed (isDecimal field) (valueOf field) e
+malformed-is-no-decimal field e = cond-malformed _ _ e
 
 pub number-is-decimal : (field : List ℕ) (n : ℕ)
     → decimalRead field ≡ Number n
     → (isDecimal field ≡ true) × (valueOf field ≡ n)
 unfolding decimalRead
-number-is-decimal field n e = cond-number (isDecimal field) (valueOf field) n e
+number-is-decimal field n e = cond-number _ _ n e

@@ -103,5 +103,4 @@ decimal-has-no-leading-zero (suc n) =
 
 pub decimal-reads-back : DecimalReadsBack
 unfolding decimalRead isDecimal isShort
-decimal-reads-back n h =
-    rw (decimal-has-no-leading-zero n, decimal-is-digits n, value-of-decimal n, le-leb n 65535 h)
+decimal-reads-back n h = rw (decimal-has-no-leading-zero n, decimal-is-digits n, value-of-decimal n, le-leb n 65535 h)

@@ -61,8 +61,8 @@ cond-value false v b e = absurd (let q : _≡_ {A = ℕ} 0 1 = cc in omega arith
 -- what an answer says of the field
 pub malformed-is-no-byte : (field : List ℕ) → byteRead field ≡ Malformed → isHexByte field ≡ false
 unfolding byteRead
-malformed-is-no-byte field e = cond-malformed (isHexByte field) (hexByte field) e
+malformed-is-no-byte field e = cond-malformed _ _ e
 
 pub value-is-byte : (field : List ℕ) (b : ℕ) → byteRead field ≡ Value b → (isHexByte field ≡ true) × (hexByte field ≡ b)
 unfolding byteRead
-value-is-byte field b e = cond-value (isHexByte field) (hexByte field) b e
+value-is-byte field b e = cond-value _ _ b e

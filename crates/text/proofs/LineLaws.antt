@@ -1,7 +1,7 @@
 -- The fields of a printed line, one at a time: each is stored where the one before it ends, so the line is stored
 -- whole. Rests on no axiom.
 use Prim.Native.Nat.{ℕ, suc, _+_, _<_}
-use mathlib.Core.Path.{_≡_, refl, _∙_, ap}
+use mathlib.Core.Path.{_≡_, refl, _∙_}
 use mathlib.Core.List.{List, [], _∷_, _++_}
 use native.Mathlib.Numerals.{add-one}
 use native.Mathlib.Omega.{arith}
@@ -21,10 +21,7 @@ module _ (numbers : List ℕ) (i : ℕ) (h : i < length numbers) where
   pub fields-length-next :
       length (fieldsOf (drop i numbers))
       ≡ 1 + length (decimal (getD numbers i 0)) + length (fieldsOf (drop (suc i) numbers))
-  fields-length-next =
-      ap length fields-next
-      ∙ length-append (tab ∷ decimal (getD numbers i 0)) (fieldsOf (drop (suc i) numbers))
-      ∙ omega arith
+  fields-length-next = rw fields-next (length-append (tab ∷ decimal (getD numbers i 0)) _ ∙ omega arith)
 
   -- a tab and a number are stored, and what is left of the fields after them
   pub fields-stored-next : (out : List ℕ) (end : ℕ)
@@ -52,9 +49,7 @@ fields-length-of-more n numbers = length-append (tab ∷ decimal n) (fieldsOf nu
 module _ (word numbers : List ℕ) where
   pub line-length : length (lineOf word numbers) ≡ length word + length (fieldsOf numbers) + 1
   unfolding lineOf
-  line-length =
-      length-append (word ++ fieldsOf numbers) (lineFeed ∷ [])
-      ∙ ap (λ (n : ℕ). n + 1) (length-append word (fieldsOf numbers))
+  line-length = cc (length-append _ _)
 
   pub line-stored : (out : List ℕ) (at : ℕ)
       → storedAt
@@ -64,7 +59,5 @@ module _ (word numbers : List ℕ) where
       ≡ storedAt out at (lineOf word numbers)
   unfolding lineOf
   line-stored out at =
-      ap (λ (l : List ℕ). storedAt l (at + length word + length (fieldsOf numbers)) (lineFeed ∷ []))
-      (stored-after-stored word (fieldsOf numbers) out at _ refl)
-      ∙ stored-after-stored (word ++ fieldsOf numbers) (lineFeed ∷ []) out at _
-      (omega (arith, length-append word (fieldsOf numbers)))
+      rw (stored-after-stored word (fieldsOf numbers) out at _ refl)
+      (stored-after-stored _ _ out at _ (omega (arith, length-append word (fieldsOf numbers))))

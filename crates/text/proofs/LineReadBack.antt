@@ -1,7 +1,7 @@
 -- Why the numbers of a printed line are read back: digits are neither tab nor line feed, so the pieces of the line
 -- are those that were printed. Rests on no axiom.
 use Prim.Native.Nat.{ℕ, _≤_, _<_}
-use mathlib.Core.Path.{_≡_, refl, _∙_, ap, ap₂}
+use mathlib.Core.Path.{_≡_, refl, ap}
 use mathlib.Core.Bool.{Bool, true, false, cond, not, _&&_, false≢true}
 use mathlib.Core.List.{List, [], _∷_, _++_, map, append-nil}
 use native.Mathlib.Omega.{arith}
@@ -81,8 +81,8 @@ fields-lack-line-feed : (numbers : List ℕ) → lacks lineFeed (fieldsOf number
 unfolding lacks everywhere fieldsOf
 fields-lack-line-feed [] = refl
 fields-lack-line-feed (n ∷ numbers) =
-    both-everywhere (λ (x : ℕ). not (eqb x lineFeed)) (decimal n) (fieldsOf numbers)
-    (decimal-lacks lineFeed (omega arith) n) (fields-lack-line-feed numbers)
+    both-everywhere _ (decimal n) (fieldsOf numbers) (decimal-lacks lineFeed (omega arith) n)
+    (fields-lack-line-feed numbers)
 
 pub fields-of-printed : (word numbers : List ℕ)
     → lacks tab word ≡ true
@@ -90,20 +90,18 @@ pub fields-of-printed : (word numbers : List ℕ)
 unfolding fieldsOf
 fields-of-printed word [] h = rw append-nil (pieces-of-one tab word h)
 fields-of-printed word (n ∷ numbers) h =
-    pieces-of-joined tab word (decimal n ++ fieldsOf numbers) h
-    ∙ ap (λ (l : List (List ℕ)). word ∷ l) (fields-of-printed (decimal n) numbers (decimal-lacks tab (omega arith) n))
+    cc (pieces-of-joined tab word _ h, fields-of-printed (decimal n) numbers (decimal-lacks tab (omega arith) n))
 
 values-of-decimals : (numbers : List ℕ) → map valueOf (map decimal numbers) ≡ numbers
 values-of-decimals [] = refl
-values-of-decimals (n ∷ numbers) = ap₂ _∷_ (value-of-decimal n) (values-of-decimals numbers)
+values-of-decimals (n ∷ numbers) = cc (value-of-decimal n, values-of-decimals numbers)
 
 pub line-reads-back : LineReadsBack
 unfolding lacks lineOf
 line-reads-back word numbers rest h k =
     rw (
-      append-snoc (word ++ fieldsOf numbers) lineFeed rest,
-      up-to-of-joined lineFeed (word ++ fieldsOf numbers) rest
+      append-snoc _ lineFeed rest,
+      up-to-of-joined lineFeed _ rest
           (both-everywhere (λ (x : ℕ). not (eqb x lineFeed)) word (fieldsOf numbers) k (fields-lack-line-feed numbers)),
       fields-of-printed word numbers h,
-    )
-    (values-of-decimals numbers)
+    ) (values-of-decimals numbers)

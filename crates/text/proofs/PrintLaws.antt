@@ -1,5 +1,5 @@
 -- The digits of a number: the last digit stands after those of the number without it. Rests on no axiom.
-use Prim.Native.Nat.{ℕ, zero, suc, _+_, _/_, _%_, _^_, _≤_, _<_}
+use Prim.Native.Nat.{ℕ, zero, suc, _/_, _%_, _^_, _≤_, _<_}
 use mathlib.Core.Path.{_≡_, refl, _∙_, ap}
 use mathlib.Core.Bool.{Bool, true, false, cond}
 use mathlib.Core.List.{List, [], _∷_, _++_}
@@ -46,7 +46,7 @@ decimal-length-of-digit n h = rw (decimal-of-digit n h)
 
 pub decimal-length-of-more : (n : ℕ) → 10 ≤ n → length (decimal n) ≡ suc (length (decimal (n / 10)))
 decimal-length-of-more n h =
-    ap length (decimal-of-more n h) ∙ length-append (decimal (n / 10)) (digit (n % 10) ∷ []) ∙ omega arith
+    rw (decimal-of-more n h) (length-append (decimal (n / 10)) (digit (n % 10) ∷ []) ∙ omega arith)
 
 -- a number below ten to the k has at most k digits, but for 0, which has one
 pub decimal-within : (k n : ℕ) → n < 10 ^ suc k → length (decimal n) ≤ suc k

@@ -6,7 +6,7 @@ use mathlib.Core.List.{List, [], _∷_}
 use lib.Dec.{eqb}
 use lib.ListN.{length, drop, getD}
 use lib.Seq.{drop-cons}
-use borrow.Author.Tests.{eq-eqb, eqb-true}
+use borrow.Author.Tests.{eqb-true}
 use Rattle.text.specs.Ascii.{sameText}
 
 pub same-of-other-length : (a b : List ℕ) → (length a ≡ length b → ⊥) → sameText a b ≡ false
@@ -26,11 +26,6 @@ pub same-at : (a b : List ℕ) (i : ℕ)
     → sameText (drop i a) (drop i b) ≡ (eqb (getD a i 0) (getD b i 0) && sameText (drop (suc i) a) (drop (suc i) b))
 unfolding sameText
 same-at a b i h k = rw (drop-cons a i 0 h, drop-cons b i 0 k)
-
-pub same-of-itself : (a : List ℕ) → sameText a a ≡ true
-unfolding sameText
-same-of-itself [] = refl
-same-of-itself (a ∷ as′) = rw (eq-eqb a a refl, same-of-itself as′)
 
 pub same-is-equal : (a b : List ℕ) → sameText a b ≡ true → a ≡ b
 unfolding sameText

@@ -95,7 +95,7 @@ pub classes-take : (c : Cursor) (k : ℕ) (ds : List ℕ) → classesFrom c (tak
 unfolding classesFrom
 classes-take c zero ds = refl
 classes-take c (suc k) [] = refl
-classes-take c (suc k) (d ∷ ds) = ap (λ (cs : List Class). classIn c d ∷ cs) (classes-take (cursorPast c d) k ds)
+classes-take c (suc k) (d ∷ ds) = cc (classes-take (cursorPast c d) k ds)
 
 pub classes-drop
     : (c : Cursor) (k : ℕ) (ds : List ℕ)
@@ -129,8 +129,7 @@ cursor-stays c (d ∷ ds) = cursor-stays c ds
 
 pub classes-of-drop : (p : Profile) (k : ℕ) (ds : List ℕ) → classesOf p (drop k ds) ≡ drop k (classesOf p ds)
 unfolding classesOf
-classes-of-drop p k ds =
-    sym (classes-drop (atStart p) k ds ∙ rw (cursor-stays (atStart p) (take k ds)))
+classes-of-drop p k ds = sym (simp (classes-drop, cursor-stays))
 
 -- after an interval of class 2 the classing stands as at the start of a list
 pub classes-after-two

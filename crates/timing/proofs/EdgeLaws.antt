@@ -83,8 +83,7 @@ module _ (c : Cursor) (d : ℕ) where
 
   from-b23-is-not-two : c .min .0 ≤ d → c .b23 .0 ≤ d → isTwo (classIn c d) ≡ false
   unfolding classIn
-  from-b23-is-not-two h₂ h₃ =
-      rw (le-ltb d (c .min .0) h₂, le-ltb d (c .b23 .0) h₃) (above-two (ltb d (c .b34 .0)) (ltb d (c .rpt .0)))
+  from-b23-is-not-two h₂ h₃ = rw (le-ltb, le-ltb) (above-two (ltb d (c .b34 .0)) (ltb d (c .rpt .0)))
 
   -- class 2, by the difference from Min, which wraps below it
   module _ (r : ℕ) (up : Ascending c) (wraps : (r + c .min .0) % 2 ^ 16 ≡ d) (fits : c .b23 .0 < 2 ^ 16) where
@@ -93,7 +92,6 @@ module _ (c : Cursor) (d : ℕ) where
 
     pub two-by-difference : r < 2 ^ 16 → ltb r width ≡ isTwo (classIn c d)
     two-by-difference small =
-        let two = up .two in
         elim (decLt d (c .min .0)) [
           | yes below ↦ rw (below-min-is-narrow c d below, le-ltb r width (omega arith))
           | no over ↦

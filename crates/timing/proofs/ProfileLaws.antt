@@ -67,16 +67,10 @@ unfolding profileRule isTrue
 kept p e =
     let both = accepts-tests (anywhere passed (unset p)) (isTrue p) (lowest passed (unset p)) e in
     let held =
-    all-of-eight
-    (leb (p .early .0) (p .normal .0))
-    (leb (p .normal .0) (p .late .0))
-    (leb (p .min .0 + swing p) (p .t1 .0))
-    (ltb (p .t1 .0) (p .b23 .0))
-    (leb (p .b23 .0) (p .t1 .0 + p .t0 .0))
-    (ltb (p .t1 .0 + p .t0 .0 + swing p) (p .b34 .0))
-    (leb (p .b34 .0) (p .t1 .0 + 2 * p .t0 .0))
-    (ltb (p .t1 .0 + 2 * p .t0 .0 + swing p) (p .rpt .0))
-    (both .1) in
+    all-of-eight (leb (p .early .0) (p .normal .0)) (leb (p .normal .0) (p .late .0))
+    (leb (p .min .0 + swing p) (p .t1 .0)) (ltb (p .t1 .0) (p .b23 .0)) (leb (p .b23 .0) (p .t1 .0 + p .t0 .0))
+    (ltb (p .t1 .0 + p .t0 .0 + swing p) (p .b34 .0)) (leb (p .b34 .0) (p .t1 .0 + 2 * p .t0 .0))
+    (ltb (p .t1 .0 + 2 * p .t0 .0 + swing p) (p .rpt .0)) (both .1) in
     record {
       ranges = none-unset-in-range p (both .0);
       early-first = leb-true _ _ (held .0);
@@ -120,7 +114,7 @@ rule-of-windows p e = rule-by-windows (anywhere passed (unset p)) (isTrue p) (lo
 
 pub in-range : (p : Profile) → lowestUnset p ≡ 0 → InRange p
 unfolding lowestUnset
-in-range p e = none-unset-in-range p (none-found (anywhere passed (unset p)) (lowest passed (unset p)) e)
+in-range p e = none-unset-in-range p (none-found _ _ e)
 
 -- ---- a scan of the numbers finds the lowest that is unset
 

@@ -2,27 +2,19 @@
 -- first number on finds the lowest that is out, since a number that is inside moves the scan on by one. Rests on no
 -- axiom.
 use Prim.Native.Nat.{ℕ, suc, _+_, _≤_, _<_}
-use mathlib.Core.Path.{_≡_, refl, ap, ap₂, _∙_}
-use mathlib.Core.Bool.{Bool, true, false, cond, _||_, true≢false}
+use mathlib.Core.Path.{_≡_, ap, ap₂, _∙_}
+use mathlib.Core.Bool.{Bool, true, false, cond}
 use mathlib.Core.List.{List, [], _∷_}
 use mathlib.Mathlib.Data.Bool.Basic.{or-eq-false-eq-eq-false-and-eq-false}
 use native.Mathlib.Nat.{add-suc, suc-add, add-zero}
-use native.Mathlib.Omega.{arith}
 use lib.Dec.{ltb}
 use lib.ListN.{length, getD, drop, drop-of-length-le}
 use lib.Seq.{drop-cons}
 use borrow.Author.Tests.{ltb-false}
 use Rattle.lists.specs.Place.{anywhere, lowest, passed}
 use Rattle.lists.proofs.PlaceLaws.{nowhere-fails-at-first, nowhere-in-rest}
-use Rattle.timing.specs.Numbers.{fromNumbers, numbersOf, profileNumbers}
 use Rattle.timing.specs.Profile.{outside, outsideOf, Inside}
-use Rattle.timing.specs.declared.Profile.{Profile}
 use Rattle.timing.specs.declared.Range.{Range}
-
--- ---- numbers and profile
-
-pub from-numbers-of-numbers : (p : Profile) → fromNumbers (numbersOf p) ≡ p
-from-numbers-of-numbers p = refl
 
 -- ---- no test passed
 
@@ -32,11 +24,8 @@ none-outside-all-inside (range ∷ rs) [] e = tt
 none-outside-all-inside (range ∷ rs) (n ∷ ns) e =
     let here = nowhere-fails-at-first passed (outside (range .low) (range .high) n) (outsideOf rs ns) e in
     let later = nowhere-in-rest passed (outside (range .low) (range .high) n) (outsideOf rs ns) e in
-    let within = or-eq-false-eq-eq-false-and-eq-false (ltb n (range .low)) (ltb (range .high) n) .0 here in (
-      ltb-false n (range .low) (within .0),
-      ltb-false (range .high) n (within .1),
-      none-outside-all-inside rs ns later,
-    )
+    let within = or-eq-false-eq-eq-false-and-eq-false (ltb n (range .low)) (ltb (range .high) n) .0 here in
+    (ltb-false n (range .low) (within .0), ltb-false (range .high) n (within .1), none-outside-all-inside rs ns later)
 
 -- ---- a scan
 

@@ -19,7 +19,7 @@ data-bytes-fit code = let most = size-at-most-1024 code in (omega arith, omega a
 module _ (p : Profile) (ds : List ℕ) (code : ℕ) where
   pub no-data-means : NoField ≡ dataRead p ds code → isData p ds code ≡ false
   unfolding dataRead opens isData
-  no-data-means e = unopened-means p ds (dataBytes code) 0xfb e
+  no-data-means e = unopened-means p ds _ _ e
 
   pub data-means
       : (used : ℕ) (holds : Bool)

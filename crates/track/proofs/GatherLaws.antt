@@ -75,9 +75,7 @@ module _ (p : Profile) (ds : List ℕ) (start : ℕ) where
       → Begins entry next ≡ cond t (Begins (entryAt p ds k) (nextStart p ds k)) (Other (nextStart p ds k))
       → (entriesAt p ds k ≡ entry ∷ []) × (nextStart p ds k ≡ next)
   unfolding entriesAt
-  begins-at true entry next e q =
-      let same : entryAt p ds k ≡ entry = cc in
-      (rw (e, same), cc)
+  begins-at true entry next e q = (cc, cc)
   begins-at false entry next e q = absurd (let z : _≡_ {A = ℕ} 0 1 = cc in omega arith)
 
   pub begins-means
@@ -108,7 +106,7 @@ module _ (p : Profile) (ds : List ℕ) where
   crowd-decides
       : profileRule p .number ≡ 0 → (a : Answer) → a ≡ crowdRule (entriesOf p ds) → a ≡ indexRule p ds
   unfolding indexRule
-  crowd-decides fair a e = e ∙ sym (first-refusal-passes (profileRule p) (crowdRule (entriesOf p ds)) fair)
+  crowd-decides fair a e = e ∙ sym (first-refusal-passes (profileRule p) _ fair)
 
   handed-back : (a : Answer) → a ≡ indexRule p ds → handedBack a (entriesOf p ds) ≡ indexEntries p ds
   unfolding indexEntries
@@ -122,9 +120,9 @@ module _ (p : Profile) (ds : List ℕ) where
       → (refused (numberOf r) (placeOf r) ≡ indexRule p ds) × (replicate 32 noEntry ≡ indexEntries p ds)
   unfolding indexRule handedBack
   profile-refuses v r e q =
-      let rule = verdict-refuses v r (profileRule p) (crowdRule (entriesOf p ds)) e q in
+      let rule = verdict-refuses v r _ _ e q in
       let blank : replicate 32 noEntry ≡ handedBack (refused (numberOf r) (placeOf r)) (entriesOf p ds) =
-      rw (number-is-not-zero r) in
+      rw number-is-not-zero in
       (rule, blank ∙ handed-back _ rule)
 
 -- ---- the invariant
@@ -150,11 +148,11 @@ unfolding padded
 padded-more done e h =
     let m = 32 - length done - 1 in
     let some : 32 - length done ≡ suc m = omega arith in
-    let longer : length (done ++ (e ∷ [])) ≡ length done + 1 = length-append done (e ∷ []) in
+    let longer : length (done ++ (e ∷ [])) ≡ length done + 1 = length-append done _ in
     let left : m ≡ 32 - length (done ++ (e ∷ [])) = omega arith in
     ap (λ (n : ℕ). set (done ++ replicate n noEntry) (length done) e) some
-    ∙ set-append-seam done noEntry (replicate m noEntry) e
-    ∙ sym (append-snoc done e (replicate m noEntry))
+    ∙ set-append-seam done _ _ e
+    ∙ sym (append-snoc done e _)
     ∙ ap (λ (n : ℕ). (done ++ (e ∷ [])) ++ replicate n noEntry) left
 
 module _

@@ -9,7 +9,7 @@ use borrow.Author.Tests.{ltb-true, leb-true}
 use lib.Dec.{leb, ltb}
 use lib.ListN.{getD}
 use Rattle.timing.specs.declared.Profile.{Profile}
-use Rattle.track.specs.FieldKinds.{fieldOf, itemsOf, reads, opensWith, identifies, isId}
+use Rattle.track.specs.FieldKinds.{fieldOf, itemsOf, opensWith, identifies, isId}
 use Rattle.track.specs.machine.Steps.{opens, idWith, identified, idRead}
 use Rattle.track.specs.declared.id.IdRead.{IdRead}
 use Rattle.track.specs.declared.id.IdRead.the-variants.{Id, NoId}
@@ -57,7 +57,7 @@ module _ (p : Profile) (ds : List ℕ) where
 
   pub unopened-is-no-id : opens p ds 10 0xfe ≡ false → NoId ≡ idRead p ds
   unfolding idRead isId identifies opens
-  unopened-is-no-id e = rw (unopened (reads p ds 10) (opensWith 0xfe us) _ _ _ _ (fieldOf p ds 10 .holds) e)
+  unopened-is-no-id e = rw unopened
 
   without-sum : (t : Bool) (a b : IdRead) → b ≡ cond (t && false) a b
   without-sum true a b = refl
@@ -70,7 +70,7 @@ module _ (p : Profile) (ds : List ℕ) where
   module _ (used : ℕ) where
     pub unsound-is-no-id : FieldReads p ds 10 used false → NoId ≡ idRead p ds
     unfolding idRead isId
-    unsound-is-no-id f = rw (f .does, f .sum) (without-sum (identifies us) _ NoId)
+    unsound-is-no-id f = rw (f .does, f .sum) (without-sum (identifies us) _ _)
 
     pub sound-is-identified : FieldReads p ds 10 used true → identified us used ≡ idRead p ds
     unfolding idRead isId identified

@@ -7,7 +7,7 @@ use mathlib.Core.List.{List, [], _∷_}
 use native.Mathlib.Omega.{arith}
 use borrow.Author.Tests.{eqb-true}
 use lib.Dec.{eqb}
-use lib.ListN.{length, getD, replicate, length-replicate}
+use lib.ListN.{length, getD, length-replicate}
 use Rattle.refusal.specs.Answer.{Answer}
 use Rattle.timing.specs.Class.{classesOf}
 use Rattle.timing.specs.declared.Profile.{Profile}
@@ -44,8 +44,7 @@ module _ (p : Profile) (ds : List ℕ) (n : ℕ) where
 
   items-are-read : reads p ds n ≡ true → itemsOf p ds n ≡ fieldItems (classesOf p ds) n
   unfolding itemsOf
-  items-are-read e =
-      output-is-items p ds n (reading-is-accepted e) (replicate n 0) (length-replicate n 0)
+  items-are-read e = output-is-items p ds n (reading-is-accepted e) _ (length-replicate n 0)
 
   -- a buffer that was filled has them
   pub items-in-place
@@ -67,11 +66,11 @@ module _ (p : Profile) (ds : List ℕ) (n : ℕ) where
     module _ (used : ℕ) (holds : Bool) (f : FieldReads p ds n used holds) where
       pub opens-by-kind : opens p ds n kind ≡ opensWith kind (itemsOf p ds n)
       unfolding opens
-      opens-by-kind = rw (f .does)
+      opens-by-kind = cc
 
       pub opened : opens p ds n kind ≡ true → Field used holds ≡ openedOf p ds n kind
       unfolding openedOf
-      opened e = rw (e, f .uses, f .sum)
+      opened e = cc e
 
     -- ---- what the answer means
 
@@ -102,12 +101,8 @@ module _ (p : Profile) (ds : List ℕ) (n : ℕ) where
         : (used : ℕ) (holds : Bool) → Field used holds ≡ openedOf p ds n kind → FieldReads p ds n used holds
     unfolding opens
     opened-reads used holds e =
-        let (opens-so, same) = opened-means used holds e in
-        record {
-          does = both (reads p ds n) (opensWith kind (itemsOf p ds n)) opens-so .0;
-          uses = cc;
-          sum = cc;
-        }
+        let (opens-so, same) = opened-means _ _ e in
+        record { does = both _ (opensWith _ _) opens-so .0; uses = cc; sum = cc }
 
     -- ---- what begins without the classes of three marks
 
@@ -150,4 +145,4 @@ module _ (p : Profile) (ds : List ℕ) (n : ℕ) where
 -- then nothing is said of the items
 pub no-items : (p : Profile) (ds : List ℕ) (kind : ℕ) (old new : List ℕ) → opens p ds (length old) kind ≡ false
     → GivesItems p ds kind old new
-no-items p ds kind old new none e = absurd (true≢false (sym e ∙ none))
+no-items p ds kind old new none e = absurd (true≢false (cc))

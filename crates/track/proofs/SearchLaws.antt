@@ -6,9 +6,9 @@ use mathlib.Core.Path.{_≡_, refl, sym, ap, _∙_}
 use mathlib.Core.Bool.{Bool, true, false, cond, _&&_, true≢false}
 use mathlib.Core.List.{List, [], _++_}
 use native.Mathlib.Omega.{arith}
-use borrow.Author.Tests.{eqb-true, eq-eqb, leb-true}
-use lib.Dec.{eqb, leb}
-use lib.ListN.{length, drop, replicate, length-drop}
+use borrow.Author.Tests.{eqb-true, leb-true}
+use lib.Dec.{eqb}
+use lib.ListN.{length, drop, length-drop}
 use Rattle.refusal.specs.Table.{numberOf, placeOf}
 use Rattle.refusal.specs.Answer.{Answer, accepted, refused, countedAnswer}
 use Rattle.refusal.specs.declared.Refusal.{Refusal}
@@ -20,7 +20,7 @@ use Rattle.timing.specs.Class.{classesOf}
 use Rattle.timing.specs.declared.Profile.{Profile}
 use Rattle.timing.specs.declared.Class.{Class}
 use Rattle.timing.proofs.ClassLaws.{classes-length}
-use Rattle.fields.specs.Lock.{beginsWith, markAhead, lockAt, lockFrom, searchRule, findRule}
+use Rattle.fields.specs.Lock.{lockAt, lockFrom, searchRule, findRule}
 use Rattle.fields.proofs.FinderLaws.{lock-is-within}
 use Rattle.fields.proofs.FirstLockLaws.{lock-from-found, search-finds}
 use Rattle.track.specs.FieldKinds.{isId, isData, dataBytes}
@@ -41,15 +41,15 @@ module _ (p : Profile) (ds : List ℕ) (start : ℕ) where
   -- as the search answers it
   module _ (fair : profileRule p .number ≡ 0) (found : Counted) (e : countedAnswer found ≡ searchRule p ds start) where
     pub search-refuses : (r : Refusal) → found ≡ Refused r → hasLock p ds start ≡ false
-    search-refuses r q = refused-is-no-lock r (sym (ap countedAnswer q) ∙ e ∙ search-finds p ds start fair)
+    search-refuses r q = refused-is-no-lock r (sym (ap countedAnswer q) ∙ e ∙ search-finds p ds _ fair)
 
     pub search-counts : (k : ℕ) → found ≡ Count k → accepted k ≡ findRule p ds start
-    search-counts k q = sym (ap countedAnswer q) ∙ e ∙ search-finds p ds start fair
+    search-counts k q = sym (ap countedAnswer q) ∙ e ∙ search-finds p ds _ fair
 
   pub found-is-lock
       : (k : ℕ) → accepted k ≡ findRule p ds start → (hasLock p ds start ≡ true) × (lockPlace p ds start ≡ k)
   unfolding hasLock lockPlace
-  found-is-lock k e = (rw (sym e), sym (ap (λ (a : Answer). a .count) e))
+  found-is-lock k e = (cc, sym (ap (λ (a : Answer). a .count) e))
 
   -- ---- where a lock stands
 
@@ -62,7 +62,7 @@ module _ (p : Profile) (ds : List ℕ) (start : ℕ) where
       → cond t (accepted (start + a .count)) a .number ≡ 0
       → (a .number ≡ 0) × (cond t (accepted (start + a .count)) a .count ≡ start + a .count)
   counted true a e h = (eqb-true _ _ e, refl)
-  counted false a e h = absurd (true≢false (sym (eq-eqb _ 0 h) ∙ e))
+  counted false a e h = absurd (true≢false (cc))
 
   first-holds : (t a b : Bool) → (t && a && b) ≡ true → t ≡ true
   first-holds true a b e = refl
@@ -70,9 +70,7 @@ module _ (p : Profile) (ds : List ℕ) (start : ℕ) where
 
   stands-after-64 : (k : ℕ) → lockAt classes k ≡ true → 64 ≤ k
   unfolding lockAt
-  stands-after-64 k e =
-      leb-true 64 k
-      (first-holds (leb 64 k) (beginsWith (replicate 64 2) (drop (k - 64) classes)) (markAhead (drop k classes)) e)
+  stands-after-64 k e = leb-true 64 k (first-holds _ _ _ e)
 
   pub lock-is-ahead
       : hasLock p ds start ≡ true → (start + 64 ≤ lockPlace p ds start) × (lockPlace p ds start < length ds)
@@ -114,7 +112,7 @@ module _ (p : Profile) (ds : List ℕ) where
 
   entry-ends-ahead : (start code : ℕ) → start ≤ entryEnd p ds start code
   unfolding entryEnd hasData
-  entry-ends-ahead start code = entry-end-by _ start code refl
+  entry-ends-ahead start code = entry-end-by _ _ _ refl
 
   next-by
       : (t : Bool) (k : ℕ)
@@ -139,7 +137,7 @@ module _ (p : Profile) (ds : List ℕ) where
       : (t : Bool) (first rest other : List Entry)
       → (t ≡ true → rest ≡ other)
       → cond t (first ++ rest) [] ≡ cond t (first ++ other) []
-  search-by true first rest other on = rw (on refl)
+  search-by true first rest other on = rw on
   search-by false first rest other on = refl
 
   same-searches
@@ -172,7 +170,7 @@ module _ (p : Profile) (ds : List ℕ) where
 
   pub search-ends : (start : ℕ) → hasLock p ds start ≡ false → entriesFrom p ds start ≡ []
   unfolding entriesFrom
-  search-ends start e = ends-by (length ds - start) start e
+  search-ends start e = rw ends-by
 
   pub search-goes-on
       : (start : ℕ)
@@ -181,15 +179,15 @@ module _ (p : Profile) (ds : List ℕ) where
       ≡ entriesAt p ds (lockPlace p ds start) ++ entriesFrom p ds (nextStart p ds (lockPlace p ds start))
   unfolding entriesFrom
   search-goes-on start e =
-      let k = lockPlace p ds start in
-      let within = lock-is-ahead p ds start e in
-      let ahead = next-is-ahead start e in
+      let k = lockPlace p ds _ in
+      let within = lock-is-ahead p ds _ e in
+      let ahead = next-is-ahead _ e in
       let n = length ds - start - 1 in
       let some : length ds - start ≡ suc n = omega arith in
       ap (λ (m : ℕ). entriesBy p ds m start) some
-      ∙ goes-on-by n start e
+      ∙ goes-on-by n _ e
       ∙ ap (λ (rest : List Entry). entriesAt p ds k ++ rest)
-      (same-searches n (length ds - nextStart p ds k) (nextStart p ds k) (omega arith) (omega arith))
+      (same-searches n _ _ (omega arith) (omega arith))
 
 pub tracks-go-by-locks : TracksGoByLocks
 tracks-go-by-locks p ds = record { goes-on = search-goes-on p ds; ends = search-ends p ds }

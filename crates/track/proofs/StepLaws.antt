@@ -11,8 +11,7 @@ use Rattle.refusal.specs.Answer.{accepted}
 use Rattle.timing.specs.declared.Profile.{Profile}
 use Rattle.fields.specs.Lock.{findRule}
 use Rattle.track.specs.FieldKinds.{fieldOf, itemsOf, dataBytes}
-use Rattle.track.specs.Index.{hasLock, fieldEnd, hasData}
-use Rattle.track.specs.Index.{dataFrom, idByte, entryAt, entryEnd, nextStart}
+use Rattle.track.specs.Index.{hasLock, fieldEnd, hasData, dataFrom, idByte, entryAt, entryEnd, nextStart}
 use Rattle.track.specs.machine.Steps.{idRead, dataRead, sought, stepAt, stepFrom}
 use Rattle.track.specs.declared.DataField.the-variants.{Found, Missing}
 use Rattle.track.specs.declared.id.IdRead.the-variants.{Id, NoId}
@@ -42,9 +41,7 @@ module _ (p : Profile) (ds : List ℕ) where
       pub other-lock-no-data
           : NoField ≡ dataRead p (drop k ds) code → record { field = Missing; end = start } ≡ sought p ds start code
       unfolding dataFrom entryEnd hasData
-      other-lock-no-data e =
-          let (lock, place) = found-is-lock p ds start k found in
-          rw (lock, place, no-data-means p (drop k ds) code e)
+      other-lock-no-data e = let (lock, place) = found-is-lock p ds start k found in rw (lock, place, no-data-means)
 
       module _ (used : ℕ) (holds : Bool) (e : Field used holds ≡ dataRead p (drop k ds) code) where
         data-used : used ≡ fieldOf p (drop k ds) (dataBytes code) .used
@@ -72,14 +69,14 @@ module _ (p : Profile) (ds : List ℕ) where
   module _ (k : ℕ) where
     pub no-id-no-entry : NoId ≡ idRead p (drop k ds) → Other (k + 1) ≡ stepAt p ds k
     unfolding stepAt nextStart
-    no-id-no-entry e = rw (no-id-means p (drop k ds) e, add-one k)
+    no-id-no-entry e = rw (no-id-means, add-one)
 
     module _
         (track side sector code used : ℕ)
         (e : Id track side sector code used ≡ idRead p (drop k ds))
       where
         id-used : used ≡ fieldOf p (drop k ds) 10 .used
-        id-used = let same = id-means p (drop k ds) track side sector code used e .1 in cc
+        id-used = let same = id-means p _ _ _ _ _ _ e .1 in cc
 
         pub id-ends-within : k < length ds → k + used ≤ length ds
         unfolding fieldEnd
@@ -122,6 +119,4 @@ module _ (p : Profile) (ds : List ℕ) where
 
     pub found-is-looked-at : (k : ℕ) → accepted k ≡ findRule p ds start → stepAt p ds k ≡ stepFrom p ds start
     unfolding stepFrom
-    found-is-looked-at k e =
-        let (lock, place) = found-is-lock p ds start k e in
-        rw (lock, place)
+    found-is-looked-at k e = let (lock, place) = found-is-lock p ds _ k e in rw (lock, place)

@@ -10,7 +10,7 @@ use Rattle.ism.proofs.answer.Statement.{statement}
 use Rattle.ism.proofs.answer.Tie as tie
 
 returns : tie.Need-returns
-returns c = sym (ap (λ (x : Counted). answerOf (countedAnswer x)) (c .before .counted .given .1))
+returns c = sym (ap (λ x. answerOf (countedAnswer x)) (c .before .counted .given .1))
 
 returns-2 : tie.Need-returns-2
 returns-2 c =

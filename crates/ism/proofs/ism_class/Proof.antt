@@ -3,7 +3,6 @@
 use mathlib.Core.Path.{refl, sym, ap, ap₂, _∙_}
 use Rattle.timing.specs.Class.{classRule}
 use Rattle.timing.specs.declared.Profile.{Profile}
-use Rattle.clearance.specs.Clearance.{clearanceOf}
 use Rattle.ism.specs.Answers.{answerOf, withClearance}
 use Rattle.ism.specs.declared.IsmAnswer.{IsmAnswer}
 use Rattle.ism.proofs.ClearanceLaws.{refused-comes-without, class-accepts-profile}
@@ -12,24 +11,12 @@ use Rattle.ism.proofs.ism_class.Statement.{statement}
 use Rattle.ism.proofs.ism_class.Tie as tie
 
 returns : tie.Need-returns
-returns c =
-    let classed = c .before .before .before in
-    let interval = classed .before .before .args .interval in
-    refused-comes-without _
-    (c .before .before .answer .ensures
-    ∙ ap answerOf
-    (classed .class-number .ensures
-    ∙ ap (λ (q : Profile). classRule q interval) (classed .before .profile .ensures)))
-    (c .if1 .taken)
-    refl
+returns c = let classed = c .before .before .before in refused-comes-without _ (cc) (c .if1 .taken) refl
 
 of-interval-requires : tie.Need-of-interval-requires
 of-interval-requires c κs =
     let same = c .before .before .answer .ensures ∙ ap answerOf (c .before .before .before .class-number .ensures) in
     class-accepts-profile _ _ (sym (ap (λ (a : IsmAnswer). a .number) same) ∙ c .if1 .left)
-
-with-clearance-requires : tie.Need-with-clearance-requires
-with-clearance-requires c κs = c .before .if1 .left
 
 returns-2 : tie.Need-returns-2
 returns-2 c =
@@ -38,7 +25,7 @@ returns-2 c =
     let same = classed .before .profile .ensures in
     c .with-clearance .ensures
     ∙ ap₂ withClearance
-    (c .before .of-interval .ensures ∙ ap (λ (q : Profile). clearanceOf q interval) same)
+    (cc)
     (c .before .before .before .before .answer .ensures
     ∙ ap answerOf (classed .class-number .ensures ∙ ap (λ (q : Profile). classRule q interval) same))
 
@@ -46,4 +33,4 @@ pub ism-class-spec : {M : Type 1} → statement M
 ism-class-spec =
     tie.close
     (tie.spec (λ c κs. search needs) (λ c κs. search needs) (λ c κs. search needs) returns of-interval-requires
-    with-clearance-requires returns-2)
+    (λ c κs. c .before .if1 .left) returns-2)

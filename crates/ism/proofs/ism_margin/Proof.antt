@@ -1,7 +1,6 @@
 -- Why `ism::ism_margin` answers as the library does: it hands the arguments over and the answer back. Rests on no
 -- axiom.
 use mathlib.Core.Path.{ap, _∙_}
-use Rattle.timing.specs.declared.Profile.{Profile}
 use Rattle.lengths.specs.Margin.{marginRule}
 use Rattle.ism.specs.Answers.{answerOf}
 use borrow.Author.Needs.{needs}
@@ -12,7 +11,7 @@ returns : tie.Need-returns
 returns c =
     c .answer .ensures
     ∙ ap answerOf (c .before .margin .ensures)
-    ∙ ap (λ (q : Profile). answerOf (marginRule q)) (c .before .before .profile .ensures)
+    ∙ ap (λ q. answerOf (marginRule q)) (c .before .before .profile .ensures)
 
 pub ism-margin-spec : {M : Type 1} → statement M
 ism-margin-spec = tie.close (tie.spec (λ c κs. search needs) (λ c κs. search needs) (λ c κs. search needs) returns)

@@ -4,7 +4,6 @@ use mathlib.Core.Path.{refl, sym, ap, ap₂, _∙_}
 use denote.Ref.{now}
 use lib.ListN.{length}
 use Rattle.timing.specs.declared.Profile.{Profile}
-use Rattle.clearance.specs.Clearance.{leastClearance}
 use Rattle.codec.specs.Reader.{readRule, readOutput}
 use Rattle.ism.specs.Answers.{answerOf, withClearance}
 use Rattle.ism.specs.declared.IsmAnswer.{IsmAnswer}
@@ -18,25 +17,13 @@ returns c =
     let read = c .before .before .before .before .before in
     let profiled = read .before .before in
     let start = profiled .before .before .before .args in
-    let same = profiled .profile .ensures in (
-      refused-comes-without _
-          (c .before .before .answer .ensures
-          ∙ ap answerOf
-          (read .read .ensures .0
-          ∙ ap (λ (q : Profile). readRule q (now (start .intervals)) (length (now (start .out)))) same))
-          (c .if1 .taken)
-          refl,
-      read .read .ensures .1 ∙ ap (λ (q : Profile). readOutput q (now (start .intervals)) (now (start .out))) same,
-    )
+    let same = profiled .profile .ensures in (refused-comes-without _ (cc) (c .if1 .taken) refl, cc)
 
 least-requires : tie.Need-least-requires
 least-requires c κs =
     let read = c .before .before .before .before .before .read in
     let same = c .before .before .answer .ensures ∙ ap answerOf (read .ensures .0) in
     strip-accepts-profile _ _ _ (sym (ap (λ (a : IsmAnswer). a .number) same) ∙ c .if1 .left)
-
-with-clearance-requires : tie.Need-with-clearance-requires
-with-clearance-requires c κs = c .before .if1 .left
 
 returns-2 : tie.Need-returns-2
 returns-2 c =
@@ -47,7 +34,7 @@ returns-2 c =
     let same = profiled .profile .ensures in (
       c .with-clearance .ensures
           ∙ ap₂ withClearance
-          (c .before .least .ensures ∙ ap (λ (q : Profile). leastClearance q (now (start .intervals))) same)
+          (cc)
           (answered .answer .ensures
           ∙ ap answerOf
           (read .read .ensures .0
@@ -59,4 +46,4 @@ pub ism-read-spec : {M : Type 1} → statement M
 ism-read-spec =
     tie.close
     (tie.spec (λ c κs. search needs) (λ c κs. search needs) (λ c κs. search needs) (λ c. search needs) returns
-    least-requires with-clearance-requires (λ c. search needs) returns-2)
+    least-requires (λ c κs. c .before .if1 .left) (λ c. search needs) returns-2)

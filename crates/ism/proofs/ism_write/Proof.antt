@@ -1,10 +1,8 @@
 -- Why `ism::ism_write` answers as the library does: it hands the arguments over and the answer back. Rests on no axiom.
 use mathlib.Core.Path.{ap, _∙_}
 use denote.Ref.{now}
-use lib.ListN.{length}
 use Rattle.timing.specs.declared.Profile.{Profile}
-use Rattle.codec.specs.Writer.{writeRule, writeOutput}
-use Rattle.ism.specs.Answers.{answerOf}
+use Rattle.codec.specs.Writer.{writeOutput}
 use borrow.Author.Needs.{needs}
 use Rattle.ism.proofs.ism_write.Statement.{statement}
 use Rattle.ism.proofs.ism_write.Tie as tie
@@ -14,12 +12,11 @@ returns c =
     let start = c .before .before .before .before .before .before .before .before .args in
     let wrote = c .before .before .before .write .ensures in
     let same = c .before .before .before .before .before .profile .ensures in (
-      c .answer .ensures
-          ∙ ap answerOf
-          (wrote .0 ∙ ap (λ (q : Profile). writeRule q (now (start .items)) (length (now (start .out)))) same),
+      cc,
       wrote .1 ∙ ap (λ (q : Profile). writeOutput q (now (start .items)) (now (start .out))) same,
     )
 
 pub ism-write-spec : {M : Type 1} → statement M
 ism-write-spec =
-    tie.close (tie.spec (λ c κs. search needs) (λ c κs. search needs) (λ c κs. search needs) (λ c. search needs) returns)
+    tie.close
+    (tie.spec (λ c κs. search needs) (λ c κs. search needs) (λ c κs. search needs) (λ c. search needs) returns)

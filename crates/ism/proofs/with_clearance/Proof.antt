@@ -4,7 +4,7 @@ use Rattle.ism.proofs.with_clearance.Statement.{statement}
 use Rattle.ism.proofs.with_clearance.Tie as tie
 
 returns : tie.Need-returns
-returns c = accepted-comes-with (c .args .given) (c .args .clearance) (c .pre)
+returns c = accepted-comes-with (c .args .given) _ (c .pre)
 
 pub with-clearance-spec : {M : Type 1} → statement M
 with-clearance-spec = tie.close (tie.spec returns)

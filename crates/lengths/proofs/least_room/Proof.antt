@@ -7,9 +7,6 @@ use Rattle.lengths.specs.Margin.{marginOf}
 use Rattle.lengths.proofs.least_room.Statement.{statement}
 use Rattle.lengths.proofs.least_room.Tie as tie
 
-swing-requires : tie.Need-swing-requires
-swing-requires c κs = kept _ (c .pre) .ranges
-
 add-three : tie.Need-add-three
 add-three c = let k = kept _ (c .before .before .pre) in omega arith
 
@@ -44,5 +41,6 @@ returns c =
 pub least-room-spec : {M : Type 1} → statement M
 least-room-spec =
     tie.close
-    (tie.spec swing-requires add-three mul-four add-four (λ c κs. search needs) (λ c κs. search needs) add-room-in
-    (λ c κs. search needs) add-room-in-2 (λ c κs. search needs) (λ c κs. search needs) (λ c κs. search needs) returns)
+    (tie.spec (λ c κs. kept _ (c .pre) .ranges) add-three mul-four add-four (λ c κs. search needs)
+    (λ c κs. search needs) add-room-in (λ c κs. search needs) add-room-in-2 (λ c κs. search needs)
+    (λ c κs. search needs) (λ c κs. search needs) returns)

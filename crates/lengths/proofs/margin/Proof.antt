@@ -1,7 +1,5 @@
 -- Why `lengths::margin` answers `marginRule`: a refusal of the profile decides, and an acceptance leaves the least
 -- room. Rests on no axiom.
-use mathlib.Core.Path.{ap, sym, _∙_}
-use Rattle.refusal.specs.Answer.{Answer, accepted, verdictAnswer}
 use Rattle.refusal.proofs.AnswerLaws.{verdict-refuses, verdict-passes}
 use Rattle.lengths.specs.Margin.{marginRule}
 use borrow.Author.Needs.{needs}
@@ -9,19 +7,15 @@ use Rattle.lengths.proofs.margin.Statement.{statement}
 use Rattle.lengths.proofs.margin.Tie as tie
 
 least-room-requires : tie.Need-least-room-requires
-least-room-requires c κs =
-    ap (λ (a : Answer). a .number) (sym (c .before .before .check .ensures) ∙ ap verdictAnswer (c .enum-told .given .1))
+least-room-requires c κs = rw (← c .before .before .check .ensures, c .enum-told .given .1)
 
 returns : tie.Need-returns
 unfolding marginRule
-returns c =
-    verdict-refuses _ _ _ _ (c .before .before .before .check .ensures) (c .before .refusal .given .1)
+returns c = verdict-refuses _ _ _ _ (c .before .before .before .check .ensures) (c .before .refusal .given .1)
 
 returns-2 : tie.Need-returns-2
 unfolding marginRule
-returns-2 c =
-    ap accepted (c .least-room .ensures)
-    ∙ verdict-passes _ _ _ (c .before .before .before .check .ensures) (c .before .enum-told .given .1)
+returns-2 c = cc (verdict-passes _ _ _ (c .before .before .before .check .ensures) (c .before .enum-told .given .1))
 
 pub margin-spec : {M : Type 1} → statement M
 margin-spec =

@@ -4,10 +4,8 @@ use borrow.Author.Needs.{needs}
 use Rattle.lengths.proofs.room_in.Statement.{statement}
 use Rattle.lengths.proofs.room_in.Tie as tie
 
-returns : tie.Need-returns
-returns c =
-    let above = c .before in
-    rw (c .least .ensures, above .before .before .room .ensures, above .room3 .ensures, above .before .room2 .ensures)
-
 pub room-in-spec : {M : Type 1} → statement M
-room-in-spec = tie.close (tie.spec (λ c κs. search needs) (λ c κs. search needs) (λ c κs. search needs) (λ c κs. search needs) returns)
+room-in-spec =
+    tie.close
+    (tie.spec (λ c κs. search needs) (λ c κs. search needs) (λ c κs. search needs) (λ c κs. search needs)
+    (λ c. search needs))

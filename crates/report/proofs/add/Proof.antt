@@ -1,5 +1,4 @@
 -- Why `add` answers `added`: the rows are added where the sum is accepted. Rests on no axiom.
-use mathlib.Core.Path.{_∙_}
 use Rattle.refusal.proofs.AnswerLaws.{verdict-accepts}
 use Rattle.report.specs.Report.{added}
 use Rattle.report.proofs.RefusalLaws.{refused-gives-zeros, accepted-gives-report}
@@ -12,15 +11,13 @@ add-rows-requires c κs = verdict-accepts _ _ (c .before .before .check-sum .ens
 
 returns : tie.Need-returns
 unfolding added
-returns c =
-    refused-gives-zeros _ _ _ (c .before .before .check-sum .ensures) _ (c .enum-told .given .1)
+returns c = refused-gives-zeros _ _ _ (c .before .before .check-sum .ensures) _ (c .enum-told .given .1)
 
 returns-2 : tie.Need-returns-2
 unfolding added
 returns-2 c =
     let told = c .before in
-    c .add-rows .ensures
-    ∙ accepted-gives-report _ _ _ (told .before .before .check-sum .ensures) (told .enum-told2 .given .1)
+    cc (accepted-gives-report _ _ _ (told .before .before .check-sum .ensures) (told .enum-told2 .given .1))
 
 pub add-spec : {M : Type 1} → statement M
 add-spec =

@@ -1,12 +1,11 @@
 -- Why `add_rows` answers `addReports`: each turn puts the sum of two rows in its place. Rests on no axiom.
 use Prim.Native.Nat.{_-_, _≤_}
-use mathlib.Core.Path.{_≡_, refl, ap₂, _∙_}
+use mathlib.Core.Path.{_≡_, refl}
 use mathlib.Core.List.{_++_}
 use native.Mathlib.Omega.{arith}
-use lib.ListN.{set, take, drop}
+use lib.ListN.{take, drop}
 use borrow.Author.Needs.{needs}
-use Rattle.report.specs.Row.{Row}
-use Rattle.report.specs.Report.{Report, addReports, noReport}
+use Rattle.report.specs.Report.{addReports, noReport}
 use Rattle.report.proofs.SumLaws.{row-of-sum-fits, next-row, rows-at-end}
 use Rattle.report.proofs.add_rows.Statement.{statement}
 use Rattle.report.proofs.add_rows.Tie as tie
@@ -17,32 +16,16 @@ Inv-loop a b rows₀ k₀ rows k = (k ≤ 5) × (rows ≡ take k (addReports a b
 abbrev μ-loop : tie.MeasureT-loop
 μ-loop a b rows₀ k₀ rows k = 5 - k
 
-loop-holds : tie.Need-loop-holds Inv-loop μ-loop
-loop-holds c = (search needs, refl)
-
 add-requires : tie.Need-add-requires Inv-loop μ-loop
 add-requires c κs =
-    let turn = c .before .before in
-    row-of-sum-fits _ _ _ (turn .loop-test .taken) (turn .before .before .pre)
+    let turn = c .before .before in row-of-sum-fits _ _ _ (turn .loop-test .taken) (turn .before .before .pre)
 
 loop-again : tie.Need-loop-again Inv-loop μ-loop
-loop-again c =
-    let turn = c .before .before .before in (
-      search needs,
-      ap₂
-          (λ (rows : Report) (row : Row). set rows (turn .before .loop .k) row)
-          (turn .before .loop .inv .1)
-          (c .add .ensures)
-          ∙ next-row _ _ _ (turn .loop-test .taken),
-    )
-
-returns : tie.Need-returns Inv-loop μ-loop
-returns c =
-    c .before .loop .inv .1 ∙ rows-at-end _ _ (c .before .loop .k) (omega arith)
+loop-again c = (search needs, cc (c .add .ensures, next-row _ _ _ (c .before .before .before .loop-test .taken)))
 
 pub add-rows-spec : {M : Type 1} → statement M
 add-rows-spec =
     tie.close
-    (tie.spec Inv-loop μ-loop loop-holds (λ c. search needs) (λ c. search needs) (λ c. search needs)
+    (tie.spec Inv-loop μ-loop (λ c. (search needs, refl)) (λ c. search needs) (λ c. search needs) (λ c. search needs)
     (λ c. search needs) add-requires (λ c. search needs) (λ c. search needs) (λ c. search needs) (λ c. search needs)
-    loop-again returns)
+    loop-again (λ c. cc (rows-at-end _ _ (c .before .loop .k) (omega arith))))

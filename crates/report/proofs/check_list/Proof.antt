@@ -17,8 +17,7 @@ returns c =
 
 returns-2 : tie.Need-returns-2
 unfolding reportRule
-returns-2 c =
-    verdict-refuses _ _ _ _ (c .before .before .before .check .ensures) (c .before .refusal .given .1)
+returns-2 c = verdict-refuses _ _ _ _ (c .before .before .before .check .ensures) (c .before .refusal .given .1)
 
 returns-3 : tie.Need-returns-3
 unfolding reportRule

@@ -18,9 +18,6 @@ Inv-loop a b k₀ k =
 abbrev μ-loop : tie.MeasureT-loop
 μ-loop a b k₀ k = 5 - k
 
-loop-holds : tie.Need-loop-holds Inv-loop μ-loop
-loop-holds c = (search needs, refl)
-
 returns : tie.Need-returns Inv-loop μ-loop
 unfolding addRule
 returns c =
@@ -30,19 +27,15 @@ returns c =
 
 loop-again : tie.Need-loop-again Inv-loop μ-loop
 loop-again c =
-    let turn = c .before .before .before .before in (
-      search needs,
-      fits-here _ _ _ (turn .loop-test .taken) (sym (c .before .overflows .ensures) ∙ c .if1 .left)
-          ∙ turn .before .loop .inv .1,
-    )
+    let turn = c .before .before .before .before in
+    (search needs, fits-here _ _ _ (turn .loop-test .taken) (cc) ∙ turn .before .loop .inv .1)
 
 returns-2 : tie.Need-returns-2 Inv-loop μ-loop
 unfolding addRule
-returns-2 c =
-    rw (sym (c .before .loop .inv .1) ∙ fits-at-end _ _ _ (c .loop-test .left))
+returns-2 c = rw (sym (c .before .loop .inv .1) ∙ fits-at-end _ _ _ (c .loop-test .left))
 
 pub check-sum-spec : {M : Type 1} → statement M
 check-sum-spec =
     tie.close
-    (tie.spec Inv-loop μ-loop loop-holds (λ c. search needs) (λ c. search needs) (λ c. search needs)
+    (tie.spec Inv-loop μ-loop (λ c. (search needs, refl)) (λ c. search needs) (λ c. search needs) (λ c. search needs)
     (λ c. search needs) (λ c κs. search needs) returns (λ c. search needs) (λ c. search needs) loop-again returns-2)

@@ -7,26 +7,17 @@ use Rattle.sectors.proofs.SectorLaws.{opening-stored}
 use Rattle.sectors.proofs.open_field.Statement.{statement}
 use Rattle.sectors.proofs.open_field.Tie as tie
 
-same-length : tie.Need-same-length
-same-length c = simp length-set (omega arith)
-
 returns : tie.Need-returns
 returns c =
     let args = c .before .before .before .before .before .before .before .before .before .args in (
       omega arith,
       cc
-          (opening-stored
-          (args .out .now)
-          (args .at)
-          (c .before .before .before .before .before .before .repeat .result)
-          (c .before .before .repeat2 .result)
-          (args .kind)
-          (omega arith)
-          (omega arith)),
+          (opening-stored (args .out .now) (args .at) (c .before .before .before .before .before .before .repeat .result)
+          (c .before .before .repeat2 .result) (args .kind) (omega arith) (omega arith)),
     )
 
 pub open-field-spec : {M : Type 1} → statement M
 open-field-spec =
     tie.close
-    (tie.spec (λ c κs. search needs) (λ c κs. search needs) (λ c. search needs) (λ c. search needs)
-    (λ c. search needs) same-length returns)
+    (tie.spec (λ c κs. search needs) (λ c κs. search needs) (λ c. search needs) (λ c. search needs) (λ c. search needs)
+    (λ c. simp length-set (omega arith)) returns)

@@ -1,10 +1,9 @@
 -- Why `sectors::put_data` stores the bytes and the check order: after k turns it has stored the first k bytes. Rests on
 -- no axiom.
 use Prim.Native.Nat.{ℕ, _+_, _-_, _≤_}
-use mathlib.Core.Path.{_≡_, refl, sym, ap, _∙_}
-use mathlib.Core.List.{List}
+use mathlib.Core.Path.{_≡_, refl, sym, ap}
 use native.Mathlib.Omega.{arith}
-use lib.ListN.{length, set, take, length-set}
+use lib.ListN.{length, take, length-set}
 use lib.Seq.{take-length}
 use Rattle.lists.specs.Filled.{storedAt}
 use Rattle.lists.proofs.StoreLaws.{stored-none, stored-copies, stored-one-more}
@@ -18,9 +17,6 @@ Inv-loop out₀ at bytes k₀ out k =
 abbrev μ-loop : tie.MeasureT-loop
 μ-loop out₀ at bytes k₀ out k = length bytes - k
 
-loop-holds : tie.Need-loop-holds Inv-loop μ-loop
-loop-holds c = (omega arith, sym (stored-none _ _), refl)
-
 cast-out : tie.Need-cast-out Inv-loop μ-loop
 cast-out c = omega (arith, c .shared-slice-known .given (c .before .before .loop .k))
 
@@ -32,25 +28,20 @@ loop-again c =
       simp length-set (c .before .before .loop .inv .2),
     )
 
-same-length : tie.Need-same-length Inv-loop μ-loop
-same-length c = simp length-set (c .before .loop .inv .2)
-
 returns : tie.Need-returns Inv-loop μ-loop
 returns c =
     let args = c .before .before .args in
     let all : c .before .loop .k ≡ length (args .bytes .now) = omega arith in
     let stored : c .before .loop .out ≡ storedAt (args .out .now) (args .at) (args .bytes .now) =
-    c .before .loop .inv .1
-    ∙ ap (λ (k : ℕ). storedAt (args .out .now) (args .at) (take k (args .bytes .now))) all
-    ∙ ap (λ (r : List ℕ). storedAt (args .out .now) (args .at) r) (take-length (args .bytes .now)) in (
-      ap (λ (k : ℕ). args .at + k + 1) all,
-      ap (λ (l : List ℕ). set l (args .at + c .before .loop .k) 512) stored
-          ∙ stored-one-more (args .bytes .now) (args .out .now) (args .at) _ 512 (ap (λ (k : ℕ). args .at + k) all),
+    cc (take-length (args .bytes .now)) in (
+      cc all,
+      cc (stored-one-more (args .bytes .now) (args .out .now) (args .at) _ 512 (ap (λ (k : ℕ). args .at + k) all)),
     )
 
 pub put-data-spec : {M : Type 1} → statement M
 put-data-spec =
     tie.close
-    (tie.spec Inv-loop μ-loop loop-holds (λ c. omega arith) cast-out (λ c. omega arith) (λ c. omega arith)
-    (λ c. omega arith) (λ c. omega arith) (λ c. omega arith) loop-again (λ c. omega arith) (λ c. omega arith)
-    (λ c. omega arith) (λ c. omega arith) (λ c. omega arith) same-length returns)
+    (tie.spec Inv-loop μ-loop (λ c. (omega arith, sym (stored-none _ _), refl)) (λ c. omega arith) cast-out
+    (λ c. omega arith) (λ c. omega arith) (λ c. omega arith) (λ c. omega arith) (λ c. omega arith) loop-again
+    (λ c. omega arith) (λ c. omega arith) (λ c. omega arith) (λ c. omega arith) (λ c. omega arith)
+    (λ c. simp length-set (c .before .loop .inv .2)) returns)

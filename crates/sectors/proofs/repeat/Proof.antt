@@ -15,9 +15,6 @@ Inv-loop out₀ at count item k₀ out k =
 abbrev μ-loop : tie.MeasureT-loop
 μ-loop out₀ at count item k₀ out k = count - k
 
-loop-holds : tie.Need-loop-holds Inv-loop μ-loop
-loop-holds c = (omega arith, sym (stored-none _ _), refl)
-
 loop-again : tie.Need-loop-again Inv-loop μ-loop
 loop-again c = (
   omega arith,
@@ -30,9 +27,6 @@ loop-again c = (
   simp length-set (c .before .loop .inv .2),
 )
 
-same-length : tie.Need-same-length Inv-loop μ-loop
-same-length c = c .before .loop .inv .2
-
 returns : tie.Need-returns Inv-loop μ-loop
 returns c =
     let all : c .before .loop .k ≡ c .before .before .args .count = omega arith in
@@ -41,5 +35,6 @@ returns c =
 pub repeat-spec : {M : Type 1} → statement M
 repeat-spec =
     tie.close
-    (tie.spec Inv-loop μ-loop loop-holds (λ c. omega arith) (λ c. omega arith) (λ c. omega arith) (λ c. omega arith)
-    (λ c. omega arith) loop-again (λ c. omega arith) same-length returns)
+    (tie.spec Inv-loop μ-loop (λ c. (omega arith, sym (stored-none _ _), refl)) (λ c. omega arith) (λ c. omega arith)
+    (λ c. omega arith) (λ c. omega arith) (λ c. omega arith) loop-again (λ c. omega arith)
+    (λ c. c .before .loop .inv .2) returns)

@@ -20,8 +20,7 @@ returns-3 c = rw (c .match .keys3)
 returns-4 : tie.Need-returns-4
 unfolding sectorSize
 returns-4 c =
-    let rest = c .match .rest in
-    rw (ne-eqb _ 0 (rest .0 .0 .1), ne-eqb _ 1 (rest .0 .1), ne-eqb _ 2 (rest .1))
+    let rest = c .match .rest in rw (ne-eqb _ 0 (rest .0 .0 .1), ne-eqb _ 1 (rest .0 .1), ne-eqb _ 2 (rest .1))
 
 pub sector-size-spec : {M : Type 1} → statement M
 sector-size-spec = tie.close (tie.spec returns returns-2 returns-3 returns-4)

@@ -38,26 +38,19 @@ the-stream : (c : tie.After-cells)
     ≡ streamOf (args .profile) (args .items .now)
 the-stream c =
     let start = c .before .before .before .before .before .before .before in
-    ap (take (c .cells .given .0 .0)) (c .before .before .before .write .ensures .1)
-    ∙ stream-written (start .args .profile) (start .args .items .now) (start .pre .1 .0) _ (count c) _ refl
-
-array-share-prefix-stream : tie.Need-array-share-prefix-stream
-array-share-prefix-stream c = omega (arith, few (c .before), c .before .before .before .before .write .kept .1 .1 .0)
+    rw (c .before .before .before .write .ensures .1)
+    (stream-written (start .args .profile) (start .args .items .now) (start .pre .1 .0) _ (count c) _ refl)
 
 slice-aggregate-report : tie.Need-slice-aggregate-report
 slice-aggregate-report c =
-    let given = c .before .before in
-    sym
-    (length-take-le (given .cells .given .0 .0) _
-    (omega (arith, few given, given .before .before .before .write .kept .1 .1 .0)))
+    let given = c .before .before in sym (length-take-le (given .cells .given .0 .0) _ (omega (arith, few given)))
 
 report-requires : tie.Need-report-requires
 report-requires c κs =
     let given = c .before .before .before in
     let start = given .before .before .before .before .before .before .before in
     let written = given .before .before .before .write in
-    let within : given .cells .given .0 .0 ≤ length (written .last .1 .1 .0) =
-    omega (arith, few given, written .kept .1 .1 .0) in (
+    let within : given .cells .given .0 .0 ≤ length (written .last .1 .1 .0) = omega (arith, few given) in (
       omega (arith, few given, length-take-le (given .cells .given .0 .0) (written .last .1 .1 .0) within),
       start .pre .1 .1,
     )
@@ -65,28 +58,23 @@ report-requires c κs =
 returns : tie.Need-returns
 returns c =
     let refusal = c .before .before .before .before .before in
-    let written = refusal .before .before .before in
-    let start = written .before .before .before .before in
-    let rule = sym (ap countedAnswer (refusal .refusal .given .1)) ∙ answer written in
-    rw (refused-script-text (start .args .profile) (start .args .items .now) (refusal .refusal .given .0 .0) rule)
-    (c .before .before .refuse .ensures)
+    let rule = sym (ap countedAnswer (refusal .refusal .given .1)) ∙ answer (refusal .before .before .before) in
+    rw (refused-script-text _ _ (refusal .refusal .given .0 .0) rule) (c .before .before .refuse .ensures)
 
 returns-2 : tie.Need-returns-2
 returns-2 c =
     let given = c .before .before .before .before .before .before in
     let start = given .before .before .before .before .before .before .before in
-    let report = c .before .before .report .ensures in
     rw (
       accepted-script-text (start .args .profile) (start .args .items .now)
           (sym (ap (λ (a : Answer). a .number) (count given))),
       ← the-stream given,
       ← start .pre .0 .1,
-    )
-    report
+    ) (c .before .before .report .ensures)
 
 pub print-list-spec : {M : Type 1} → statement M
 print-list-spec =
     tie.close
-    (tie.spec (λ c. search needs) (λ c κs. search needs) (λ c. search needs) (λ c κs. search needs)
-    (λ c. search needs) array-share-prefix-stream slice-aggregate-report report-requires (λ c. search needs) returns
+    (tie.spec (λ c. search needs) (λ c κs. search needs) (λ c. search needs) (λ c κs. search needs) (λ c. search needs)
+    (λ c. omega (arith, few (c .before))) slice-aggregate-report report-requires (λ c. search needs) returns
     (λ c. search needs) returns-2)

@@ -30,10 +30,9 @@ returns c =
 
 print-list-requires : tie.Need-print-list-requires
 print-list-requires c κs =
-    let counted = c .before .before in
-    let given = counted .before .before in
+    let given = c .before .before .before .before in
     let start = given .before .before .before .before .before in
-    (true-profile given, (omega (arith, counted .written-bytes .ensures, c .before .if1 .left), start .pre))
+    (true-profile given, (omega (arith, c .before .if1 .left), start .pre))
 
 returns-2 : tie.Need-returns-2
 returns-2 c =
@@ -42,12 +41,10 @@ returns-2 c =
     let args = margin .before .before .before .args in
     let r = refusal .refusal .given .0 .0 in
     let rule =
-    margin-refused (args .profile) r
-    (sym (ap countedAnswer (refusal .refusal .given .1)) ∙ margin .margin .ensures) in
+    margin-refused (args .profile) r (sym (ap countedAnswer (refusal .refusal .given .1)) ∙ margin .margin .ensures) in
     rw
     (refused-script-text (args .profile) (args .items .now) r
-    (profile-refuses-script (args .profile) (args .items .now) r rule))
-    (c .before .before .refuse .ensures)
+    (profile-refuses-script (args .profile) (args .items .now) r rule)) (c .before .before .refuse .ensures)
 
 pub print-script-spec : {M : Type 1} → statement M
 print-script-spec =

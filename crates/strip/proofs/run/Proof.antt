@@ -1,8 +1,7 @@
 -- Why `strip::run` prints the program's text: what the input is garbled with comes first, and a list longer than its
 -- first 513 items is refused for them alone. Rests on no axiom.
-use Prim.Native.Nat.{ℕ, _≤_}
-use mathlib.Core.Path.{_≡_, sym, _∙_, ap, subst}
-use mathlib.Core.List.{List}
+use Prim.Native.Nat.{_≤_}
+use mathlib.Core.Path.{_≡_, sym, _∙_, ap}
 use lib.ListN.{length, take}
 use lib.Seq.{length-take-le}
 use Rattle.timing.specs.declared.Profile.{Profile}
@@ -10,7 +9,6 @@ use Rattle.script.specs.Input.{itemsIn, profileIn}
 use Rattle.script.specs.Read.{scriptAnswer}
 use Rattle.script.proofs.ScriptLaws.{items-fit, items-stand-in-front}
 use Rattle.strip.specs.Program.{scriptText}
-use Rattle.strip.specs.Printed.{Printed}
 use Rattle.strip.proofs.OutputLaws.{printed-is-front}
 use Rattle.strip.proofs.ProgramLaws.{first-items-decide, garbled-input-text, read-input-text}
 use borrow.Author.Needs.{needs}
@@ -26,14 +24,9 @@ front : (c : tie.After-profile)
     ≡ take 513 (itemsIn (c .before .before .before .before .before .before .args .input .now))
 front c = items-stand-in-front _ _ _ _ _ _ (c .before .before .before .read .ensures) (c .profile .given .1)
 
-array-share-prefix-items : tie.Need-array-share-prefix-items
-array-share-prefix-items c = fits (c .before)
-
 slice-aggregate-print-script : tie.Need-slice-aggregate-print-script
 slice-aggregate-print-script c =
-    let given = c .before .before in
-    sym
-    (length-take-le (given .profile .given .0 .1 .0) (given .before .before .before .read .last .1 .0) (fits given))
+    let given = c .before .before in sym (length-take-le (given .profile .given .0 .1 .0) _ (fits given))
 
 returns : tie.Need-returns
 returns c =
@@ -41,36 +34,25 @@ returns c =
     let read = refusal .before .before .before in
     let text = read .before .before .before .args .input .now in
     let rule = sym (ap scriptAnswer (refusal .refusal .given .1)) ∙ read .read .ensures .answer in
-    let start = read .before .before .before in
-    let same = sym (garbled-input-text text (refusal .refusal .given .0 .0) _ rule) in (
-      subst (λ (t : List ℕ). Printed t (c .refuse .result) (start .args .out .now) (c .refuse .last .1 .0)) same
-          (c .refuse .ensures),
-      printed-is-front _ _ _ _ (c .refuse .ensures),
-    )
+    let same = sym (garbled-input-text text (refusal .refusal .given .0 .0) _ rule) in
+    (rw (← same) (c .refuse .ensures), printed-is-front _ _ _ _ (c .refuse .ensures))
 
 returns-2 : tie.Need-returns-2
 returns-2 c =
     let given = c .before .before .before .before in
     let read = given .before .before .before in
     let text = read .before .before .before .args .input .now in
-    let p = given .profile .given .0 .0 in
     let rule = sym (ap scriptAnswer (given .profile .given .1)) ∙ read .read .ensures .answer in
     let own = read .read .ensures .profile _ _ (given .profile .given .1) in
     let same =
-    ap (scriptText p) (front given)
+    ap (scriptText (given .profile .given .0 .0)) (front given)
     ∙ ap (λ (q : Profile). scriptText q (take 513 (itemsIn text))) own
     ∙ first-items-decide (profileIn text) (itemsIn text)
     ∙ sym (read-input-text text _ _ rule) in
-    let start = read .before .before .before in
-    let after = c .print-script .last .1 .1 .0 in (
-      subst (λ (t : List ℕ). Printed t (c .print-script .result) (start .args .out .now) after) same
-          (c .print-script .ensures),
-      printed-is-front _ _ _ _ (c .print-script .ensures),
-    )
+    (rw (← same) (c .print-script .ensures), printed-is-front _ _ _ _ (c .print-script .ensures))
 
 pub run-spec : {M : Type 1} → statement M
 run-spec =
     tie.close
-    (tie.spec (λ c. search needs) (λ c κs. search needs) (λ c. search needs) (λ c κs. search needs)
-    (λ c. search needs) array-share-prefix-items slice-aggregate-print-script (λ c κs. search needs) returns
-    returns-2)
+    (tie.spec (λ c. search needs) (λ c κs. search needs) (λ c. search needs) (λ c κs. search needs) (λ c. search needs)
+    (λ c. fits (c .before)) slice-aggregate-print-script (λ c κs. search needs) returns returns-2)

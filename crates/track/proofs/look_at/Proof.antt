@@ -16,7 +16,7 @@ read
     c .read-id .result ≡ idRead (args .p) (drop (args .k) (args .intervals .now))
 read c =
     let args = c .before .before .before .args in
-    c .read-id .ensures ∙ ap (idRead (args .p)) (part-to-end (args .intervals .now) (args .k))
+    c .read-id .ensures ∙ ap (idRead _) (part-to-end (args .intervals .now) (args .k))
 
 add-find-data : tie.Need-add-find-data
 add-find-data c =

@@ -25,7 +25,6 @@ module _ (start : Pen) (word : ℕ) (room : Room start 1) (small : word < 65536)
 
   pending : Pending all
   pending =
-      let since = room .0 in
       let near = room .1 in
       let high : 16 ≤ start .since + 15 = omega arith in
       record { below = lt-of-lt-of-le small (pow-mono high); small = small; near = omega arith }
@@ -41,7 +40,6 @@ module _ (start : Pen) (word : ℕ) (room : Room start 1) (small : word < 65536)
   behind-first-one : start .cells ≤ 0 → (place : ℕ) → Highest word place → Begun start word (behind all place)
   behind-first-one first place high =
       let step = steps all place pending high in
-      let fewer = step .fewer in
       record {
         pending = step .pending;
         behind-first = omega arith;
@@ -53,10 +51,7 @@ module _ (start : Pen) (word : ℕ) (room : Room start 1) (small : word < 65536)
       }
 
 returns : tie.Need-returns
-returns c =
-    let entry = c .before .before .before in
-    let small = entry .fits .word .fits in
-    with-all _ _ (entry .pre) small (omega arith)
+returns c = let entry = c .before .before .before in with-all _ _ (entry .pre) (entry .fits .word .fits) (omega arith)
 
 highest-one-requires : tie.Need-highest-one-requires
 highest-one-requires c κs = (c .if2 .taken, c .before .before .before .before .fits .word .fits)
@@ -82,8 +77,7 @@ returns-2 c =
 
 returns-3 : tie.Need-returns-3
 returns-3 c =
-    let entry = c .before .before .before .before in
-    with-all _ _ (entry .pre) (entry .fits .word .fits) (omega arith)
+    let entry = c .before .before .before .before in with-all _ _ (entry .pre) (entry .fits .word .fits) (omega arith)
 
 pub begin-word-spec : {M : Type 1} → statement M
 begin-word-spec =

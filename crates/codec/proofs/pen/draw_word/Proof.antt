@@ -2,7 +2,7 @@
 -- stores where it has a place, since all that is to come has. Rests on no axiom.
 use Prim.Native.Nat.{ℕ, zero, suc, _+_, _-_, _*_, _≤_, _<_}
 use native.Mathlib.Omega.{arith}
-use mathlib.Core.Path.{_≡_, refl, ap, _∙_}
+use mathlib.Core.Path.{_≡_, refl, ap}
 use mathlib.Core.List.{List}
 use lib.ListN.{length, getD, set, length-set}
 use Rattle.codec.specs.machine.Pen.{storedBefore, restDrawn, Fits, Pending, Highest, behind}
@@ -53,14 +53,13 @@ module _ {table out₀ : List ℕ} {rest₀ : Rest} {out : List ℕ} {rest : Res
 
     turn : Going table out₀ rest₀ (set out (rest .cells - 1) length-before) next
     turn =
-        let small = step .pending .small in
         let stores = stored out (rest .cells) length-before (has-first positive) in
         record {
           pending = step .pending;
           behind-first = omega arith;
           fits = rw stores next-fits;
-          same-length = length-set out _ _ ∙ g .same-length;
-          whole = ap (λ (o : List ℕ). restDrawn table o next) stores ∙ step .same table out ∙ g .whole;
+          same-length = cc (length-set out _ _);
+          whole = cc (step .same table out);
         }
 
 abbrev Inv-loop : tie.InvT-loop
@@ -69,17 +68,13 @@ Inv-loop table word out₀ rest₀ out rest = Going table out₀ rest₀ out res
 abbrev μ-loop : tie.MeasureT-loop
 μ-loop table word out₀ rest₀ out rest = rest .ones
 
-begin-word-requires : tie.Need-begin-word-requires Inv-loop μ-loop
-begin-word-requires c κs = c .before .pre .0
-
 loop-holds : tie.Need-loop-holds Inv-loop μ-loop
 loop-holds c =
-    let entry = c .before .before in
     let begun = c .begin-word .ensures in
     record {
       pending = begun .pending;
       behind-first = begun .behind-first;
-      fits = rw (begun .same _ _) (entry .pre .1);
+      fits = rw (begun .same _ _) (c .before .before .pre .1);
       same-length = refl;
       whole = refl;
     }
@@ -96,15 +91,6 @@ small-window c =
     let g = found .before .before .before .loop .inv in
     rw (c .window-at .ensures) (step g (found .before .if1 .taken) _ (found .highest-one .ensures) .in-table)
 
-cast-out : tie.Need-cast-out Inv-loop μ-loop
-cast-out c = omega (arith, small-window c)
-
-mul-out : tie.Need-mul-out Inv-loop μ-loop
-mul-out c = omega (arith, small-window c)
-
-element-copy-out-out : tie.Need-element-copy-out-out Inv-loop μ-loop
-element-copy-out-out c = small-window c
-
 sub-out : tie.Need-sub-out Inv-loop μ-loop
 sub-out c =
     let tested = c .before .before .before .before in has-first (tested .before .before .loop .inv) (tested .if1 .taken)
@@ -115,14 +101,12 @@ mul-out-2 c =
     let head = found .before .before .before in
     let place = has-place (head .loop .inv) (found .before .if1 .taken) _ (found .highest-one .ensures) in
     let same = head .loop .inv .same-length in
-    let good = head .before .before .before .good .1 .1 .1 in
     omega arith
 
 slice-write-out : tie.Need-slice-write-out Inv-loop μ-loop
 slice-write-out c =
     let found = c .before .before .before in
     let g = found .before .before .before .loop .inv in
-    let first = has-first g (found .before .if1 .taken) in
     let place = has-place g (found .before .if1 .taken) _ (found .highest-one .ensures) in
     omega arith
 
@@ -132,38 +116,35 @@ pass-one-requires c κs =
     let head = found .before .before .before in
     let g = head .loop .inv in
     let cells = cells-fit g in
-    let same = g .same-length in
-    let good = head .before .before .before .good .1 .1 .1 in
     ((g .pending, found .highest-one .ensures), (omega arith, c .before .before .window-at .ensures))
 
 loop-less : tie.Need-loop-less Inv-loop μ-loop
 loop-less c =
     let found = c .before .before .before .before in
-    let g = found .before .before .before .loop .inv in
-    rw (c .pass-one .ensures) (step g (found .before .if1 .taken) _ (found .highest-one .ensures) .fewer)
+    rw (c .pass-one .ensures)
+    (step (found .before .before .before .loop .inv) (found .before .if1 .taken) _ (found .highest-one .ensures) .fewer)
 
 loop-again : tie.Need-loop-again Inv-loop μ-loop
 loop-again c =
     let found = c .before .before .before .before in
-    let g = found .before .before .before .loop .inv in
     rw (c .pass-one .ensures, c .before .before .before .window-at .ensures)
-    (turn g (found .before .if1 .taken) _ (found .highest-one .ensures))
+    (turn (found .before .before .before .loop .inv) (found .before .if1 .taken) _ (found .highest-one .ensures))
 
 add-t17 : tie.Need-add-t17 Inv-loop μ-loop
 add-t17 c = let near = c .before .before .before .loop .inv .pending .near in omega arith
 
 same-length : tie.Need-same-length Inv-loop μ-loop
-same-length c = c .before .before .before .loop .inv .same-length
+same-length c = cc
 
 returns : tie.Need-returns Inv-loop μ-loop
 returns c =
     let head = c .before .before .before .loop in
     let begun = c .before .before .before .before .begin-word .ensures in
-    ends _ (head .out) (head .rest) (c .before .if1 .left) ∙ head .inv .whole ∙ begun .same _ _
+    cc (ends _ (head .out) (head .rest) (c .before .if1 .left), begun .same _ _)
 
 pub draw-word-spec : {M : Type 1} → statement M
 draw-word-spec =
     tie.close
-    (tie.spec Inv-loop μ-loop begin-word-requires loop-holds highest-one-requires window-at-requires cast-out mul-out
-    element-copy-out-out sub-out mul-out-2 slice-write-out pass-one-requires loop-less loop-again add-t17 same-length
-    returns)
+    (tie.spec Inv-loop μ-loop (λ c κs. c .before .pre .0) loop-holds highest-one-requires window-at-requires
+    (λ c. omega (arith, small-window c)) (λ c. omega (arith, small-window c)) (λ c. small-window c) sub-out mul-out-2
+    slice-write-out pass-one-requires loop-less loop-again add-t17 same-length returns)

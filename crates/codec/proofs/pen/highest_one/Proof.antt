@@ -18,11 +18,6 @@ module _ (ones : ℕ) (positive : 0 < ones) (small : ones < 65536) where
       let place : 31 - leadingZeros 32 ones ≡ top .0 = omega (arith, top .1) in
       rw place (top .2, top .3)
 
-sub-result : tie.Need-sub-result
-sub-result c = few-leading-zeros _ (c .pre .0) (c .pre .1)
-
-returns : tie.Need-returns
-returns c = is-highest _ (c .pre .0) (c .pre .1)
-
 pub highest-one-spec : {M : Type 1} → statement M
-highest-one-spec = tie.close (tie.spec sub-result returns)
+highest-one-spec =
+    tie.close (tie.spec (λ c. few-leading-zeros _ (c .pre .0) (c .pre .1)) (λ c. is-highest _ (c .pre .0) (c .pre .1)))

@@ -12,9 +12,7 @@ shl-t5 c =
     omega arith
 
 returns : tie.Need-returns
-returns c =
-    let pre = c .before .before .pre in
-    rw (its-weight _ _ (pre .0 .1) (pre .0 .0 .small), pre .1 .1)
+returns c = let pre = c .before .before .pre in rw (its-weight _ _ (pre .0 .1) (pre .0 .0 .small), pre .1 .1)
 
 pub pass-one-spec : {M : Type 1} → statement M
 pass-one-spec = tie.close (tie.spec (λ c. search needs) shl-t5 (λ c. search needs) returns)

@@ -20,14 +20,15 @@ answer-is
     : (c : tie.After-conclude)
     → let pass = c .before .before .before .before .pass-over .result in
     countedAnswer (c .conclude .result) ≡ stripAnswer (pass .reading) (pass .used - 1)
-answer-is c = c .conclude .ensures ∙ ap (stripAnswer _) (c .before .last-place .ensures)
+answer-is c = cc
 
 last-place-requires : tie.Need-last-place-requires
 last-place-requires c κs =
     let first = c .before .before in
     let entry = first .before .before .before .before in
     let pre = entry .pre in
-    let small = used-is-small _ _ (now (entry .args .out)) (pre .0) (pre .1 .0) (pre .1 .1) _ (first .pass-over .ensures .0) in
+    let small =
+    used-is-small _ _ (now (entry .args .out)) (pre .0) (pre .1 .0) (pre .1 .1) _ (first .pass-over .ensures .0) in
     omega arith
 
 returns : tie.Need-returns
@@ -46,8 +47,7 @@ returns c =
 
 slice-aggregate-words-to-bytes : tie.Need-slice-aggregate-words-to-bytes
 slice-aggregate-words-to-bytes c =
-    let tested = c .before .before .before .before .before in
-    sym (length-take-le _ _ (omega (arith, tested .if1 .left, c .before .before .before .pass-over2 .kept .1 .1 .1 .0)))
+    sym (length-take-le _ _ (omega (arith, c .before .before .before .before .before .if1 .left)))
 
 returns-2 : tie.Need-returns-2
 unfolding readOutput
@@ -76,10 +76,8 @@ returns-3 c =
     let pre = entry .pre in
     let counts = sym (ap countedAnswer (counted .n .given .1)) ∙ answer-is concluded in
     rw (turned .words-to-bytes .ensures)
-    (room-accepts _ _ (now (entry .args .out)) (pre .0) (pre .1 .0) (pre .1 .1) _ (first .pass-over .ensures .0) _ counts
-    (tested .if1 .left)
-    _
-    (second .pass-over2 .ensures .1))
+    (room-accepts _ _ (now (entry .args .out)) (pre .0) (pre .1 .0) (pre .1 .1) _ (first .pass-over .ensures .0) _
+    counts (tested .if1 .left) _ (second .pass-over2 .ensures .1))
 
 pub read-cells-spec : {M : Type 1} → statement M
 read-cells-spec =

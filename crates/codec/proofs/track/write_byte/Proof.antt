@@ -19,7 +19,7 @@ unfolding wroteByte
 returns c =
     let made = c .before .before .before .before in
     let args = made .before .before .args in
-    let start = drawing (args .start .pen) (now (args .out)) in
+    let start = drawing _ _ in
     ap (λ (d : Drawing). writing (record { pen = d .pen; previous = args .byte }) (d .out))
     (c .before .before .draw-word .ensures
     ∙ ap (λ (w : ℕ). drawn (now (args .table)) start (topBits 16 w)) (made .made-word .ensures))

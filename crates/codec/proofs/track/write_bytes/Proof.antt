@@ -1,6 +1,6 @@
 -- Why `codec::track::write_bytes` draws all words: each turn draws one more. Rests on no axiom.
 use Prim.Native.Nat.{ℕ, _+_, _-_, _≤_, _<_}
-use mathlib.Core.Path.{_≡_, refl, sym, ap, _∙_}
+use mathlib.Core.Path.{_≡_, refl, sym, _∙_}
 use mathlib.Core.List.{List}
 use native.Mathlib.Omega.{arith}
 use denote.Ref.{now}
@@ -26,11 +26,10 @@ a-byte-more
     → Drawing-on table bytes s₀ s′ (k + 1)
 a-byte-more table bytes s₀ s s′ k h on e =
     let byte = getD bytes k 0 in
-    let room = on .1 in
     rw e (
       omega arith,
-      room-after-byte table s byte (length bytes - (k + 1)) (room .0, omega arith),
-      sym (wrote-from table s bytes k h) ∙ on .2,
+      room-after-byte table s byte (length bytes - (k + 1)) (on .1 .0, omega arith),
+      cc (wrote-from table s bytes k h),
     )
 
 holds-at-place
@@ -51,15 +50,13 @@ abbrev μ-loop : tie.MeasureT-loop
 μ-loop table bytes out₀ track₀ k₀ out track k = length bytes - k
 
 loop-holds : tie.Need-loop-holds Inv-loop μ-loop
-loop-holds c = let room = c .before .before .pre .0 in (omega arith, (room .0, omega arith), refl)
+loop-holds c = (omega arith, (c .before .before .pre .0 .0, omega arith), refl)
 
 write-byte-requires : tie.Need-write-byte-requires Inv-loop μ-loop
 write-byte-requires c κs =
     let on = c .before .before .before .loop .inv in
-    let room = on .1 in
-    let inside = c .before .before .loop-test .taken in
     let pre = c .before .before .before .before .before .before .pre in
-    ((room .0, omega arith), holds-at-place _ _ _ _ _ inside on (pre .1))
+    ((on .1 .0, omega arith), holds-at-place _ _ _ _ _ (c .before .before .loop-test .taken) on (pre .1))
 
 loop-again : tie.Need-loop-again Inv-loop μ-loop
 loop-again c =
@@ -67,20 +64,15 @@ loop-again c =
     let head = turn .before .loop in
     a-byte-more _ _ _ _ _ (head .k) (turn .loop-test .taken) (head .inv) (c .before .before .write-byte .ensures)
 
-same-length : tie.Need-same-length Inv-loop μ-loop
-same-length c = same-length-of-whole _ _ _ _ _ (c .before .loop .inv .2)
-
 returns : tie.Need-returns Inv-loop μ-loop
 returns c =
     let head = c .before .loop in
     let args = c .before .before .before .before .args in
     let s = writing (head .track) (head .out) in
-    sym (wrote-none (now (args .table)) s)
-    ∙ ap (wrote (now (args .table)) s) (sym (drop-of-length-le (now (args .bytes)) (c .loop-test .left)))
-    ∙ head .inv .2
+    cc (wrote-none (now (args .table)) s, drop-of-length-le (now (args .bytes)) (c .loop-test .left))
 
 pub write-bytes-spec : {M : Type 1} → statement M
 write-bytes-spec =
     tie.close
     (tie.spec Inv-loop μ-loop loop-holds (λ c. omega arith) (λ c. omega arith) write-byte-requires (λ c. omega arith)
-    (λ c. omega arith) loop-again same-length returns)
+    (λ c. omega arith) loop-again (λ c. same-length-of-whole _ _ _ _ _ (c .before .loop .inv .2)) returns)

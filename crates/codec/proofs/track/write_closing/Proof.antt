@@ -36,14 +36,12 @@ returns : tie.Need-returns
 returns c =
     let drew = c .before .before .before in
     let made = drew .before .before in
-    let args = made .before .before .args in
-    let start = drawing (args .track .pen) (now (args .out)) in
-    let all = drew .draw-word .ensures
-    ∙ ap (λ (w : ℕ). drawn (now (args .table)) start (topBits 16 w)) (made .closing-word .ensures) in (
-      one-less _ _ (ap (λ (d : Drawing). d .pen .cells) all)
-          (closing-ends-a-cell (now (args .table)) start (args .track .previous)),
-      ap (λ (d : Drawing). d .out) all,
-    )
+    let start = drawing _ _ in
+    let all =
+    drew .draw-word .ensures
+    ∙ ap (λ (w : ℕ). drawn (now (made .before .before .args .table)) start (topBits 16 w))
+    (made .closing-word .ensures) in
+    (one-less _ _ (ap (λ (d : Drawing). d .pen .cells) all) (closing-ends-a-cell _ start _), cc all)
 
 pub write-closing-spec : {M : Type 1} → statement M
 write-closing-spec =

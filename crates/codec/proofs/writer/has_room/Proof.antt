@@ -4,21 +4,13 @@ use mathlib.Core.Path.{sym}
 use native.Mathlib.Omega.{arith}
 use borrow.Author.Tests.{le-leb}
 use denote.Ref.{now}
-use lib.ListN.{length}
 use Rattle.items.specs.Written.{written}
 use Rattle.items.proofs.RuleLaws.{listed}
 use Rattle.items.proofs.WrittenLaws.{length-of-written}
-use Rattle.symbols.specs.Cells.{writtenCells}
 use Rattle.symbols.proofs.UnitLaws.{cells-at-most}
 use borrow.Author.Needs.{needs}
 use Rattle.codec.proofs.writer.has_room.Statement.{statement}
 use Rattle.codec.proofs.writer.has_room.Tie as tie
-
-mul-if1 : tie.Need-mul-if1
-mul-if1 c = omega (arith, listed _ (c .before .pre .0) .few-bytes, c .before .pre .1)
-
-add-if1 : tie.Need-add-if1
-add-if1 c = omega (arith, listed _ (c .before .pre .0) .few-bytes, c .before .pre .1)
 
 returns : tie.Need-returns
 returns c =
@@ -27,11 +19,11 @@ returns c =
     let bytes = written (now (start .items)) in
     let many = length-of-written (now (start .items)) in
     let few = cells-at-most bytes in
-    sym (le-leb (length (writtenCells bytes)) (start .room) (omega (arith, entry .pre .1)))
-
-returns-2 : tie.Need-returns-2
-returns-2 c = rw (c .count-cells .ensures)
+    sym (le-leb _ (start .room) (omega (arith, entry .pre .1)))
 
 pub has-room-spec : {M : Type 1} → statement M
 has-room-spec =
-    tie.close (tie.spec mul-if1 add-if1 returns (λ c κs. search needs) returns-2)
+    tie.close
+    (tie.spec (λ c. omega (arith, listed _ (c .before .pre .0) .few-bytes))
+    (λ c. omega (arith, listed _ (c .before .pre .0) .few-bytes)) returns (λ c κs. search needs)
+    (λ c. rw (c .count-cells .ensures)))

@@ -1,6 +1,6 @@
 -- Why `codec::writer::write_each` draws all words of a list: each turn those of one item more. Rests on no axiom.
 use Prim.Native.Nat.{ℕ, _+_, _-_, _*_, _≤_, _<_}
-use mathlib.Core.Path.{_≡_, refl, sym, ap, ap₂, _∙_}
+use mathlib.Core.Path.{_≡_, refl, sym, ap, _∙_}
 use mathlib.Core.List.{List}
 use native.Mathlib.Omega.{arith}
 use borrow.Author.Needs.{needs}
@@ -31,8 +31,7 @@ module _ (table items old : List ℕ) (s : Writing) (check : Check) (k : ℕ) (h
 
   behind : wrote table (wrote table s bytes) (writtenFrom (afterItem check (getD items k 0)) (drop (k + 1) items))
       ≡ wrote table (writing freshTrack old) (written items)
-  behind =
-      sym (wrote-of-append table s bytes _) ∙ ap (wrote table s) (sym (written-from-place check items k h)) ∙ on .2
+  behind = sym (wrote-of-append table s bytes _) ∙ ap (wrote table s) (sym (written-from-place check items k h)) ∙ on .2
 
   item-holds : Holds (wrote table (writing freshTrack old) (written items)) → Holds (wrote table s bytes)
   item-holds holds =
@@ -45,14 +44,12 @@ module _ (table items old : List ℕ) (s : Writing) (check : Check) (k : ℕ) (h
       → s′ ≡ wrote table s bytes
       → Writing-on table items old s′ check′ (k + 1)
   an-item-more s′ check′ checks writes =
-      let room = on .1 in
       let left = 2 * (length items - (k + 1)) + 1 in
       let size : length bytes ≤ 2 =
       rw (length-of-item-bytes check (getD items k 0)) (bytes-of-bounds (getD items k 0) .1) in (
         omega arith,
-        room-carries table left left (omega arith) writes
-            (room-after-bytes table s bytes left (room .0, omega arith)),
-        ap₂ (λ (x : Writing) (c : Check). wrote table x (writtenFrom c (drop (k + 1) items))) writes checks ∙ behind,
+        room-carries table left left (omega arith) writes (room-after-bytes table s bytes left (on .1 .0, omega arith)),
+        cc (writes, checks, behind),
       )
 
 abbrev Inv-loop : tie.InvT-loop
@@ -64,17 +61,13 @@ abbrev μ-loop : tie.MeasureT-loop
 
 loop-holds : tie.Need-loop-holds Inv-loop μ-loop
 unfolding written
-loop-holds c =
-    let few = c .before .before .before .before .pre .0 in
-    rw (c .fresh .ensures, c .before .fresh-track .ensures) (omega arith, (omega arith, omega arith), refl)
+loop-holds c = rw (c .fresh .ensures, c .before .fresh-track .ensures) (omega arith, (omega arith, omega arith), refl)
 
 write-item-requires : tie.Need-write-item-requires Inv-loop μ-loop
 write-item-requires c κs =
     let on = c .before .before .before .loop .inv in
-    let room = on .1 in
-    let inside = c .before .before .loop-test .taken in
     let pre = c .before .before .before .before .before .before .before .before .pre in
-    ((room .0, omega arith), item-holds _ _ _ _ _ _ inside on (pre .1))
+    ((on .1 .0, omega arith), item-holds _ _ _ _ _ _ (c .before .before .loop-test .taken) on (pre .1))
 
 loop-again : tie.Need-loop-again Inv-loop μ-loop
 loop-again c =
@@ -84,20 +77,15 @@ loop-again c =
     an-item-more _ _ _ _ _ (head .k) (turn .loop-test .taken) (head .inv) _ _ (wrote-item .0) (wrote-item .1)
 
 same-length : tie.Need-same-length Inv-loop μ-loop
-same-length c =
-    let head = c .before .before .loop in
-    same-length-of-whole _ _ _ _ _ (head .inv .2)
+same-length c = same-length-of-whole _ _ _ _ _ (c .before .before .loop .inv .2)
 
 returns : tie.Need-returns Inv-loop μ-loop
 returns c =
     let head = c .before .before .loop in
     let args = c .before .before .before .before .before .before .before .args in
-    let room = head .inv .1 in
     let s = writing (head .part .track) (head .out) in
-    let none = written-from-end (head .part .check) (now (args .items)) (head .k) (c .before .loop-test .left) in (
-      (room .0, omega arith),
-      sym (wrote-none (now (args .table)) s) ∙ ap (wrote (now (args .table)) s) (sym none) ∙ head .inv .2,
-    )
+    let none = written-from-end (head .part .check) (now (args .items)) (head .k) (c .before .loop-test .left) in
+    ((head .inv .1 .0, omega arith), cc (wrote-none (now (args .table)) s))
 
 pub write-each-spec : {M : Type 1} → statement M
 write-each-spec =

@@ -38,20 +38,18 @@ write-byte-requires : tie.Need-write-byte-requires
 write-byte-requires c κs =
     let tested = c .before .before .before in
     let entry = tested .before .before .before in
-    let room = entry .pre .0 in
     let check = sym (tested .is-check .ensures) ∙ c .before .before .if1 .taken in
-    ((room .0, omega arith), rw (c .before .high .ensures) (high-holds _ _ _ _ (entry .pre .1) check))
+    ((entry .pre .0 .0, omega arith), rw (c .before .high .ensures) (high-holds _ _ _ _ (entry .pre .1) check))
 
 write-byte-requires-2 : tie.Need-write-byte-requires-2
 write-byte-requires-2 c κs =
     let high = c .before .before .before .before in
     let tested = high .before .before .before .before in
     let entry = tested .before .before .before in
-    let s = writing (entry .args .start .track) (now (entry .args .out)) in
+    let s = writing _ _ in
     let table = now (entry .args .table) in
     let check = sym (tested .is-check .ensures) ∙ high .before .before .before .if1 .taken in (
-      room-carries table 1 1 (omega arith) (high .write-byte .ensures)
-          (room-after-byte table s _ 1 (entry .pre .0)),
+      room-carries table 1 1 (omega arith) (high .write-byte .ensures) (room-after-byte table s _ 1 (entry .pre .0)),
       rw (high .write-byte .ensures, c .before .low .ensures, high .before .before .high .ensures)
           (low-holds _ _ _ _ (entry .pre .1) check),
     )
@@ -63,24 +61,20 @@ returns c =
     let high = low .before .before .before .before .before in
     let tested = high .before .before .before .before in
     let checked = tested .before in
-    let args = checked .before .before .args in
-    let table = now (args .table) in
-    let s = writing (args .start .track) (now (args .out)) in
+    let table = now (checked .before .before .args .table) in
+    let s = writing _ _ in
     let check = sym (tested .is-check .ensures) ∙ high .before .before .before .if1 .taken in (
       checked .after-item .ensures,
       low .write-byte2 .ensures
-          ∙ ap₂ (wroteByte table)
-          (high .write-byte .ensures ∙ ap (wroteByte table s) (high .before .before .high .ensures))
-          (low .before .before .low .ensures)
-          ∙ ap (wrote table s) (sym (item-bytes-of-check (args .start .check) (args .item) check)),
+          ∙ ap₂ (wroteByte table) (cc) (low .before .before .low .ensures)
+          ∙ ap (wrote table s) (sym (item-bytes-of-check _ _ check)),
     )
 
 write-byte-requires-3 : tie.Need-write-byte-requires-3
 write-byte-requires-3 c κs =
     let entry = c .before .before .before .before .before in
-    let room = entry .pre .0 in
     let other = sym (c .before .before .is-check .ensures) ∙ c .before .if1 .left in
-    ((room .0, omega arith), byte-holds _ _ _ _ (entry .pre .1) other)
+    ((entry .pre .0 .0, omega arith), byte-holds _ _ _ _ (entry .pre .1) other)
 
 returns-2 : tie.Need-returns-2
 unfolding wrote
@@ -88,7 +82,7 @@ returns-2 c =
     let tested = c .before .before .before .before .before in
     let checked = tested .before in
     let args = checked .before .before .args in
-    let s = writing (args .start .track) (now (args .out)) in
+    let s = writing _ _ in
     let other = sym (tested .is-check .ensures) ∙ c .before .before .before .before .if1 .left in (
       checked .after-item .ensures,
       c .before .before .write-byte3 .ensures

@@ -18,7 +18,7 @@ write-stream-requires c κs =
     let entry = counted .before .before .before in
     let pre = entry .pre in
     let room = sym (tested .before .has-room .ensures) ∙ tested .if1 .taken in
-    let places = stream-fits (entry .args .p) (written (now (entry .args .items))) (now (entry .args .out)) room in
+    let places = stream-fits (entry .args .p) _ (now (entry .args .out)) room in
     (pre .0, (pre .1, (counted .written-bytes .ensures, places)))
 
 returns : tie.Need-returns
@@ -31,8 +31,8 @@ returns c =
     let wrote = c .before .before .write-stream .ensures in
     let room = sym (tested .before .has-room .ensures) ∙ tested .if1 .taken in
     let answers = long-enough (entry .args .p) (written items) old room _ _ (wrote .0) (wrote .1) in (
-      answers .0 ∙ rule-of-stream (entry .args .p) items old (pre .0) (pre .1),
-      answers .1 ∙ output-of-stream (entry .args .p) items old (pre .0) (pre .1),
+      cc (rule-of-stream (entry .args .p) items old (pre .0) (pre .1)),
+      cc (output-of-stream (entry .args .p) items old (pre .0) (pre .1)),
     )
 
 returns-2 : tie.Need-returns-2
@@ -43,10 +43,11 @@ returns-2 c =
     let old = now (entry .args .out) in
     let no-room = sym (c .before .has-room .ensures) ∙ c .if1 .left in
     let answers = too-short (entry .args .p) (written items) old no-room in (
-      answers .0 ∙ rule-of-stream (entry .args .p) items old (pre .0) (pre .1),
-      answers .1 ∙ output-of-stream (entry .args .p) items old (pre .0) (pre .1),
+      cc (rule-of-stream (entry .args .p) items old (pre .0) (pre .1)),
+      cc (output-of-stream (entry .args .p) items old (pre .0) (pre .1)),
     )
 
 pub write-list-spec : {M : Type 1} → statement M
 write-list-spec =
-    tie.close (tie.spec (λ c κs. search needs) has-room-requires write-stream-requires (λ c. search needs) returns returns-2)
+    tie.close
+    (tie.spec (λ c κs. search needs) has-room-requires write-stream-requires (λ c. search needs) returns returns-2)

@@ -25,7 +25,7 @@ fieldGiven count used holds =
 returns : tie.Need-returns
 returns c =
     let given = c .before .read .given .0 in
-    ap (fieldGiven (given .0) (given .1 .0)) (number-of-yes (given .1 .1 .0))
+    ap (fieldGiven _ _) (number-of-yes (given .1 .1 .0))
     ∙ sym (ap (λ (x : FieldRead). fieldAnswerOf (fieldAnswer x)) (c .before .read .given .1))
 
 returns-2 : tie.Need-returns-2

@@ -25,7 +25,7 @@ answered
     ≡ fieldAnswerOf
     (fieldReading (read .before .before .profile .result) (now (start .intervals)) (start .bytes)
     (length (now (start .out))))
-answered c = c .field-answer .ensures ∙ ap fieldAnswerOf (c .before .before .before .read-field .ensures .0)
+answered c = cc (c .field-answer .ensures, c .before .before .before .read-field .ensures .0)
 
 -- under the profile that came in
 answered-for
@@ -54,7 +54,7 @@ stored c =
     let profiled = read .before .before in
     let start = profiled .before .before .before .args in
     read .read-field .ensures .1
-    ∙ ap (λ (q : Profile). fieldOutput q (now (start .intervals)) (start .bytes) (now (start .out)))
+    ∙ ap (λ q. fieldOutput q (now (start .intervals)) (start .bytes) (now (start .out)))
     (profiled .profile .ensures)
 
 -- no more intervals are used than there are
@@ -79,9 +79,6 @@ least-requires c κs =
     let same = ap (λ (a : IsmAnswer). a .number) (answered (c .before .before .before)) in
     field-accepts-profile _ _ _ _ (sym same ∙ c .before .if1 .left)
 
-with-clearance-requires : tie.Need-with-clearance-requires
-with-clearance-requires c κs = c .before .before .if1 .left
-
 returns-2 : tie.Need-returns-2
 returns-2 c =
     let field = c .before .before .before .before .before in
@@ -101,4 +98,4 @@ pub ism-read-field-spec : {M : Type 1} → statement M
 ism-read-field-spec =
     tie.close
     (tie.spec (λ c κs. search needs) (λ c κs. search needs) (λ c κs. search needs) (λ c. search needs) returns
-    slice-aggregate-least least-requires with-clearance-requires (λ c. search needs) returns-2)
+    slice-aggregate-least least-requires (λ c κs. c .before .before .if1 .left) (λ c. search needs) returns-2)

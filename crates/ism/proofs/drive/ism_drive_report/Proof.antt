@@ -15,7 +15,7 @@ returns c =
     let start = first .before .before .args in
     let checked =
     c .before .before .before .check-list .ensures
-    ∙ ap (λ (q : Profile). reportRule q (now (start .intervals))) (first .profile .ensures) in
+    ∙ ap (λ q. reportRule q (now (start .intervals))) (first .profile .ensures) in
     let rows =
     c .before .report-list .ensures
     ∙ ap (λ (q : Profile). reported q (now (start .intervals))) (c .before .before .profile2 .ensures) in

@@ -3,11 +3,8 @@ use borrow.Author.Needs.{needs}
 use Rattle.ism.proofs.index.converted.Statement.{statement}
 use Rattle.ism.proofs.index.converted.Tie as tie
 
-returns : tie.Need-returns
-returns c = rw (c .before .field .given .1)
-
-returns-2 : tie.Need-returns-2
-returns-2 c = rw (c .enum-told .given .1)
-
 pub converted-spec : {M : Type 1} → statement M
-converted-spec = tie.close (tie.spec (λ c. search needs) (λ c. search needs) (λ c. search needs) returns returns-2)
+converted-spec =
+    tie.close
+    (tie.spec (λ c. search needs) (λ c. search needs) (λ c. search needs) (λ c. rw (c .before .field .given .1))
+    (λ c. rw (c .enum-told .given .1)))

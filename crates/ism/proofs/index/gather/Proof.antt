@@ -12,7 +12,7 @@ use Rattle.refusal.specs.Answer.{countedAnswer}
 use Rattle.refusal.proofs.AnswerLaws.{verdict-accepts}
 use Rattle.timing.specs.Profile.{profileRule}
 use Rattle.timing.specs.declared.Profile.{Profile}
-use Rattle.track.specs.Index.{noEntry, indexRule, indexEntries}
+use Rattle.track.specs.Index.{indexRule, indexEntries}
 use Rattle.track.specs.declared.Entry.{Entry}
 use Rattle.track.proofs.GatherLaws.{profile-refuses, Goes, end-means, other-means, begins-means, goes-ahead, Gathered}
 use Rattle.track.proofs.GatherLaws.{nothing-gathered, gathered-on, gathered-entry, all-gathered, crowded}
@@ -55,17 +55,15 @@ begins c = begins-means _ _ _ _ _ (sym (c .before .entry .given .1) ∙ c .befor
 room
     : (c : tie.After-converted Inv-search μ-search)
     → c .before .before .before .before .before .before .search .count < 32
-room c =
-    let few = c .before .before .before .before .before .before .search .inv .gathered .few in
-    omega (arith, c .before .if1 .left)
+room c = omega arith
 
 search-holds : tie.Need-search-holds Inv-search μ-search
 search-holds c =
     let args = c .before .before .before .before .args in
     record {
       fair = verdict-accepts _ _ (c .before .before .check .ensures) (c .enum-told .given .1);
-      found = replicate 32 noEntry;
-      gathered = nothing-gathered (args .p) (args .intervals .now);
+      found = replicate 32 _;
+      gathered = nothing-gathered _ _;
       cross = refl;
     }
 
@@ -82,15 +80,6 @@ search-again c =
       gathered = gathered-on (so-far .gathered) (passes c);
       cross = so-far .cross;
     }
-
-mul-entries : tie.Need-mul-entries Inv-search μ-search
-mul-entries c = omega (arith, room c)
-
-array-set-from-entries : tie.Need-array-set-from-entries Inv-search μ-search
-array-set-from-entries c = room c
-
-add-count : tie.Need-add-count Inv-search μ-search
-add-count c = omega (arith, room c)
 
 search-less-2 : tie.Need-search-less-2 Inv-search μ-search
 search-less-2 c =
@@ -142,5 +131,5 @@ gather-spec =
     tie.close
     (tie.spec Inv-search μ-search (λ c κs. search needs) (λ c. search needs) (λ c. search needs) search-holds
     (λ c κs. search needs) (λ c. search needs) (λ c. search needs) search-less search-again (λ c. search needs)
-    (λ c κs. search needs) mul-entries array-set-from-entries add-count search-less-2 search-again-2
-    (λ c κs. search needs) returns)
+    (λ c κs. search needs) (λ c. omega (arith, room c)) (λ c. room c) (λ c. omega (arith, room c)) search-less-2
+    search-again-2 (λ c κs. search needs) returns)

@@ -11,7 +11,7 @@ use Rattle.ism.proofs.passes.merged_answer.Statement.{statement}
 use Rattle.ism.proofs.passes.merged_answer.Tie as tie
 
 returns : tie.Need-returns
-returns c = sym (ap (λ (x : Merged). givenMerge (mergedAnswer x)) (c .before .merged .given .1))
+returns c = sym (ap (λ x. givenMerge (mergedAnswer x)) (c .before .merged .given .1))
 
 returns-2 : tie.Need-returns-2
 returns-2 c =

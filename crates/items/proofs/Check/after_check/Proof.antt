@@ -5,8 +5,5 @@ use Rattle.items.proofs.CheckLaws.{after-check-is-zero}
 use Rattle.items.proofs.Check.after_check.Statement.{statement}
 use Rattle.items.proofs.Check.after_check.Tie as tie
 
-returns : tie.Need-returns
-returns c = sym (after-check-is-zero (c .args .self) (omega arith))
-
 pub after-check-spec : {M : Type 1} → statement M
-after-check-spec = tie.close (tie.spec returns)
+after-check-spec = tie.close (tie.spec (λ c. sym (after-check-is-zero (c .args .self) (omega arith))))

@@ -1,7 +1,7 @@
 -- `Check::after_run` keeps what the bytes from k on make of the state: two numbers below 256 pass through as the data
 -- bytes that they are. Rests on no axiom.
 use Prim.Native.Nat.{ℕ, _+_, _-_, _≤_, _<_}
-use mathlib.Core.Path.{_≡_, refl, sym, ap, _∙_}
+use mathlib.Core.Path.{_≡_, refl}
 use mathlib.Core.List.{List}
 use native.Mathlib.Omega.{arith}
 use denote.Ref.{now}
@@ -9,14 +9,12 @@ use borrow.Author.Needs.{needs}
 use lib.Bits.{bitOr, or-add-and, and-le-l, and-le-r}
 use lib.ListN.{length, getD, drop}
 use Rattle.items.specs.Written.{afterBytes}
-use Rattle.items.specs.declared.Check.{Check}
-use Rattle.items.proofs.CheckLaws.{unmarked, after-bytes-from, after-two-data-from}
+use Rattle.items.proofs.CheckLaws.{after-bytes-from, after-two-data-from}
 use Rattle.items.proofs.Check.after_run.Statement.{statement}
 use Rattle.items.proofs.Check.after_run.Tie as tie
 
 both-small : (a b : ℕ) → bitOr a b ≤ 255 → (a < 256) × (b < 256)
-both-small a b h =
-    (omega (arith, or-add-and a b, and-le-r a b), omega (arith, or-add-and a b, and-le-l a b))
+both-small a b h = (omega (arith, or-add-and a b, and-le-r a b), omega (arith, or-add-and a b, and-le-l a b))
 
 abbrev Inv-loop : tie.InvT-loop
 Inv-loop bytes from last check₀ k₀ check k =
@@ -24,9 +22,6 @@ Inv-loop bytes from last check₀ k₀ check k =
 
 abbrev μ-loop : tie.MeasureT-loop
 μ-loop bytes from last check₀ k₀ check k = length bytes - k
-
-sub-last : tie.Need-sub-last Inv-loop μ-loop
-sub-last c = omega (arith, c .before .pre)
 
 loop-holds : tie.Need-loop-holds Inv-loop μ-loop
 loop-holds c = (omega arith, omega (arith, c .before .before .before .pre), refl)
@@ -38,18 +33,12 @@ kept-from-start : (c : tie.At-loop Inv-loop μ-loop)
     (drop (c .before .before .before .before .args .from) (now (c .before .before .before .before .args .bytes)))
 kept-from-start c =
     let start = c .before .before .before .before in
-    let bytes : List ℕ = now (start .args .bytes) in
-    c .loop .inv .2
-    ∙ ap (λ (s : Check). afterBytes s (drop (start .args .from + 1) bytes)) (c .before .after-byte .ensures)
-    ∙ sym (after-bytes-from (start .args .self) bytes (start .args .from) (start .pre))
+    let bytes = now (start .args .bytes) in
+    cc (after-bytes-from _ bytes _ (start .pre))
 
 returns : tie.Need-returns Inv-loop μ-loop
 returns c =
-    let head : tie.At-loop Inv-loop μ-loop = c .before .before .before .before in
-    ((head .loop .inv .0, head .loop .inv .1), kept-from-start head)
-
-feed-two-requires : tie.Need-feed-two-requires Inv-loop μ-loop
-feed-two-requires c κs = both-small _ _ (omega (arith, c .if1 .left))
+    let head = c .before .before .before .before in ((head .loop .inv .0, head .loop .inv .1), kept-from-start head)
 
 loop-again : tie.Need-loop-again Inv-loop μ-loop
 loop-again c =
@@ -57,13 +46,9 @@ loop-again c =
     let head = turn .before .loop in
     let bytes : List ℕ = now (turn .before .before .before .before .before .args .bytes) in
     let inside : head .k + 1 < length bytes = let test = turn .loop-test .taken in omega arith in
-    let small = both-small (getD bytes (head .k) 0) (getD bytes (head .k + 1) 0) (omega (arith, c .before .if1 .left)) in (
-      omega arith,
-      omega arith,
-      ap (λ (r : ℕ). afterBytes (unmarked r) (drop (head .k + 2) bytes)) (c .feed-two .ensures)
-          ∙ sym (after-two-data-from (head .check) bytes (head .k) inside (small .0) (small .1))
-          ∙ head .inv .2,
-    )
+    let small =
+    both-small (getD bytes (head .k) 0) (getD bytes (head .k + 1) 0) (omega (arith, c .before .if1 .left)) in
+    (omega arith, omega arith, cc (after-two-data-from (head .check) bytes (head .k) inside (small .0) (small .1)))
 
 returns-2 : tie.Need-returns-2 Inv-loop μ-loop
 returns-2 c = ((c .before .loop .inv .0, c .before .loop .inv .1), kept-from-start (c .before))
@@ -71,6 +56,7 @@ returns-2 c = ((c .before .loop .inv .0, c .before .loop .inv .1), kept-from-sta
 pub after-run-spec : {M : Type 1} → statement M
 after-run-spec =
     tie.close
-    (tie.spec Inv-loop μ-loop sub-last (λ c. search needs) (λ c. search needs) (λ c κs. search needs)
-    (λ c. search needs) loop-holds (λ c. search needs) (λ c. search needs) (λ c. search needs) (λ c. search needs)
-    (λ c. search needs) returns feed-two-requires (λ c. search needs) (λ c. search needs) loop-again returns-2)
+    (tie.spec Inv-loop μ-loop (λ c. omega (arith, c .before .pre)) (λ c. search needs) (λ c. search needs)
+    (λ c κs. search needs) (λ c. search needs) loop-holds (λ c. search needs) (λ c. search needs) (λ c. search needs)
+    (λ c. search needs) (λ c. search needs) returns (λ c κs. both-small _ _ (omega (arith, c .if1 .left)))
+    (λ c. search needs) (λ c. search needs) loop-again returns-2)

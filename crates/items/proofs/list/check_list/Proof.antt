@@ -4,9 +4,6 @@ use borrow.Author.Needs.{needs}
 use Rattle.items.proofs.list.check_list.Statement.{statement}
 use Rattle.items.proofs.list.check_list.Tie as tie
 
-returns : tie.Need-returns
-returns c = rule-of-too-many _ (c .if1 .taken)
-
 returns-2 : tie.Need-returns-2
 returns-2 c = rule-of-too-many-bytes _ _ (c .before .written-bytes .ensures) (c .if2 .taken)
 
@@ -25,4 +22,5 @@ returns-4 c =
 pub check-list-spec : {M : Type 1} → statement M
 check-list-spec =
     tie.close
-    (tie.spec returns (λ c κs. search needs) returns-2 (λ c κs. search needs) (λ c. search needs) returns-3 returns-4)
+    (tie.spec (λ c. rule-of-too-many _ (c .if1 .taken)) (λ c κs. search needs) returns-2 (λ c κs. search needs)
+    (λ c. search needs) returns-3 returns-4)

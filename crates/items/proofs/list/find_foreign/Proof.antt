@@ -1,7 +1,6 @@
 -- `find_foreign` scans for the lowest place: an item moves it on by one, the first number that is none ends it.
-use Prim.Native.Nat.{ℕ, _+_, _-_, _≤_, _<_, zero-le}
-use mathlib.Core.Path.{_≡_, sym, _∙_}
-use mathlib.Core.Bool.{true, false}
+use Prim.Native.Nat.{ℕ, _+_, _-_, _≤_, zero-le}
+use mathlib.Core.Path.{_≡_}
 use mathlib.Core.List.{List}
 use native.Mathlib.Nat.{zero-add}
 use native.Mathlib.Omega.{arith}
@@ -26,42 +25,30 @@ abbrev μ-loop : tie.MeasureT-loop
 abbrev entry-of : tie.At-loop Inv-loop μ-loop → tie.Start Inv-loop μ-loop
 entry-of c = c .before .before
 
-loop-holds : tie.Need-loop-holds Inv-loop μ-loop
-loop-holds c = (zero-le, zero-add (lowest isForeign (now (c .before .args .items))))
-
-shared-slice-read-is-item : tie.Need-shared-slice-read-is-item Inv-loop μ-loop
-shared-slice-read-is-item c = c .before .loop-test .taken
-
-loop-less : tie.Need-loop-less Inv-loop μ-loop
-loop-less c = falls _ _ (c .before .before .before .loop-test .taken)
-
 loop-again : tie.Need-loop-again Inv-loop μ-loop
 loop-again c =
-    let turn : tie.In-loop Inv-loop μ-loop = c .before .before .before in
+    let turn = c .before .before .before in
     let head = turn .before .loop in
     let items : List ℕ = now (entry-of (turn .before) .args .items) in
-    let inside : head .k < length items = turn .loop-test .taken in
-    let item : isForeign (getD items (head .k) 0) ≡ false =
-    item-is-not-foreign (getD items (head .k) 0) (sym (c .before .is-item .ensures) ∙ c .if1 .taken) in
-    (omega arith, sym (lowest-from-failing-is-further isForeign items 0 (head .k) inside item) ∙ head .inv .1)
+    let item = item-is-not-foreign (getD items (head .k) 0) (cc) in
+    (omega arith, cc (lowest-from-failing-is-further isForeign items 0 (head .k) (turn .loop-test .taken) item))
 
 returns : tie.Need-returns Inv-loop μ-loop
 returns c =
-    let turn : tie.In-loop Inv-loop μ-loop = c .before .before .before in
+    let turn = c .before .before .before in
     let head = turn .before .loop in
-    let items : List ℕ = now (entry-of (turn .before) .args .items) in
-    let foreign : isForeign (getD items (head .k) 0) ≡ true =
-    no-item-is-foreign (getD items (head .k) 0) (sym (c .before .is-item .ensures) ∙ c .if1 .left) in
-    sym (lowest-from-passing-is-here isForeign items 0 (head .k) (turn .loop-test .taken) foreign) ∙ head .inv .1
+    let items = now (entry-of (turn .before) .args .items) in
+    let foreign = no-item-is-foreign (getD items (head .k) 0) (cc) in
+    cc (lowest-from-passing-is-here isForeign items 0 (head .k) (turn .loop-test .taken) foreign)
 
 returns-2 : tie.Need-returns-2 Inv-loop μ-loop
 returns-2 c =
-    let head = c .before .loop in
-    let items : List ℕ = now (entry-of (c .before) .args .items) in
-    sym (lowest-from-end-is-here isForeign items (head .k) (c .loop-test .left)) ∙ head .inv .1
+    let items = now (entry-of (c .before) .args .items) in
+    cc (lowest-from-end-is-here isForeign items (c .before .loop .k) (c .loop-test .left))
 
 pub find-foreign-spec : {M : Type 1} → statement M
 find-foreign-spec =
     tie.close
-    (tie.spec Inv-loop μ-loop loop-holds (λ c. omega arith) shared-slice-read-is-item (λ c κs. search needs)
-    (λ c. omega arith) loop-less loop-again returns returns-2)
+    (tie.spec Inv-loop μ-loop (λ c. (zero-le, zero-add _)) (λ c. omega arith) (λ c. c .before .loop-test .taken)
+    (λ c κs. search needs) (λ c. omega arith) (λ c. falls _ _ (c .before .before .before .loop-test .taken)) loop-again
+    returns returns-2)

@@ -1,7 +1,7 @@
 -- `list::put_all` stores byte after byte: what the bytes from k on have still to store makes the whole. Rests on no
 -- axiom.
 use Prim.Native.Nat.{ℕ, _+_, _-_, _≤_, _<_, zero-le}
-use mathlib.Core.Path.{_≡_, refl, sym, ap, _∙_}
+use mathlib.Core.Path.{_≡_, refl}
 use mathlib.Core.List.{List}
 use native.Mathlib.Numerals.{add-one}
 use native.Mathlib.Omega.{arith}
@@ -33,23 +33,13 @@ turn-of c = c .before .before .before .before .before
 abbrev entry-of : tie.At-loop Inv-loop μ-loop → tie.Start Inv-loop μ-loop
 entry-of c = c .before .before .before
 
-loop-holds : tie.Need-loop-holds Inv-loop μ-loop
-loop-holds c = (zero-le, refl)
-
-shared-slice-read-put : tie.Need-shared-slice-read-put Inv-loop μ-loop
-shared-slice-read-put c = c .before .before .loop-test .taken
-
-loop-less : tie.Need-loop-less Inv-loop μ-loop
-loop-less c = falls _ _ (turn-of c .loop-test .taken)
-
 loop-again : tie.Need-loop-again Inv-loop μ-loop
 loop-again c =
     let turn = turn-of c in
     let head = turn .before .loop in
-    let bytes : List ℕ = now (entry-of (turn .before) .args .bytes) in
-    let inside : head .k < length bytes = turn .loop-test .taken in (
+    let bytes = now (entry-of (turn .before) .args .bytes) in (
       omega arith,
-      stored-then-rest (head .out) _ bytes (head .k) inside (c .before .before .put .ensures) ∙ head .inv .1,
+      cc (stored-then-rest (head .out) _ bytes (head .k) (turn .loop-test .taken) (c .before .before .put .ensures)),
     )
 
 -- nothing is left to store
@@ -58,20 +48,16 @@ all-stored : (c : tie.After-loop Inv-loop μ-loop)
     ≡ storedAt (now (entry-of (c .before) .args .out)) 0 (now (entry-of (c .before) .args .bytes))
 all-stored c =
     let head = c .before .loop in
-    let bytes : List ℕ = now (entry-of (c .before) .args .bytes) in
-    sym (stored-none (head .out) (head .k))
-    ∙ ap (storedAt (head .out) (head .k)) (sym (drop-of-length-le bytes (c .loop-test .left))) ∙ head .inv .1
+    let bytes = now (entry-of (c .before) .args .bytes) in
+    cc (stored-none (head .out) (head .k), drop-of-length-le bytes (c .loop-test .left))
 
 same-length : tie.Need-same-length Inv-loop μ-loop
 same-length c =
-    let given = entry-of (c .before) .args in
-    ap length (all-stored c) ∙ stored-length (now (given .out)) 0 (now (given .bytes))
-
-returns : tie.Need-returns Inv-loop μ-loop
-returns c = all-stored c
+    let given = entry-of (c .before) .args in cc (all-stored c, stored-length (now (given .out)) 0 (now (given .bytes)))
 
 pub put-all-spec : {M : Type 1} → statement M
 put-all-spec =
     tie.close
-    (tie.spec Inv-loop μ-loop loop-holds (λ c. omega arith) shared-slice-read-put (λ c κs. search needs)
-    (λ c. omega arith) loop-less loop-again same-length returns)
+    (tie.spec Inv-loop μ-loop (λ c. (zero-le, refl)) (λ c. omega arith) (λ c. c .before .before .loop-test .taken)
+    (λ c κs. search needs) (λ c. omega arith) (λ c. falls _ _ (turn-of c .loop-test .taken)) loop-again same-length
+    (λ c. all-stored c))

@@ -1,5 +1,5 @@
 -- `list::write_each` is a fold over the items: what the items from k on have still to store makes the whole.
-use Prim.Native.Nat.{ℕ, _+_, _-_, _*_, _^_, _≤_, _<_, zero-le}
+use Prim.Native.Nat.{ℕ, _+_, _-_, _^_, _≤_, _<_, zero-le}
 use mathlib.Core.Path.{_≡_, refl, sym, ap, _∙_}
 use mathlib.Core.List.{List, []}
 use native.Mathlib.Nat.{zero-add}
@@ -28,7 +28,7 @@ stored-then-rest :
     → storedAt next (at + size) (writtenFrom after (drop (k + 1) items)) ≡ storedAt out at (writtenFrom check (drop k items))
 stored-then-rest out next at size items k check after h p q r =
     let bytes : List ℕ = itemBytes check (getD items k 0) in
-    let length-is-size : length bytes ≡ size = length-of-item-bytes check (getD items k 0) ∙ sym p in
+    let length-is-size = length-of-item-bytes check (getD items k 0) ∙ sym p in
     rw (q, r, ← length-is-size, written-from-place check items k h) (stored-after-stored bytes _ out at _ refl)
 
 -- the register after an item's bytes, and then after those of the rest
@@ -38,8 +38,7 @@ passed-then-rest :
     → afterBytes after (writtenFrom after (drop (k + 1) items)) ≡ afterBytes check (writtenFrom check (drop k items))
 unfolding afterItem
 passed-then-rest items k check after h r =
-    rw (r, written-from-place check items k h)
-    (sym (after-bytes-of-append check (itemBytes check (getD items k 0)) _))
+    rw (r, written-from-place check items k h) (sym (after-bytes-of-append check _ _))
 
 after-no-bytes : (check : Check) → afterBytes check [] ≡ check
 unfolding afterBytes
@@ -61,70 +60,46 @@ turn-of c = c .before .before .before .before .before .before .before
 abbrev entry-of : tie.At-loop Inv-loop μ-loop → tie.Start Inv-loop μ-loop
 entry-of c = c .before .before .before
 
-loop-holds : tie.Need-loop-holds Inv-loop μ-loop
-loop-holds c = (zero-le, zero-add (writtenBytes (now (c .before .before .args .items))), refl, refl)
-
-shared-slice-read-n : tie.Need-shared-slice-read-n Inv-loop μ-loop
-shared-slice-read-n c = c .before .loop-test .taken
-
 add-at : tie.Need-add-at Inv-loop μ-loop
 add-at c =
     let turn = turn-of c in
     let head = turn .before .loop in
     let items : List ℕ = now (entry-of (turn .before) .args .items) in
-    let inside : head .k < length items = turn .loop-test .taken in
-    let counted : c .bytes-of .result ≡ bytesOf (getD items (head .k) 0) = c .bytes-of .ensures in
-    let whole : head .at + writtenBytes (drop (head .k) items) ≡ writtenBytes items = head .inv .1 in
-    let size : length items * 2 < 2 ^ 63 = entry-of (turn .before) .good .1 .0 .1 in
     let room : head .at + c .bytes-of .result < 2 ^ 64 =
-    omega (arith, written-bytes-from items (head .k) inside, written-bytes-bounds items) in
+    omega (arith, written-bytes-from items (head .k) (turn .loop-test .taken), written-bytes-bounds items) in
     record { fits = room }
-
-loop-less : tie.Need-loop-less Inv-loop μ-loop
-loop-less c = falls _ _ (turn-of c .loop-test .taken)
 
 loop-again : tie.Need-loop-again Inv-loop μ-loop
 loop-again c =
     let turn = turn-of c in
     let head = turn .before .loop in
     let items : List ℕ = now (entry-of (turn .before) .args .items) in
-    let inside : head .k < length items = turn .loop-test .taken in
-    let counted : c .bytes-of .result ≡ bytesOf (getD items (head .k) 0) = c .bytes-of .ensures in
-    let whole : head .at + writtenBytes (drop (head .k) items) ≡ writtenBytes items = head .inv .1 in
+    let inside = turn .loop-test .taken in
     let put = c .before .before .before .before .put-item .ensures in (
       omega arith,
       omega (arith, written-bytes-from items (head .k) inside),
-      stored-then-rest (head .out) _ (head .at) (c .bytes-of .result) items (head .k) (head .check) _
-          inside counted put (c .before .after-item .ensures)
+      stored-then-rest _ _ _ _ items _ _ _ inside (c .bytes-of .ensures) put (c .before .after-item .ensures)
           ∙ head .inv .2,
       passed-then-rest items (head .k) (head .check) _ inside (c .before .after-item .ensures) ∙ head .inv .3,
     )
 
 same-length : tie.Need-same-length Inv-loop μ-loop
-same-length c =
-    let head = c .before .loop in
-    let given = entry-of (c .before) .args in
-    sym (stored-length (head .out) (head .at) (writtenFrom (head .check) (drop (head .k) (now (given .items)))))
-    ∙ ap length (head .inv .2)
-    ∙ stored-length (now (given .out)) 0 (writtenFrom (given .start) (now (given .items)))
+same-length c = sym (stored-length _ _ _) ∙ ap length (c .before .loop .inv .2) ∙ stored-length _ 0 _
 
 returns : tie.Need-returns Inv-loop μ-loop
 returns c =
     let head = c .before .loop in
     let items : List ℕ = now (entry-of (c .before) .args .items) in
-    let end : length items ≤ head .k = c .loop-test .left in
-    let whole : head .at + writtenBytes (drop (head .k) items) ≡ writtenBytes items = head .inv .1 in
+    let end = c .loop-test .left in
     let none : writtenFrom (head .check) (drop (head .k) items) ≡ [] =
     written-from-end (head .check) items (head .k) end in (
-      sym (ap (afterBytes (head .check)) none ∙ after-no-bytes (head .check)) ∙ head .inv .3,
-      (
-        omega (arith, written-bytes-from-end items (head .k) end),
-        sym (stored-none (head .out) (head .at)) ∙ ap (storedAt (head .out) (head .at)) (sym none) ∙ head .inv .2,
-      ),
+      cc (after-no-bytes (head .check)),
+      (omega (arith, written-bytes-from-end items (head .k) end), cc (stored-none (head .out) (head .at))),
     )
 
 pub write-each-spec : {M : Type 1} → statement M
 write-each-spec =
     tie.close
-    (tie.spec Inv-loop μ-loop loop-holds (λ c. omega arith) shared-slice-read-n (λ c κs. search needs)
-    (λ c κs. search needs) (λ c κs. search needs) add-at (λ c. omega arith) loop-less loop-again same-length returns)
+    (tie.spec Inv-loop μ-loop (λ c. (zero-le, zero-add _, refl, refl)) (λ c. omega arith)
+    (λ c. c .before .loop-test .taken) (λ c κs. search needs) (λ c κs. search needs) (λ c κs. search needs) add-at
+    (λ c. omega arith) (λ c. falls _ _ (turn-of c .loop-test .taken)) loop-again same-length returns)

@@ -1,14 +1,13 @@
 -- `written_bytes` adds up the definition's sum: what is counted and what the items from k on count for are the whole.
-use Prim.Native.Nat.{ℕ, _+_, _-_, _≤_, zero-le}
+use Prim.Native.Nat.{_+_, _-_, _≤_, zero-le}
 use mathlib.Core.Path.{_≡_}
-use mathlib.Core.List.{List}
 use native.Mathlib.Nat.{zero-add}
 use native.Mathlib.Omega.{arith}
 use denote.Ref.{now}
 use borrow.Author.Count.{falls}
 use borrow.Author.Needs.{needs}
-use lib.ListN.{length, getD, drop}
-use Rattle.items.specs.Item.{bytesOf, writtenBytes}
+use lib.ListN.{length, drop}
+use Rattle.items.specs.Item.{writtenBytes}
 use Rattle.items.proofs.ItemLaws.{written-bytes-bounds, written-bytes-from, written-bytes-from-end}
 use Rattle.items.proofs.list.written_bytes.Statement.{statement}
 use Rattle.items.proofs.list.written_bytes.Tie as tie
@@ -26,38 +25,26 @@ turn-of c = c .before .before
 abbrev entry-of : tie.At-loop Inv-loop μ-loop → tie.Start Inv-loop μ-loop
 entry-of c = c .before .before
 
-loop-holds : tie.Need-loop-holds Inv-loop μ-loop
-loop-holds c = (zero-le, zero-add (writtenBytes (now (c .before .args .items))))
-
-shared-slice-read-bytes-of : tie.Need-shared-slice-read-bytes-of Inv-loop μ-loop
-shared-slice-read-bytes-of c = c .before .loop-test .taken
-
 add-count : tie.Need-add-count Inv-loop μ-loop
 add-count c =
     let turn = turn-of c in
-    let head = turn .before .loop in
-    let items : List ℕ = now (entry-of (turn .before) .args .items) in
-    let counted : c .bytes-of .result ≡ bytesOf (getD items (head .k) 0) = c .bytes-of .ensures in
-    omega (arith, written-bytes-from items (head .k) (turn .loop-test .taken), written-bytes-bounds items)
-
-loop-less : tie.Need-loop-less Inv-loop μ-loop
-loop-less c = falls _ _ (turn-of c .loop-test .taken)
+    let items = now (entry-of (turn .before) .args .items) in
+    omega (arith, written-bytes-from items (turn .before .loop .k) (turn .loop-test .taken), written-bytes-bounds items)
 
 loop-again : tie.Need-loop-again Inv-loop μ-loop
 loop-again c =
     let turn = turn-of c in
-    let head = turn .before .loop in
-    let items : List ℕ = now (entry-of (turn .before) .args .items) in
-    let counted : c .bytes-of .result ≡ bytesOf (getD items (head .k) 0) = c .bytes-of .ensures in
-    omega (arith, written-bytes-from items (head .k) (turn .loop-test .taken))
+    let items = now (entry-of (turn .before) .args .items) in
+    omega (arith, written-bytes-from items (turn .before .loop .k) (turn .loop-test .taken))
 
 returns : tie.Need-returns Inv-loop μ-loop
 returns c =
-    let items : List ℕ = now (entry-of (c .before) .args .items) in
+    let items = now (entry-of (c .before) .args .items) in
     omega (arith, written-bytes-from-end items (c .before .loop .k) (c .loop-test .left))
 
 pub written-bytes-spec : {M : Type 1} → statement M
 written-bytes-spec =
     tie.close
-    (tie.spec Inv-loop μ-loop loop-holds (λ c. omega arith) shared-slice-read-bytes-of (λ c κs. search needs)
-    add-count (λ c. omega arith) loop-less loop-again returns)
+    (tie.spec Inv-loop μ-loop (λ c. (zero-le, zero-add _)) (λ c. omega arith) (λ c. c .before .loop-test .taken)
+    (λ c κs. search needs) add-count (λ c. omega arith) (λ c. falls _ _ (turn-of c .loop-test .taken)) loop-again
+    returns)

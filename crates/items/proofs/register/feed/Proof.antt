@@ -1,5 +1,4 @@
 -- `register::feed` is the formula, and the formula is the eight bit steps. Rests on no axiom.
-use Prim.Native.Nat.{_%_}
 use native.Mathlib.Omega.{arith}
 use lib.Bits.{and-mask}
 use Rattle.items.proofs.FormulaLaws.{formula-is-fed}
@@ -7,8 +6,7 @@ use Rattle.items.proofs.register.feed.Statement.{statement}
 use Rattle.items.proofs.register.feed.Tie as tie
 
 returns : tie.Need-returns
-returns c =
-    rw (and-mask (c .args .byte) 8) (formula-is-fed (c .args .register) (c .args .byte % 256) (omega arith) (omega arith))
+returns c = rw (and-mask (c .args .byte) 8) (formula-is-fed _ _ (omega arith) (omega arith))
 
 pub feed-spec : {M : Type 1} → statement M
 feed-spec = tie.close (tie.spec returns)

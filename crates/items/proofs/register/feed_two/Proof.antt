@@ -6,7 +6,8 @@ use Rattle.items.proofs.register.feed_two.Tie as tie
 
 returns : tie.Need-returns
 returns c =
-    two-byte-formula-is-fed-twice (c .args .register) (c .args .high) (c .args .low) (omega arith) (c .pre .0) (c .pre .1)
+    two-byte-formula-is-fed-twice (c .args .register) (c .args .high) (c .args .low) (omega arith) (c .pre .0)
+    (c .pre .1)
 
 pub feed-two-spec : {M : Type 1} → statement M
 feed-two-spec = tie.close (tie.spec returns)

@@ -13,7 +13,7 @@ use Rattle.lengths.proofs.table.length_between.Tie as tie
 
 zeros-take-little : {p : Profile} → Kept p → (zeros : ℕ) → zeros < 4 → zeros * p .t0 .0 ≤ 3 * 1023
 zeros-take-little {p} k zeros few =
-    let t0 : p .t0 .0 ≤ 1023 = omega (arith, k) in
+    let t0 : p .t0 .0 ≤ 1023 = omega arith in
     let three : zeros ≤ 3 = omega arith in
     mul-le-mul three t0
 
@@ -42,12 +42,9 @@ shifted-requires c κs =
     let k = kept _ (pre .0) in
     omega (
       arith,
-      k,
       zeros-take-little k _ (pre .1),
       answered-point-is-in-range k _ _ _ (c .before .before .before .point .ensures),
       answered-point-is-in-range k _ _ _ (c .before .before .point2 .ensures),
-      c .in-half-clocks2 .ensures,
-      c .before .in-half-clocks .ensures,
     )
 
 returns : tie.Need-returns

@@ -35,10 +35,7 @@ module _ (p : Profile) (old : List ℕ) where
   an-entry-more k h table n stored entry =
       let place : k ≡ 0 + k = omega arith in
       let inside : k < length (lengthTable p) = rw size h in
-      ap (λ (t : List ℕ). set t k n) stored
-      ∙ ap (λ (i : ℕ). set (begun k) i n) place
-      ∙ ap (set (begun k) (0 + k)) (entry ∙ sym (entry-is-rule (lengthAt p) 64 k 0 h))
-      ∙ stored-copies k 0 (lengthTable p) old 0 inside
+      cc (entry-is-rule (lengthAt p) 64 k 0 h, stored-copies k 0 (lengthTable p) old 0 inside)
 
   whole : length old ≡ 64 → (k : ℕ) → 64 ≤ k → begun k ≡ lengthTable p
   unfolding filled
@@ -46,22 +43,16 @@ module _ (p : Profile) (old : List ℕ) where
       let short : length (lengthTable p) ≤ k = rw size h in
       let fits : length (lengthTable p) ≤ length old = omega (arith, size) in
       let none : length old ≤ length (lengthTable p) = omega (arith, size) in
-      ap (storedAt old 0) (take-all k (lengthTable p) short)
-      ∙ stored-at-front-fills (lengthTable p) old fits
+      rw take-all
+      (stored-at-front-fills (lengthTable p) old fits
       ∙ ap (λ (l : List ℕ). lengthTable p ++ l) (drop-of-length-le old none)
-      ∙ append-nil (lengthTable p)
+      ∙ append-nil (lengthTable p))
 
 abbrev Inv-loop : tie.InvT-loop
 Inv-loop p table₀ k₀ table k = (k ≤ 64) × (table ≡ begun p table₀ k)
 
 abbrev μ-loop : tie.MeasureT-loop
 μ-loop p table₀ k₀ table k = 64 - k
-
-loop-holds : tie.Need-loop-holds Inv-loop μ-loop
-loop-holds c = (omega arith, sym (stored-none _ 0))
-
-length-between-requires : tie.Need-length-between-requires Inv-loop μ-loop
-length-between-requires c κs = (c .before .before .pre, omega arith)
 
 loop-again : tie.Need-loop-again Inv-loop μ-loop
 unfolding lengthAt
@@ -72,12 +63,11 @@ loop-again c =
     )
 
 returns : tie.Need-returns Inv-loop μ-loop
-returns c =
-    let head = c .before .loop in
-    head .inv .1 ∙ whole _ _ (length-replicate {A = ℕ} 64 0) (head .k) (c .loop-test .left)
+returns c = cc (whole _ _ (length-replicate {A = ℕ} 64 0) (c .before .loop .k) (c .loop-test .left))
 
 pub length-table-spec : {M : Type 1} → statement M
 length-table-spec =
     tie.close
-    (tie.spec Inv-loop μ-loop loop-holds (λ c. search needs) length-between-requires (λ c. search needs)
-    (λ c. search needs) (λ c. search needs) (λ c. search needs) (λ c. search needs) loop-again returns)
+    (tie.spec Inv-loop μ-loop (λ c. (omega arith, sym (stored-none _ 0))) (λ c. search needs)
+    (λ c κs. (c .before .before .pre, omega arith)) (λ c. search needs) (λ c. search needs) (λ c. search needs)
+    (λ c. search needs) (λ c. search needs) loop-again returns)

@@ -26,8 +26,7 @@ cast-t7 c =
     (shifted-reads-back _ _ _ (c .before .before .before .pre .0) (c .before .before .before .pre .1)) (tt, omega arith)
 
 returns : tie.Need-returns
-returns c =
-    ap natAbs (shifted-reads-back _ _ _ (c .before .before .before .pre .0) (c .before .before .before .pre .1))
+returns c = ap natAbs (shifted-reads-back _ _ _ (c .before .before .before .pre .0) (c .before .before .before .pre .1))
 
 pub shifted-spec : {M : Type 1} → statement M
 shifted-spec =

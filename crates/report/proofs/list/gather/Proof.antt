@@ -16,16 +16,13 @@ Inv-loop intervals cursor₀ rows₀ k₀ cursor rows k = Gathered cursor₀ int
 abbrev μ-loop : tie.MeasureT-loop
 μ-loop intervals cursor₀ rows₀ k₀ cursor rows k = length intervals - k
 
-loop-holds : tie.Need-loop-holds Inv-loop μ-loop
-loop-holds c = nothing-gathered _ _
-
 renew-requires : tie.Need-renew-requires Inv-loop μ-loop
 renew-requires c κs =
     let turn = c .before .before .before in
     let small : (i : ℕ) → getD (turn .before .before .args .intervals .now) i 0 ≤ 65535 =
     λ i. let known = c .before .shared-slice-known2 .given i in omega arith in
-    let more = c .before .before .loop-test .taken in
-    renewed-row-fits (turn .loop .inv) more (turn .before .before .pre) small (c .step .ensures)
+    renewed-row-fits (turn .loop .inv) (c .before .before .loop-test .taken) (turn .before .before .pre) small
+    (c .step .ensures)
 
 loop-again : tie.Need-loop-again Inv-loop μ-loop
 loop-again c =
@@ -33,11 +30,9 @@ loop-again c =
     gathered-by-step (turn .before .loop .inv) (turn .loop-test .taken) (c .before .before .step .ensures)
     (c .before .renew .ensures)
 
-returns : tie.Need-returns Inv-loop μ-loop
-returns c = gathered-all (c .before .loop .inv) (c .loop-test .left)
-
 pub gather-spec : {M : Type 1} → statement M
 gather-spec =
     tie.close
-    (tie.spec Inv-loop μ-loop loop-holds (λ c. search needs) (λ c. search needs) (λ c κs. search needs) renew-requires
-    (λ c. search needs) (λ c. search needs) loop-again returns)
+    (tie.spec Inv-loop μ-loop (λ c. nothing-gathered _ _) (λ c. search needs) (λ c. search needs) (λ c κs. search needs)
+    renew-requires (λ c. search needs) (λ c. search needs) loop-again
+    (λ c. gathered-all (c .before .loop .inv) (c .loop-test .left)))

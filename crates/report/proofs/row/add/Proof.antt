@@ -1,7 +1,7 @@
 -- Why `row::add` answers `addRow`: it goes by the definition's cases, and where no row is empty, counts and sums fit.
 -- Rests on no axiom.
 use Prim.Native.Nat.{_+_, _≤_}
-use mathlib.Core.Path.{_≡_, sym, ap, _∙_}
+use mathlib.Core.Path.{_≡_, sym}
 use mathlib.Core.Bool.{false}
 use native.Mathlib.Omega.{arith}
 use Rattle.report.specs.Row.{Row, countIn, sumIn, addRow, largest, isOverlarge}
@@ -17,7 +17,7 @@ both-fit
     → (countIn a ≡ 0 → ⊥)
     → (countIn b ≡ 0 → ⊥)
     → (countIn a + countIn b ≤ largest) × (sumIn a + sumIn b ≤ largest)
-both-fit a b fits e f = fitting-row (bothAdded a b) (ap isOverlarge (sym (no-row-is-empty a b e f)) ∙ fits)
+both-fit a b fits e f = fitting-row (bothAdded a b) (cc (no-row-is-empty a b e f))
 
 returns : tie.Need-returns
 returns c = sym (two-empty-rows _ _ (c .before .if1 .taken) (c .if2 .taken))
@@ -29,9 +29,7 @@ returns-3 : tie.Need-returns-3
 returns-3 c = sym (second-row-is-empty _ _ (c .before .if1 .left) (c .if3 .taken))
 
 add-t20 : tie.Need-add-t20
-add-t20 c =
-    let fit = both-fit _ _ (c .before .before .pre) (c .before .if1 .left) (c .if3 .left) .0 in
-    omega arith
+add-t20 c = let fit = both-fit _ _ (c .before .before .pre) (c .before .if1 .left) (c .if3 .left) .0 in omega arith
 
 add-t41 : tie.Need-add-t41
 add-t41 c =

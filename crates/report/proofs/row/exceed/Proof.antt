@@ -1,7 +1,7 @@
 -- Why `row::exceed` answers whether the sum would not fit: the test is the same with one number moved over. Rests on no
 -- axiom.
 use Prim.Native.Nat.{ℕ, _+_, _-_, _≤_}
-use mathlib.Core.Path.{_≡_, refl, sym, _∙_}
+use mathlib.Core.Path.{_≡_, refl}
 use mathlib.Core.Bool.{Bool, true, false}
 use native.Mathlib.Omega.{arith}
 use lib.Dec.{ltb}
@@ -13,8 +13,8 @@ use Rattle.report.proofs.row.exceed.Tie as tie
 
 moved-over
     : (a b : ℕ) → b ≤ largest → (t : Bool) → ltb (largest - b) a ≡ t → ltb (largest - b) a ≡ ltb largest (a + b)
-moved-over a b fits true e = e ∙ sym (lt-ltb largest (a + b) (let h = ltb-true (largest - b) a e in omega arith))
-moved-over a b fits false e = e ∙ sym (le-ltb largest (a + b) (let h = ltb-false (largest - b) a e in omega arith))
+moved-over a b fits true e = cc (lt-ltb largest (a + b) (let h = ltb-true (largest - b) a e in omega arith))
+moved-over a b fits false e = cc (le-ltb largest (a + b) (let h = ltb-false (largest - b) a e in omega arith))
 
 returns : tie.Need-returns
 returns c =

@@ -10,9 +10,9 @@ use Rattle.report.proofs.row.overflows.Tie as tie
 
 returns : tie.Need-returns
 returns c =
-    let counts = c .before .before .exceed .ensures in
-    let sums = c .before .exceed2 .ensures in
-    sym (fits-if-first-is-empty _ _ (c .if1 .taken) (counts .second-fits) (sums .second-fits))
+    sym
+    (fits-if-first-is-empty _ _ (c .if1 .taken) (c .before .before .exceed .ensures .second-fits)
+    (c .before .exceed2 .ensures .second-fits))
 
 returns-2 : tie.Need-returns-2
 returns-2 c =
@@ -23,9 +23,8 @@ returns-2 c =
 returns-3 : tie.Need-returns-3
 unfolding isOverlarge
 returns-3 c =
-    let counts = c .before .before .before .exceed .ensures in
-    let sums = c .before .before .exceed2 .ensures in
-    ap₂ (λ (s t : Bool). s || t) (counts .sum) (sums .sum)
+    ap₂ (λ (s t : Bool). s || t) (c .before .before .before .exceed .ensures .sum)
+    (c .before .before .exceed2 .ensures .sum)
     ∙ ap isOverlarge (sym (no-row-is-empty _ _ (c .before .if1 .left) (c .if2 .left)))
 
 pub overflows-spec : {M : Type 1} → statement M

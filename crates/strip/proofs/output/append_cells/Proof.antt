@@ -37,10 +37,7 @@ the-cell : (c : tie.After-step Inv-loop μ-loop)
     let stream = turn .before .before .before .before .args .stream .now in
     cellText (turn .loop .place) (c .step .result .class) (getD stream (turn .loop .place) 0)
     ≡ cellHere (turn .loop .cursor) (turn .loop .place) stream
-the-cell c =
-    let turn = c .before .before .before in
-    let stream = turn .before .before .before .before .args .stream .now in
-    ap (λ (r : Classed). cellText (turn .loop .place) (r .class) (getD stream (turn .loop .place) 0)) (c .step .ensures)
+the-cell c = let turn = c .before .before .before in rw (c .step .ensures)
 
 -- its length
 next-length : (c : tie.In-loop Inv-loop μ-loop)
@@ -48,26 +45,12 @@ next-length : (c : tie.In-loop Inv-loop μ-loop)
     let stream = c .before .before .before .before .before .args .stream .now in
     length (cellsLeft (at .cursor) (at .place) stream)
     ≡ length (cellHere (at .cursor) (at .place) stream) + length (cellsAfter (at .cursor) (at .place) stream)
-next-length c =
-    cells-length-next (c .before .loop .cursor) (c .before .before .before .before .before .args .stream .now)
-    (c .before .loop .place) (c .loop-test .taken)
-
-loop-holds : tie.Need-loop-holds Inv-loop μ-loop
-loop-holds c = (omega arith, refl, refl, refl)
+next-length c = cells-length-next _ _ _ (c .loop-test .taken)
 
 append-cell-requires : tie.Need-append-cell-requires Inv-loop μ-loop
 append-cell-requires c κs =
     let turn = c .before .before .before in
-    let at = turn .before in
-    rw (the-cell (c .before))
-    (omega (
-      arith,
-      next-length turn,
-      ap length (the-text (at .before)),
-      at .loop .inv .1,
-      at .loop .inv .2,
-      at .before .before .before .before .pre,
-    ))
+    rw (the-cell (c .before)) (omega (arith, next-length turn, ap length (the-text (turn .before .before))))
 
 loop-again : tie.Need-loop-again Inv-loop μ-loop
 loop-again c =
@@ -79,35 +62,24 @@ loop-again c =
     let next = ap (λ (r : Classed). r .next) (stepped .step .ensures) in
     rw (next, add-one (at .loop .place)) (
       turn .loop-test .taken,
-      call .kept .1 .1 .1 .0 ∙ at .loop .inv .1,
-      omega (
-        arith,
-        next-length turn,
-        ap length cell,
-        call .ensures .0,
-        at .loop .inv .2,
-      ),
+      cc,
+      omega (arith, next-length turn, ap length cell),
       rw (call .ensures .1, cell)
           (cells-stored-next _ _ _ (turn .loop-test .taken) (at .loop .out) (at .loop .end) _
           (rw cell at (call .ensures .0))
           ∙ at .loop .inv .3),
     )
 
-same-length : tie.Need-same-length Inv-loop μ-loop
-same-length c = c .before .loop .inv .1
-
 returns : tie.Need-returns Inv-loop μ-loop
 returns c =
     let at = c .before in
     let stream = at .before .before .before .before .args .stream .now in
     let none = no-cells-left (at .loop .cursor) stream (at .loop .place) (c .loop-test .left) in
-    rw (← the-text (at .before)) (
-      omega (arith, ap length none, at .loop .inv .2),
-      sym (stored-none _ _) ∙ rw none at (at .loop .inv .3),
-    )
+    rw (← the-text (at .before)) (omega (arith, ap length none), sym (stored-none _ _) ∙ rw none at (at .loop .inv .3))
 
 pub append-cells-spec : {M : Type 1} → statement M
 append-cells-spec =
     tie.close
-    (tie.spec Inv-loop μ-loop (λ c κs. search needs) loop-holds (λ c. search needs) (λ c. omega arith)
-    (λ c κs. search needs) append-cell-requires (λ c. omega arith) (λ c. omega arith) loop-again same-length returns)
+    (tie.spec Inv-loop μ-loop (λ c κs. search needs) (λ c. (omega arith, refl, refl, refl)) (λ c. search needs)
+    (λ c. omega arith) (λ c κs. search needs) append-cell-requires (λ c. omega arith) (λ c. omega arith) loop-again
+    (λ c. c .before .loop .inv .1) returns)

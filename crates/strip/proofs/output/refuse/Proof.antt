@@ -20,8 +20,7 @@ fits : (c : tie.After-place)
     → let refusal = c .before .before .before .args .refusal in
     length (refusalText (refused (numberOf refusal) (placeOf refusal))) ≤ outputLength
 fits c =
-    refusal-fits _
-    (omega (arith, c .before .number .ensures, c .before .number .ok))
+    refusal-fits _ (omega (arith, c .before .number .ensures, c .before .number .ok))
     (omega (arith, c .place .ensures, c .place .ok))
 
 the-text : (c : tie.After-place)
@@ -33,18 +32,14 @@ the-text c = rw (c .before .number .ensures, c .place .ensures)
 
 append-line-requires : tie.Need-append-line-requires
 append-line-requires c κs =
-    let placed = c .before .before .before in
-    omega (arith, ap length (the-text placed), fits placed, placed .before .before .before .pre)
+    let placed = c .before .before .before in omega (arith, ap length (the-text placed), fits placed)
 
 returns : tie.Need-returns
 returns c =
     let placed = c .before .before .before .before .before .before in
     let line = c .before .before .append-line in
-    let start = placed .before .before .before in
-    printed-at-front _ (start .args .out .now) _ _
-    (rw (the-text placed) at (line .ensures .0))
-    (rw (the-text placed) at (line .ensures .1))
-    (omega (arith, fits placed, start .pre))
+    printed-at-front _ (placed .before .before .before .args .out .now) _ _ (rw (the-text placed) at (line .ensures .0))
+    (rw (the-text placed) at (line .ensures .1)) (omega (arith, fits placed))
 
 pub refuse-spec : {M : Type 1} → statement M
 refuse-spec =

@@ -28,31 +28,13 @@ room c =
       c .before .pre .1,
     )
 
-append-line-requires : tie.Need-append-line-requires
-append-line-requires c κs = omega (arith, room (c .before .before .before .before))
-
 append-cells-requires : tie.Need-append-cells-requires
-append-cells-requires c κs =
-    let margin = c .before .before .before in
-    omega (
-      arith,
-      room (margin .before .before .before .before .before),
-      margin .append-line .ensures .0,
-      margin .append-line .kept .0,
-    )
+append-cells-requires c κs = omega (arith, room (c .before .before .before .before .before .before .before .before))
 
 append-line-requires-2 : tie.Need-append-line-requires-2
 append-line-requires-2 c κs =
     let cells = c .before .before .before .before .before in
-    let margin = cells .before .before .before .before in
-    omega (
-      arith,
-      room (margin .before .before .before .before .before),
-      margin .append-line .ensures .0,
-      margin .append-line .kept .0,
-      cells .append-cells .ensures .0,
-      cells .append-cells .kept .1 .1 .0,
-    )
+    omega (arith, room (cells .before .before .before .before .before .before .before .before .before))
 
 returns : tie.Need-returns
 returns c =
@@ -62,15 +44,13 @@ returns c =
     let known = margin .before .before .before .before .before in
     let args = known .before .args in
     let size = report-length (args .profile) (args .margin) (args .stream .now) in
-    printed-at-front _ (args .out .now) _ _
-    (omega (arith, end .ensures .0, cells .append-cells .ensures .0, margin .append-line .ensures .0))
+    printed-at-front _ (args .out .now) _ _ (omega (arith, end .ensures .0, margin .append-line .ensures .0))
     (rw (end .ensures .1, cells .append-cells .ensures .1, margin .append-line .ensures .1)
     (report-stored (args .profile) (args .margin) (args .stream .now) (args .out .now) _ _
-    (margin .append-line .ensures .0) (cells .append-cells .ensures .0)))
-    (omega (arith, room known))
+    (margin .append-line .ensures .0) (cells .append-cells .ensures .0))) (omega (arith, room known))
 
 pub report-spec : {M : Type 1} → statement M
 report-spec =
     tie.close
-    (tie.spec (λ c. search needs) (λ c. search needs) append-line-requires append-cells-requires (λ c. search needs)
-    (λ c. search needs) append-line-requires-2 (λ c. search needs) returns)
+    (tie.spec (λ c. search needs) (λ c. search needs) (λ c κs. omega (arith, room (c .before .before .before .before)))
+    append-cells-requires (λ c. search needs) (λ c. search needs) append-line-requires-2 (λ c. search needs) returns)

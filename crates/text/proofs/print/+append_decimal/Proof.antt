@@ -1,12 +1,10 @@
 -- Why `text::append_decimal` stores the decimal: the last digit goes after those of the number without it, which is
 -- less. Rests on no axiom.
-use Prim.Native.Nat.{ℕ, _<_, _/_, _%_}
+use Prim.Native.Nat.{ℕ, _<_}
 use mathlib.Core.Path.{sym, _∙_}
-use mathlib.Core.List.{[], _∷_}
 use native.Mathlib.Omega.{arith}
 use lib.ListN.{length-set}
 use Rattle.lists.proofs.StoreLaws.{stored-one, stored-after-stored}
-use Rattle.text.specs.Decimal.{digit, decimal}
 use Rattle.text.proofs.PrintLaws.{decimal-of-digit, decimal-of-more, decimal-length-of-digit}
 use Rattle.text.proofs.PrintLaws.{decimal-length-of-more}
 use borrow.Fn.Kinds.{In}
@@ -50,9 +48,8 @@ returns t c = (
 
 append-decimal-requires : (t : ℕ) → lts.Need-append-decimal-requires (asked t, reads.Post) (given t) reads.Post
 append-decimal-requires t c κs =
-    let start = c .before .before .before in
     let shorter = decimal-length-of-more _ (c .before .if1 .left) in
-    (omega arith, omega (arith, start .pre .1))
+    (omega arith, omega (arith, c .before .before .before .pre .1))
 
 cast-out-2 : (t : ℕ) → lts.Need-cast-out-2 (asked t, reads.Post) (given t) reads.Post
 cast-out-2 t c = omega arith
@@ -62,17 +59,13 @@ add-out-2 t c = omega arith
 
 slice-write-out-2 : (t : ℕ) → lts.Need-slice-write-out-2 (asked t, reads.Post) (given t) reads.Post
 slice-write-out-2 t c =
-    let start = c .before .before .before .before in
-    let shorter = decimal-length-of-more _ (start .if1 .left) in
-    let call = c .before .before .append-decimal in
-    omega (arith, start .before .before .pre .1, call .ensures .0, call .kept .0)
+    let shorter = decimal-length-of-more _ (c .before .before .before .before .if1 .left) in
+    omega (arith, c .before .before .append-decimal .kept .0)
 
 add-result-2 : (t : ℕ) → lts.Need-add-result-2 (asked t, reads.Post) (given t) reads.Post
 add-result-2 t c =
     let start = c .before .before .before .before in
-    let shorter = decimal-length-of-more _ (start .if1 .left) in
-    let call = c .before .before .append-decimal in
-    omega (arith, start .before .before .pre .1, call .ensures .0)
+    let shorter = decimal-length-of-more _ (start .if1 .left) in omega (arith, start .before .before .pre .1)
 
 same-length-2 : (t : ℕ) → lts.Need-same-length-2 (asked t, reads.Post) (given t) reads.Post
 same-length-2 t c = simp length-set (c .before .before .append-decimal .kept .0)
@@ -80,30 +73,17 @@ same-length-2 t c = simp length-set (c .before .before .append-decimal .kept .0)
 returns-2 : (t : ℕ) → lts.Need-returns-2 (asked t, reads.Post) (given t) reads.Post
 returns-2 t c =
     let start = c .before .before .before .before in
-    let args = start .before .before .args in
     let shorter = decimal-length-of-more _ (start .if1 .left) in
     let call = c .before .before .append-decimal in (
       omega (arith, call .ensures .0),
-      sym (stored-one (call .last .0) (call .result) (digit (args .n % 10)))
-          ∙ rw (call .ensures .1, decimal-of-more _ (start .if1 .left))
-          (stored-after-stored (decimal (args .n / 10)) (digit (args .n % 10) ∷ []) (args .out .now) (args .at) _
-          (call .ensures .0)),
+      sym (stored-one (call .last .0) (call .result) _)
+          ∙ rw (call .ensures .1, decimal-of-more _ (start .if1 .left)) (stored-after-stored _ _ _ _ _ (call .ensures .0)),
     )
 
 pub +append-decimal-spec : {M : Type 1} → statement M
 +append-decimal-spec =
     close μ
-    (λ t. lts.spec (asked t, reads.Post) (given t) reads.Post
-    (cast-out t)
-    (add-out t)
-    (slice-write-out t)
-    (add-result t)
-    (same-length t)
-    (returns t)
-    (append-decimal-requires t)
-    (cast-out-2 t)
-    (add-out-2 t)
-    (slice-write-out-2 t)
-    (add-result-2 t)
-    (same-length-2 t)
-    (returns-2 t))
+    (λ t.
+    lts.spec (asked t, reads.Post) (given t) reads.Post (cast-out t) (add-out t) (slice-write-out t) (add-result t)
+    (same-length t) (returns t) (append-decimal-requires t) (cast-out-2 t) (add-out-2 t) (slice-write-out-2 t)
+    (add-result-2 t) (same-length-2 t) (returns-2 t))

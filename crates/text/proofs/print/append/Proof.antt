@@ -17,13 +17,9 @@ Inv-loop out₀ at text i₀ out i =
 abbrev μ-loop : tie.MeasureT-loop
 μ-loop out₀ at text i₀ out i = length text - i
 
-loop-holds : tie.Need-loop-holds Inv-loop μ-loop
-loop-holds c = (omega arith, refl, rw add-zero)
-
 loop-again : tie.Need-loop-again Inv-loop μ-loop
 loop-again c =
-    let at = c .before .before in
-    let a = at .before .args in (
+    let at = c .before .before in (
       omega arith,
       simp length-set (at .loop .inv .1),
       rw add-one (stored-rest _ _ _ _ 0 (c .before .loop-test .taken) ∙ at .loop .inv .2),
@@ -38,5 +34,5 @@ returns c =
 pub append-spec : {M : Type 1} → statement M
 append-spec =
     tie.close
-    (tie.spec Inv-loop μ-loop loop-holds (λ c. omega arith) (λ c. omega arith) (λ c. omega arith) (λ c. omega arith)
-    (λ c. omega arith) loop-again (λ c. omega arith) (λ c. omega arith) returns)
+    (tie.spec Inv-loop μ-loop (λ c. (omega arith, refl, rw add-zero)) (λ c. omega arith) (λ c. omega arith)
+    (λ c. omega arith) (λ c. omega arith) (λ c. omega arith) loop-again (λ c. omega arith) (λ c. omega arith) returns)

@@ -31,38 +31,17 @@ next : (c : tie.In-loop Inv-loop μ-loop)
     length (fieldsOf (drop (c .before .loop .i) numbers))
     ≡ 1 + length (decimal (getD numbers (c .before .loop .i) 0)) + length
     (fieldsOf (drop (suc (c .before .loop .i)) numbers))
-next c =
-    fields-length-next (c .before .before .before .before .args .numbers .now) (c .before .loop .i)
-    (c .loop-test .taken)
-
-loop-holds : tie.Need-loop-holds Inv-loop μ-loop
-loop-holds c = (omega arith, refl, refl, refl)
-
-slice-write-out : tie.Need-slice-write-out Inv-loop μ-loop
-slice-write-out c = omega (arith, next c)
-
-add-append-decimal : tie.Need-add-append-decimal Inv-loop μ-loop
-add-append-decimal c = omega (arith, next (c .before))
-
-append-decimal-requires : tie.Need-append-decimal-requires Inv-loop μ-loop
-append-decimal-requires c κs = simp length-set (omega (arith, next (c .before .before)))
+next c = fields-length-next _ _ (c .loop-test .taken)
 
 loop-again : tie.Need-loop-again Inv-loop μ-loop
 loop-again c =
     let turn = c .before .before .before .before .before in
-    let at = turn .before in
-    let call = c .before .before .append-decimal in
-    let args = at .before .before .before .args in (
+    let call = c .before .before .append-decimal in (
       omega arith,
-      call .kept .0 ∙ simp length-set (at .loop .inv .1),
-      rw add-one (omega (arith, next turn, call .ensures .0)),
-      rw (add-one, call .ensures .1, call .ensures .0)
-          (fields-stored-next (args .numbers .now) (at .loop .i) (turn .loop-test .taken) _ (at .loop .end)
-          ∙ at .loop .inv .3),
+      call .kept .0 ∙ simp length-set (turn .before .loop .inv .1),
+      rw add-one (omega (arith, next turn)),
+      rw (add-one, call .ensures .1, call .ensures .0) (cc (fields-stored-next _ _ (turn .loop-test .taken) _ _)),
     )
-
-same-length : tie.Need-same-length Inv-loop μ-loop
-same-length c = c .before .loop .inv .1
 
 returns : tie.Need-returns Inv-loop μ-loop
 unfolding fieldsOf
@@ -74,5 +53,7 @@ returns c =
 pub append-fields-spec : {M : Type 1} → statement M
 append-fields-spec =
     tie.close
-    (tie.spec Inv-loop μ-loop loop-holds slice-write-out add-append-decimal (λ c. search needs) (λ c. omega arith)
-    append-decimal-requires (λ c. omega arith) (λ c. omega arith) loop-again same-length returns)
+    (tie.spec Inv-loop μ-loop (λ c. (omega arith, refl, refl, refl)) (λ c. omega (arith, next c))
+    (λ c. omega (arith, next (c .before))) (λ c. search needs) (λ c. omega arith)
+    (λ c κs. simp length-set (omega (arith, next (c .before .before)))) (λ c. omega arith) (λ c. omega arith) loop-again
+    (λ c. c .before .loop .inv .1) returns)

@@ -15,27 +15,13 @@ room : (c : tie.Start)
     (c .args .out .now)
 room c = rw line-length at (c .pre)
 
-append-requires : tie.Need-append-requires
-append-requires c κs = omega (arith, room (c .before .before .before .before))
-
 append-fields-requires : tie.Need-append-fields-requires
-append-fields-requires c κs =
-    let word = c .before .before .before .append in
-    omega
-    (arith, room (c .before .before .before .before .before .before .before .before), word .ensures .0, word .kept .0)
+append-fields-requires c κs = omega (arith, room (c .before .before .before .before .before .before .before .before))
 
 append-requires-2 : tie.Need-append-requires-2
 append-requires-2 c κs =
-    let fields = c .before .before .before .before in
-    let word = fields .before .before .before .before in
-    omega (
-      arith,
-      room (word .before .before .before .before .before),
-      word .append .ensures .0,
-      word .append .kept .0,
-      fields .append-fields .ensures .0,
-      fields .append-fields .kept .0,
-    )
+    let word = c .before .before .before .before .before .before .before .before in
+    omega (arith, room (word .before .before .before .before .before))
 
 returns : tie.Need-returns
 returns c =
@@ -44,19 +30,18 @@ returns c =
     let word = fields .before .before .before .before in
     let args = word .before .before .before .before .before .args in
     let length-of = line-length (args .word .now) (args .numbers .now) in (
-      omega (arith, end .ensures .0, fields .append-fields .ensures .0, word .append .ensures .0),
+      omega (arith, end .ensures .0),
       rw (
         end .ensures .1,
         fields .append-fields .ensures .1,
         fields .append-fields .ensures .0,
         word .append .ensures .1,
         word .append .ensures .0,
-      )
-          (line-stored (args .word .now) (args .numbers .now) (args .out .now) (args .at)),
+      ) (line-stored _ _ _ _),
     )
 
 pub append-line-spec : {M : Type 1} → statement M
 append-line-spec =
     tie.close
-    (tie.spec append-requires append-fields-requires (λ c. search needs) append-requires-2 (λ c. search needs)
-    returns)
+    (tie.spec (λ c κs. omega (arith, room (c .before .before .before .before))) append-fields-requires
+    (λ c. search needs) append-requires-2 (λ c. search needs) returns)

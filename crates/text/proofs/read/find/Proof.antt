@@ -2,7 +2,7 @@
 -- place reached. Rests on no axiom.
 use Prim.Native.Nat.{ℕ, _+_, _-_}
 use mathlib.Core.Path.{_≡_, refl, ap}
-use mathlib.Core.List.{List, []}
+use mathlib.Core.List.{List}
 use native.Mathlib.Numerals.{add-one}
 use native.Mathlib.Omega.{arith}
 use lib.ListN.{length, drop, drop-of-length-le}
@@ -17,9 +17,6 @@ Inv-loop text from separator at₀ at =
 
 abbrev μ-loop : tie.MeasureT-loop
 μ-loop text from separator at₀ at = length text - at
-
-loop-holds : tie.Need-loop-holds Inv-loop μ-loop
-loop-holds c = refl
 
 returns : tie.Need-returns Inv-loop μ-loop
 returns c =
@@ -40,19 +37,18 @@ loop-again c =
     (omega (
       arith,
       ap length
-          (up-to-at-other (a .separator) (a .text .now) (h .loop .at) (c .before .before .loop-test .taken)
-          (c .if1 .left)),
+          (up-to-at-other (a .separator) (a .text .now) (h .loop .at) (c .before .before .loop-test .taken) (c .if1 .left)),
     ))
 
 returns-2 : tie.Need-returns-2 Inv-loop μ-loop
 unfolding upTo
 returns-2 c =
     let a = c .before .before .args in
-    let e : drop (c .before .loop .at) (a .text .now) ≡ [] = drop-of-length-le (a .text .now) (c .loop-test .left) in
+    let e = drop-of-length-le (a .text .now) (c .loop-test .left) in
     omega (arith, ap (λ (l : List ℕ). length (upTo (a .separator) l)) e)
 
 pub find-spec : {M : Type 1} → statement M
 find-spec =
     tie.close
-    (tie.spec Inv-loop μ-loop loop-holds (λ c. omega arith) returns (λ c. omega arith) (λ c. omega arith) loop-again
+    (tie.spec Inv-loop μ-loop (λ c. refl) (λ c. omega arith) returns (λ c. omega arith) (λ c. omega arith) loop-again
     returns-2)

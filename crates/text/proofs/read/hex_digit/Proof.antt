@@ -6,20 +6,10 @@ use borrow.Author.Needs.{needs}
 use Rattle.text.proofs.read.hex_digit.Statement.{statement}
 use Rattle.text.proofs.read.hex_digit.Tie as tie
 
-returns : tie.Need-returns
-returns c = sym (hex-below-0 _ (c .if1 .taken))
-
-returns-2 : tie.Need-returns-2
-returns-2 c = sym (hex-0-to-9 _ (c .before .if1 .left) (c .if2 .taken))
-
-returns-3 : tie.Need-returns-3
-returns-3 c = sym (hex-above-9 _ (c .before .if2 .left) (c .if3 .taken))
-
-returns-4 : tie.Need-returns-4
-returns-4 c = sym (hex-A-to-F _ (c .before .if3 .left) (c .if4 .taken))
-
-returns-5 : tie.Need-returns-5
-returns-5 c = sym (hex-above-F _ (c .if4 .left))
-
 pub hex-digit-spec : {M : Type 1} → statement M
-hex-digit-spec = tie.close (tie.spec returns returns-2 returns-3 (λ c. search needs) returns-4 returns-5)
+hex-digit-spec =
+    tie.close
+    (tie.spec (λ c. sym (hex-below-0 _ (c .if1 .taken)))
+    (λ c. sym (hex-0-to-9 _ (c .before .if1 .left) (c .if2 .taken)))
+    (λ c. sym (hex-above-9 _ (c .before .if2 .left) (c .if3 .taken))) (λ c. search needs)
+    (λ c. sym (hex-A-to-F _ (c .before .if3 .left) (c .if4 .taken))) (λ c. sym (hex-above-F _ (c .if4 .left))))

@@ -7,14 +7,9 @@ use Rattle.text.proofs.DecimalLaws.{no-leading-zero-of-none, no-leading
 use Rattle.text.proofs.read.no_leading_zero.Statement.{statement}
 use Rattle.text.proofs.read.no_leading_zero.Tie as tie
 
-returns : tie.Need-returns
-returns c = sym (no-leading-zero-of-none _ (c .if1 .taken))
-
-returns-2 : tie.Need-returns-2
-returns-2 c = sym (no-leading-zero-of-one _ (c .if2 .taken))
-
-returns-3 : tie.Need-returns-3
-returns-3 c = sym (no-leading-zero-of-more _ (omega arith))
-
 pub no-leading-zero-spec : {M : Type 1} → statement M
-no-leading-zero-spec = tie.close (tie.spec returns returns-2 (λ c. search needs) returns-3)
+no-leading-zero-spec =
+    tie.close
+    (tie.spec (λ c. sym (no-leading-zero-of-none _ (c .if1 .taken)))
+    (λ c. sym (no-leading-zero-of-one _ (c .if2 .taken))) (λ c. search needs)
+    (λ c. sym (no-leading-zero-of-more _ (omega arith))))

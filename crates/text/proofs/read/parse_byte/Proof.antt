@@ -8,28 +8,23 @@ use borrow.Author.Needs.{needs}
 use Rattle.text.proofs.read.parse_byte.Statement.{statement}
 use Rattle.text.proofs.read.parse_byte.Tie as tie
 
-returns : tie.Need-returns
-returns c = sym (byte-of-other-length _ (c .if1 .taken))
-
 returns-2 : tie.Need-returns-2
 returns-2 c =
     let start = c .before .before .before .before .before in
     let two = byte-of-two (start .before .before .args .field .now) (start .if1 .left) in
-    let high = c .before .before .before .hex-digit .ensures in
-    rw (two, ← high, le-ltb (c .before .before .before .hex-digit .result) 16 (c .if2 .taken))
+    let high = c .before .before .before .hex-digit .ensures in rw (two, ← high, le-ltb _ 16 (c .if2 .taken))
 
 returns-3 : tie.Need-returns-3
 returns-3 c =
     let start = c .before .before .before .before .before .before in
     let two = byte-of-two (start .before .before .args .field .now) (start .if1 .left) in
     let high = c .before .before .before .before .hex-digit .ensures in
-    let low = c .before .before .hex-digit2 .ensures in
     rw (
       two,
       ← high,
-      ← low,
+      ← (c .before .before .hex-digit2 .ensures),
       lt-ltb (c .before .before .before .before .hex-digit .result) 16 (omega arith),
-      le-ltb (c .before .before .hex-digit2 .result) 16 (c .if3 .taken),
+      le-ltb _ 16 (c .if3 .taken),
     )
 
 returns-4 : tie.Need-returns-4
@@ -37,11 +32,10 @@ returns-4 c =
     let start = c .before .before .before .before .before .before in
     let two = byte-of-two (start .before .before .args .field .now) (start .if1 .left) in
     let high = c .before .before .before .before .hex-digit .ensures in
-    let low = c .before .before .hex-digit2 .ensures in
     rw (
       two,
       ← high,
-      ← low,
+      ← (c .before .before .hex-digit2 .ensures),
       lt-ltb (c .before .before .before .before .hex-digit .result) 16 (omega arith),
       lt-ltb (c .before .before .hex-digit2 .result) 16 (omega arith),
     )
@@ -49,5 +43,5 @@ returns-4 c =
 pub parse-byte-spec : {M : Type 1} → statement M
 parse-byte-spec =
     tie.close
-    (tie.spec returns (λ c. search needs) (λ c κs. search needs) (λ c. search needs) (λ c κs. search needs) returns-2
-    returns-3 (λ c. search needs) (λ c. search needs) returns-4)
+    (tie.spec (λ c. sym (byte-of-other-length _ (c .if1 .taken))) (λ c. search needs) (λ c κs. search needs)
+    (λ c. search needs) (λ c κs. search needs) returns-2 returns-3 (λ c. search needs) (λ c. search needs) returns-4)

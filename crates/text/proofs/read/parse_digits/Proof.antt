@@ -1,7 +1,7 @@
 -- Why `text::parse_digits` answers `digitsRead`: at each place the answer is that of the digits left after the number
 -- so far. Rests on no axiom.
 use Prim.Native.Nat.{ℕ, suc, _≤_, _<_, _-_}
-use mathlib.Core.Path.{_≡_, sym, _∙_, ap}
+use mathlib.Core.Path.{_≡_, sym, _∙_}
 use mathlib.Core.List.{List, _∷_}
 use native.Mathlib.Numerals.{add-one}
 use native.Mathlib.Omega.{arith}
@@ -23,10 +23,7 @@ abbrev μ-loop : tie.MeasureT-loop
 -- the digit at place i and those after it
 module _ (s : List ℕ) (i value : ℕ) (h : i < length s) (inv : digitsAfter value (drop i s) ≡ digitsRead s) where
   next-digit : digitsRead s ≡ digitsAfter value (getD s i 0 ∷ drop (suc i) s)
-  next-digit = sym inv ∙ ap (digitsAfter value) (drop-cons s i 0 h)
-
-loop-holds : tie.Need-loop-holds Inv-loop μ-loop
-loop-holds c = (omega arith, omega arith, digits-after-none _)
+  next-digit = cc (drop-cons s i 0 h)
 
 returns : tie.Need-returns Inv-loop μ-loop
 returns c =
@@ -35,41 +32,35 @@ returns c =
 
 returns-2 : tie.Need-returns-2 Inv-loop μ-loop
 returns-2 c =
-    let at = c .before .before .before .before in
     sym
-    (next-digit _ _ _ (c .before .before .before .loop-test .taken) (at .loop .inv .2)
+    (next-digit _ _ _ (c .before .before .before .loop-test .taken) (c .before .before .before .before .loop .inv .2)
     ∙ digits-above _ _ _ (c .if2 .taken))
 
 returns-3 : tie.Need-returns-3 Inv-loop μ-loop
 returns-3 c =
-    let at = c .before .before .before .before .before in
     sym
-    (next-digit _ _ _ (c .before .before .before .before .loop-test .taken) (at .loop .inv .2)
+    (next-digit _ _ _ (c .before .before .before .before .loop-test .taken)
+    (c .before .before .before .before .before .loop .inv .2)
     ∙ digits-at-digit _ _ _ (c .before .before .if1 .left) (c .before .if2 .left)
     ∙ digits-too-large _ _ (c .if3 .taken))
 
 loop-again : tie.Need-loop-again Inv-loop μ-loop
-loop-again c =
-    let at = c .before .before .before .before .before in (
-      omega arith,
-      c .if3 .left,
-      rw add-one
-          (sym
-          (next-digit _ _ _ (c .before .before .before .before .loop-test .taken) (at .loop .inv .2)
-          ∙ digits-at-digit _ _ _ (c .before .before .if1 .left) (c .before .if2 .left))),
-    )
+loop-again c = (
+  omega arith,
+  c .if3 .left,
+  rw add-one
+      (sym
+      (next-digit _ _ _ (c .before .before .before .before .loop-test .taken)
+      (c .before .before .before .before .before .loop .inv .2)
+      ∙ digits-at-digit _ _ _ (c .before .before .if1 .left) (c .before .if2 .left))),
+)
 
 returns-4 : tie.Need-returns-4 Inv-loop μ-loop
-returns-4 c =
-    let at = c .before in
-    let field = at .before .args .field .now in
-    sym
-    (sym (at .loop .inv .2)
-    ∙ ap (digitsAfter (at .loop .value)) (drop-of-length-le field (c .loop-test .left))
-    ∙ digits-at-the-end _ (at .loop .inv .1))
+returns-4 c = cc (drop-of-length-le _ (c .loop-test .left), digits-at-the-end _ (c .before .loop .inv .1))
 
 pub parse-digits-spec : {M : Type 1} → statement M
 parse-digits-spec =
     tie.close
-    (tie.spec Inv-loop μ-loop loop-holds (λ c. omega arith) returns returns-2 (λ c. omega arith) (λ c. omega arith)
-    (λ c. omega arith) returns-3 (λ c. omega arith) (λ c. omega arith) loop-again (λ c. omega arith) returns-4)
+    (tie.spec Inv-loop μ-loop (λ c. (omega arith, omega arith, digits-after-none _)) (λ c. omega arith) returns
+    returns-2 (λ c. omega arith) (λ c. omega arith) (λ c. omega arith) returns-3 (λ c. omega arith) (λ c. omega arith)
+    loop-again (λ c. omega arith) returns-4)

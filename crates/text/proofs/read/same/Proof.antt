@@ -17,12 +17,6 @@ Inv-loop a b i₀ i = (i ≤ length a) × (length a ≡ length b) × (sameText (
 abbrev μ-loop : tie.MeasureT-loop
 μ-loop a b i₀ i = length a - i
 
-returns : tie.Need-returns Inv-loop μ-loop
-returns c = sym (same-of-other-length _ _ (c .if1 .taken))
-
-loop-holds : tie.Need-loop-holds Inv-loop μ-loop
-loop-holds c = (omega arith, c .if1 .left, refl)
-
 returns-2 : tie.Need-returns-2 Inv-loop μ-loop
 returns-2 c =
     let h = c .before .before .before .before in
@@ -45,12 +39,12 @@ returns-3 c =
     rw (
       ← h .loop .inv .2,
       drop-of-length-le (a .a .now) (c .loop-test .left),
-      drop-of-length-le (a .b .now) {i =
-          h .loop .i} (omega arith),
+      drop-of-length-le (a .b .now) {i = h .loop .i} (omega arith),
     )
 
 pub same-spec : {M : Type 1} → statement M
 same-spec =
     tie.close
-    (tie.spec Inv-loop μ-loop returns loop-holds (λ c. omega arith) (λ c. omega arith) returns-2 (λ c. omega arith)
+    (tie.spec Inv-loop μ-loop (λ c. sym (same-of-other-length _ _ (c .if1 .taken)))
+    (λ c. (omega arith, c .if1 .left, refl)) (λ c. omega arith) (λ c. omega arith) returns-2 (λ c. omega arith)
     (λ c. omega arith) loop-again returns-3)

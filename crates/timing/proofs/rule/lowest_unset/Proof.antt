@@ -1,8 +1,7 @@
 -- Why `timing::lowest_unset` answers `lowestUnset`: the scan keeps what is still to be found; a number that is out ends
 -- it at its place, and one that is inside moves it on. Rests on no axiom.
-use Prim.Native.Nat.{ℕ, _≤_, _<_, _-_}
-use mathlib.Core.Path.{_≡_, refl, sym, ap, _∙_}
-use mathlib.Core.List.{List}
+use Prim.Native.Nat.{_≤_, _<_, _-_}
+use mathlib.Core.Path.{_≡_, refl, ap}
 use native.Mathlib.Numerals.{add-one}
 use lib.ListN.{length}
 use borrow.Author.Needs.{needs}
@@ -25,9 +24,6 @@ Inv-loop numbers table k₀ k =
 abbrev μ-loop : tie.MeasureT-loop
 μ-loop numbers table k₀ k = profileNumbers - k
 
-loop-holds : tie.Need-loop-holds Inv-loop μ-loop
-loop-holds c = (refl, search needs, refl)
-
 returns : tie.Need-returns Inv-loop μ-loop
 returns c =
     let start = c .before .before .before .before .before .before .before in
@@ -35,11 +31,11 @@ returns c =
     let turn = c .before .before .before .before .before .loop in
     let below : turn .k < profileNumbers = c .before .before .before .before .loop-test .taken in
     let same = ap length (found .ensures) in
-    add-one (turn .k)
-    ∙ sym (scan-ends-here ranges (found .result) none (turn .k) below (omega arith) (c .if1 .taken))
-    ∙ turn .inv .2
-    ∙ ap (λ (ns : List ℕ). unsetFrom ranges ns 0) (found .ensures)
-    ∙ scan-finds-lowest (start .args .p)
+    cc (
+      add-one (turn .k),
+      scan-ends-here ranges (found .result) none (turn .k) below (omega arith) (c .if1 .taken),
+      scan-finds-lowest (start .args .p),
+    )
 
 loop-again : tie.Need-loop-again Inv-loop μ-loop
 loop-again c =
@@ -49,24 +45,18 @@ loop-again c =
     let same = ap length (found .ensures) in (
       refl,
       search needs,
-      ap (unsetFrom ranges (found .result)) (add-one (turn .k))
-          ∙ sym (scan-goes-on ranges (found .result) none (turn .k) below (omega arith) (c .if1 .left))
-          ∙ turn .inv .2,
+      cc (add-one (turn .k), scan-goes-on ranges (found .result) none (turn .k) below (omega arith) (c .if1 .left)),
     )
 
 returns-2 : tie.Need-returns-2 Inv-loop μ-loop
 returns-2 c =
     let start = c .before .before .before in
     let found = c .before .before .numbers in
-    let turn = c .before .loop in
-    sym (scan-finds-none ranges (found .result) (turn .k) (omega arith))
-    ∙ turn .inv .2
-    ∙ ap (λ (ns : List ℕ). unsetFrom ranges ns 0) (found .ensures)
-    ∙ scan-finds-lowest (start .args .p)
+    cc (scan-finds-none ranges (found .result) (c .before .loop .k) (omega arith), scan-finds-lowest (start .args .p))
 
 pub lowest-unset-spec : {M : Type 1} → statement M
 lowest-unset-spec =
     tie.close
-    (tie.spec Inv-loop μ-loop (λ c κs. search needs) loop-holds (λ c. search needs) (λ c. search needs)
-    (λ c. search needs) (λ c. search needs) (λ c. search needs) (λ c. search needs) returns (λ c. search needs)
-    (λ c. search needs) loop-again returns-2)
+    (tie.spec Inv-loop μ-loop (λ c κs. search needs) (λ c. (refl, search needs, refl)) (λ c. search needs)
+    (λ c. search needs) (λ c. search needs) (λ c. search needs) (λ c. search needs) (λ c. search needs) returns
+    (λ c. search needs) (λ c. search needs) loop-again returns-2)

@@ -1,8 +1,7 @@
 -- Why `content::find_data` answers `sought`: by what the finder answers, and by what the lock that it found reads as.
 -- Rests on no axiom.
-use Prim.Native.Nat.{ℕ, _<_}
+use Prim.Native.Nat.{_<_}
 use mathlib.Core.Path.{_≡_, sym, ap, _∙_}
-use mathlib.Core.List.{List}
 use native.Mathlib.Omega.{arith}
 use lib.ListN.{length, drop}
 use Rattle.refusal.specs.Answer.{accepted}
@@ -40,17 +39,11 @@ read c =
     let at-k = c .before .before .before in
     let args = at-k .before .before .before .before .args in
     c .read-data .ensures
-    ∙ ap (λ (ds : List ℕ). dataRead (args .p) ds (args .code))
+    ∙ ap (λ ds. dataRead (args .p) ds (args .code))
     (part-to-end (args .intervals .now) (at-k .k .given .0 .0))
 
 mul-read-data : tie.Need-mul-read-data
 mul-read-data c = omega (arith, within c, c .before .before .before .before .before .good)
-
-sub-read-data : tie.Need-sub-read-data
-sub-read-data c = omega (arith, within c)
-
-part-read-data-start : tie.Need-part-read-data-start
-part-read-data-start c = omega (arith, within c)
 
 add-t20 : tie.Need-add-t20
 add-t20 c =
@@ -80,6 +73,6 @@ returns-3 c =
 pub find-data-spec : {M : Type 1} → statement M
 find-data-spec =
     tie.close
-    (tie.spec (λ c κs. search needs) (λ c. search needs) (λ c. search needs) mul-read-data sub-read-data
-    part-read-data-start (λ c. search needs) (λ c κs. search needs) (λ c. search needs) (λ c. search needs) add-t20
-    returns returns-2 returns-3)
+    (tie.spec (λ c κs. search needs) (λ c. search needs) (λ c. search needs) mul-read-data
+    (λ c. omega (arith, within c)) (λ c. omega (arith, within c)) (λ c. search needs) (λ c κs. search needs)
+    (λ c. search needs) (λ c. search needs) add-t20 returns returns-2 returns-3)

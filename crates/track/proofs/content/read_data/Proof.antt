@@ -15,7 +15,7 @@ use Rattle.track.proofs.content.read_data.Tie as tie
 -- as many bytes as the code has
 count : (c : tie.After-sector-size) → c .sector-size .result + 6 ≡ dataBytes (c .before .before .args .code)
 unfolding dataBytes
-count c = omega (arith, c .sector-size .ensures)
+count c = omega arith
 
 within : (c : tie.After-sector-size) → (4 ≤ c .sector-size .result + 6) × (c .sector-size .result + 6 ≤ 1030)
 within c =
@@ -28,20 +28,14 @@ buffer = replicate 1030 0
 
 front-length
     : (c : tie.After-sector-size) → length (take (c .sector-size .result + 6) buffer) ≡ c .sector-size .result + 6
-front-length c = length-take-le (c .sector-size .result + 6) buffer (within c .1)
+front-length c = length-take-le _ _ (within c .1)
 
 add-n : tie.Need-add-n
 add-n c =
     let most = within c .1 in omega arith
 
-array-borrow-prefix-items : tie.Need-array-borrow-prefix-items
-array-borrow-prefix-items c = within c .1
-
-slice-aggregate-read-opened : tie.Need-slice-aggregate-read-opened
-slice-aggregate-read-opened c = sym (front-length (c .before))
-
 read-opened-requires : tie.Need-read-opened-requires
-read-opened-requires c κs = (c .before .before .before .pre, rw (front-length (c .before)) (within (c .before)))
+read-opened-requires c κs = (c .before .before .before .pre, rw front-length (within (c .before)))
 
 returns : tie.Need-returns
 unfolding dataRead
@@ -54,5 +48,5 @@ returns c =
 pub read-data-spec : {M : Type 1} → statement M
 read-data-spec =
     tie.close
-    (tie.spec (λ c κs. search needs) add-n array-borrow-prefix-items slice-aggregate-read-opened read-opened-requires
-    returns)
+    (tie.spec (λ c κs. search needs) add-n (λ c. within c .1) (λ c. sym (front-length (c .before)))
+    read-opened-requires returns)

@@ -6,17 +6,16 @@ use Rattle.track.proofs.id.four_bytes.Statement.{statement}
 use Rattle.track.proofs.id.four_bytes.Tie as tie
 
 cast-t5 : tie.Need-cast-t5
-cast-t5 c = let four = identity-has-data-bytes _ (c .before .pre .1) in omega (arith, four .track)
+cast-t5 c = omega (arith, (identity-has-data-bytes _ (c .before .pre .1)) .track)
 
 cast-t8 : tie.Need-cast-t8
-cast-t8 c = let four = identity-has-data-bytes _ (c .before .before .pre .1) in omega (arith, four .side)
+cast-t8 c = let four = identity-has-data-bytes _ (c .before .before .pre .1) in omega arith
 
 cast-t11 : tie.Need-cast-t11
-cast-t11 c = let four = identity-has-data-bytes _ (c .before .before .before .pre .1) in omega (arith, four .sector)
+cast-t11 c = let four = identity-has-data-bytes _ (c .before .before .before .pre .1) in omega arith
 
 cast-t14 : tie.Need-cast-t14
-cast-t14 c =
-    let four = identity-has-data-bytes _ (c .before .before .before .before .pre .1) in omega (arith, four .code)
+cast-t14 c = let four = identity-has-data-bytes _ (c .before .before .before .before .pre .1) in omega arith
 
 pub four-bytes-spec : {M : Type 1} → statement M
 four-bytes-spec =

@@ -5,10 +5,6 @@ use borrow.Author.Needs.{needs}
 use Rattle.track.proofs.id.identify.Statement.{statement}
 use Rattle.track.proofs.id.identify.Tie as tie
 
-four-bytes-requires : tie.Need-four-bytes-requires
-four-bytes-requires c κs =
-    (c .before .before .before .pre, sym (c .before .is-identity .ensures) ∙ c .if1 .taken)
-
 returns : tie.Need-returns
 unfolding identified
 returns c =
@@ -20,4 +16,6 @@ returns-2 c =
     rw (sym (c .before .is-identity .ensures) ∙ c .if1 .left)
 
 pub identify-spec : {M : Type 1} → statement M
-identify-spec = tie.close (tie.spec (λ c κs. search needs) four-bytes-requires returns returns-2)
+identify-spec =
+    tie.close
+    (tie.spec (λ c κs. search needs) (λ c κs. (c .before .before .before .pre, cc)) returns returns-2)

@@ -19,24 +19,24 @@ returns c =
     let e = sym (known .1) ∙ read .read-opened .ensures .0 in
     c .identify .ensures
     ∙ ap (λ (us : List ℕ). identified us (known .0 .0))
-    (read .read-opened .ensures .1 (opened-means (args .p) (args .intervals .now) 10 0xfe _ _ e .0))
-    ∙ sound-is-identified (args .p) (args .intervals .now) (known .0 .0)
+    (read .read-opened .ensures .1 (opened-means _ _ 10 _ _ _ e .0))
+    ∙ sound-is-identified _ _ _
     (subst (FieldReads (args .p) (args .intervals .now) 10 (known .0 .0)) (c .before .before .if1 .taken)
-    (opened-reads (args .p) (args .intervals .now) 10 0xfe _ _ e))
+    (opened-reads _ _ 10 _ _ _ e))
 
 returns-2 : tie.Need-returns-2
 returns-2 c =
     unopened-is-no-id _ _
-    (unopened-means _ _ 10 0xfe (sym (c .enum-told .given .1) ∙ c .before .before .before .read-opened .ensures .0))
+    (unopened-means _ _ 10 _ (sym (c .enum-told .given .1) ∙ c .before .before .before .read-opened .ensures .0))
 
 returns-3 : tie.Need-returns-3
 returns-3 c =
     let known = c .before .before .used .given in
     let read = c .before .before .before .before .before in
     let args = read .before .before .before .args in
-    unsound-is-no-id (args .p) (args .intervals .now) (known .0 .0)
+    unsound-is-no-id _ _ _
     (subst (FieldReads (args .p) (args .intervals .now) 10 (known .0 .0)) (c .if1 .left)
-    (opened-reads (args .p) (args .intervals .now) 10 0xfe _ _ (sym (known .1) ∙ read .read-opened .ensures .0)))
+    (opened-reads _ _ 10 _ _ _ (sym (known .1) ∙ read .read-opened .ensures .0)))
 
 pub read-id-spec : {M : Type 1} → statement M
 read-id-spec =

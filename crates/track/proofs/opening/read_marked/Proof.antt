@@ -47,7 +47,7 @@ kind c =
     let at-read = c .before .before .before .before .before .before .before in
     let args = at-read .before .before .before .before .args in
     let items = items-in-place _ _ _ _ (at-read .read-in-place .ensures .1) (field c .does) in
-    opens-by-kind _ _ _ (args .kind) _ _ (field c) ∙ sym (c .opens-with .ensures ∙ ap (opensWith (args .kind)) items)
+    opens-by-kind _ _ _ _ _ _ (field c) ∙ sym (c .opens-with .ensures ∙ ap (opensWith _) items)
 
 returns : tie.Need-returns
 returns c =

@@ -17,4 +17,5 @@ returns-2 c =
 
 pub read-opened-spec : {M : Type 1} → statement M
 read-opened-spec =
-    tie.close (tie.spec (λ c κs. search needs) (λ c κs. search needs) (λ c. search needs) (λ c. search needs) returns-2)
+    tie.close
+    (tie.spec (λ c κs. search needs) (λ c κs. search needs) (λ c. search needs) (λ c. search needs) returns-2)

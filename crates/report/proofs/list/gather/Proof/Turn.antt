@@ -2,7 +2,7 @@
 -- renews the row of its class. No row comes near 64 bits, since a list has at most 51,202 intervals of 16 bits. Rests
 -- on no axiom.
 use Prim.Native.Nat.{ℕ, suc, _+_, _-_, _≤_, _<_}
-use mathlib.Core.Path.{_≡_, refl, sym, ap, ap₂, _∙_}
+use mathlib.Core.Path.{_≡_, refl, sym, ap, _∙_}
 use mathlib.Core.Bool.{Bool, true, false, cond}
 use mathlib.Core.List.{List, [], _∷_, _++_, append-nil, append-assoc}
 use native.Mathlib.Numerals.{add-one}
@@ -64,7 +64,7 @@ module _ (seen : Class → List ℕ) (d : ℕ) where
   more c = row-of-append (seen c) (d ∷ [])
 
   same : (c : Class) → rowOf (seen c ++ []) ≡ rowOf (seen c)
-  same c = ap rowOf (append-nil (seen c))
+  same c = cc (append-nil (seen c))
 
   one-more-renews
       : (e : Class)
@@ -80,8 +80,7 @@ joins true d rest = refl
 joins false d rest = refl
 
 module _
-    {start : Cursor} {ds : List ℕ} {cursor : Cursor} {rows : Report} {k : ℕ}
-    (g : Gathered start ds cursor rows k)
+    {start : Cursor} {ds : List ℕ} {cursor : Cursor} {rows : Report} {k : ℕ} (g : Gathered start ds cursor rows k)
   where
     abbrev d : ℕ
     d = getD ds k 0
@@ -93,24 +92,19 @@ module _
         : k < length ds → (c : Class)
         → has cursor (drop k ds) c ≡ joining e d c ++ has (cursorPast cursor d) (drop (suc k) ds) c
     unfolding ofClass
-    has-here h c =
-        ap₂ (ofClass c) (classes-here cursor ds k h) (drop-cons ds k 0 h)
-        ∙ joins (eqb (classNumber c) (classNumber e)) d _
+    has-here h c = cc (classes-here cursor ds k h, drop-cons ds k 0 h, joins _ d _)
 
     whole-here
         : k < length ds
         → (c : Class)
         → (g .seen c ++ joining e d c) ++ has (cursorPast cursor d) (drop (suc k) ds) c ≡ has start ds c
-    whole-here h c =
-        append-assoc (g .seen c) (joining e d c) _
-        ∙ ap (λ (l : List ℕ). g .seen c ++ l) (sym (has-here h c))
-        ∙ g .whole c
+    whole-here h c = cc (append-assoc (g .seen c) (joining e d c) _, has-here h c, g .whole c)
 
     pub gathered-on : k < length ds → Gathered start ds (cursorPast cursor d) (renewed rows e d) (suc k)
     gathered-on h =
         record {
           seen = λ c. g .seen c ++ joining e d c;
-          rows-are = ap (λ (r : Report). renewed r e d) (g .rows-are) ∙ sym (one-more-renews (g .seen) d e);
+          rows-are = cc (one-more-renews (g .seen) d e);
           whole = whole-here h;
         }
 
@@ -125,8 +119,7 @@ module _
 
     pub gathered-all : length ds ≤ k → rows ≡ reportFrom start ds
     unfolding reportFrom reportBy ofClass
-    gathered-all h =
-        g .rows-are ∙ same-report (row Narrow) (row Two) (row Three) (row Four) (row Wide)
+    gathered-all h = cc (same-report (row Narrow) (row Two) (row Three) (row Four) (row Wide))
       where
         row : (c : Class) → rowOf (g .seen c) ≡ rowOf (has start ds c)
         row c =
@@ -140,11 +133,7 @@ module _
     mine = g .seen e ++ (d ∷ [])
 
     mine-first : k < length ds → mine ++ has (cursorPast cursor d) (drop (suc k) ds) e ≡ has start ds e
-    mine-first h =
-        ap
-        (λ (l : List ℕ). (g .seen e ++ l) ++ has (cursorPast cursor d) (drop (suc k) ds) e)
-        (sym (joining-itself d e))
-        ∙ whole-here h e
+    mine-first h = cc (joining-itself d e, whole-here h e)
 
     pub renewed-row-fits
         : {s : Classed}
@@ -162,4 +151,4 @@ module _
         let sum = of-class-total e (classesFrom start ds) ds in
         let limit = total-of-small 65535 ds small in
         rw (step, g .rows-are, row-of-class (g .seen) e)
-        (ap isOverlarge (sym (more (g .seen) d e)) ∙ row-fits (rowOf mine) (omega arith) (omega arith))
+        (cc (more (g .seen) d e, row-fits (rowOf mine) (omega arith) (omega arith)))

@@ -7,12 +7,6 @@ use Rattle.timing.proofs.ClassLaws.{below-b34-is-three, below-rpt-is-fo
 use Rattle.timing.proofs.cursor.Cursor.class_of.Statement.{statement}
 use Rattle.timing.proofs.cursor.Cursor.class_of.Tie as tie
 
-returns : tie.Need-returns
-returns c = sym (below-min-is-narrow _ _ (omega arith))
-
-returns-2 : tie.Need-returns-2
-returns-2 c = sym (below-b23-is-two _ _ (omega arith) (omega arith))
-
 returns-3 : tie.Need-returns-3
 returns-3 c = sym (below-b34-is-three _ _ (omega arith) (omega arith) (omega arith))
 
@@ -23,4 +17,7 @@ returns-5 : tie.Need-returns-5
 returns-5 c = sym (from-rpt-is-wide _ _ (omega arith) (omega arith) (omega arith) (omega arith))
 
 pub class-of-spec : {M : Type 1} → statement M
-class-of-spec = tie.close (tie.spec returns returns-2 returns-3 returns-4 returns-5)
+class-of-spec =
+    tie.close
+    (tie.spec (λ c. sym (below-min-is-narrow _ _ (omega arith)))
+    (λ c. sym (below-b23-is-two _ _ (omega arith) (omega arith))) returns-3 returns-4 returns-5)

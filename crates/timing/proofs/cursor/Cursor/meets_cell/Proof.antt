@@ -3,8 +3,5 @@ use Rattle.timing.proofs.EdgeLaws.{by-edges}
 use Rattle.timing.proofs.cursor.Cursor.meets_cell.Statement.{statement}
 use Rattle.timing.proofs.cursor.Cursor.meets_cell.Tie as tie
 
-returns : tie.Need-returns
-returns c = by-edges _ _ (c .before .before .pre) .0
-
 pub meets-cell-spec : {M : Type 1} → statement M
-meets-cell-spec = tie.close (tie.spec returns)
+meets-cell-spec = tie.close (tie.spec (λ c. by-edges _ _ (c .before .before .pre) .0))

@@ -1,5 +1,4 @@
 -- Why `Cursor::start` is `atStart`: it copies the four edges. Rests on no axiom.
-use mathlib.Core.Path.{refl}
 use Rattle.timing.specs.Class.{atStart}
 use Rattle.timing.proofs.cursor.Cursor.start.Statement.{statement}
 use Rattle.timing.proofs.cursor.Cursor.start.Tie as tie

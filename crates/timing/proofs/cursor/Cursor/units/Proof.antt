@@ -15,8 +15,7 @@ one-at-most true = omega arith
 one-at-most false = omega arith
 
 add-result : tie.Need-add-result
-add-result c =
-    let args = c .before .args in omega (arith, one-at-most (leb (args .self .b23 .0) (args .interval)))
+add-result c = let args = c .before .args in omega (arith, one-at-most (leb (args .self .b23 .0) (args .interval)))
 
 add-result-2 : tie.Need-add-result-2
 add-result-2 c =
