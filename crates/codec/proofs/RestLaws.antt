@@ -1,17 +1,19 @@
 -- Why the rest of a word is drawn up to its highest one, and from there on: the half cells above it are zeros, and the
 -- number without it has the half cells below. Rests on no axiom.
 use Prim.Native.Nat.{ℕ, zero, suc, _+_, _-_, _*_, _%_, _^_, _≤_, _<_}
-use native.Mathlib.Nat.{zero-add, suc-add, lt-of-lt-of-le, lt-of-not-le, le-trans, not-le-of-lt}
+use native.Mathlib.Nat.{zero-add, suc-add, zero-mul, suc-mul, add-mul, pow-succ'}
+use native.Mathlib.Nat.{lt-of-lt-of-le, lt-of-not-le, le-trans, not-le-of-lt, mul-le-mul-right}
+use native.Mathlib.Decide.{decLt}
 use native.Mathlib.Omega.{arith}
-use mathlib.Core.Path.{_≡_, refl, ap, _∙_}
-use mathlib.Core.List.{List, _∷_}
+use mathlib.Core.Path.{_≡_, refl, sym, ap, _∙_}
+use mathlib.Core.List.{List, [], _∷_, _++_}
 use borrow.Author.Tests.{lt-ltb, le-ltb}
 use lib.ListN.{getD}
-use lib.Pow.{pow-mono}
-use Rattle.symbols.specs.Bits.{O, I}
+use lib.Pow.{pow-mono, pow-add}
+use Rattle.symbols.specs.Bits.{Bit, O, I}
 use Rattle.images.specs.machine.TopBits.{topBits}
 use Rattle.codec.specs.machine.Pen.{drawing, turned, storedBefore, ended, passed, drawn, restDrawn}
-use Rattle.codec.specs.machine.Pen.{Pending, Highest, behind}
+use Rattle.codec.specs.machine.Pen.{Room, Pending, Highest, behind, Drawable}
 use Rattle.codec.specs.declared.pen.Pen.{Pen}
 use Rattle.codec.specs.declared.pen.Rest.{Rest}
 
@@ -27,6 +29,51 @@ top-of-one : (place n : ℕ) → 2 ^ place ≤ n → topBits (suc place) n ≡ I
 unfolding topBits
 top-of-one place n h = rw (le-ltb n (2 ^ place) h)
 
+top-of-none : (n : ℕ) → topBits 0 n ≡ []
+unfolding topBits
+top-of-none n = refl
+
+-- a number above another: what it has beyond a weight, and what not
+module _ (n k a b : ℕ) (hb : b < 2 ^ k) where
+  stays-below : a < 2 ^ n → a * 2 ^ k + b < 2 ^ (n + k)
+  stays-below h =
+      let most : suc a * 2 ^ k ≤ 2 ^ n * 2 ^ k = mul-le-mul-right (2 ^ k) h in
+      omega (arith, suc-mul a (2 ^ k), pow-add 2 n k)
+
+  goes-beyond : 2 ^ n ≤ a → (2 ^ (n + k) ≤ a * 2 ^ k + b) × (a * 2 ^ k + b - 2 ^ (n + k) ≡ (a - 2 ^ n) * 2 ^ k + b)
+  goes-beyond h =
+      let least : 2 ^ n * 2 ^ k ≤ a * 2 ^ k = mul-le-mul-right (2 ^ k) h in
+      let parts : (a - 2 ^ n) * 2 ^ k + 2 ^ n * 2 ^ k ≡ a * 2 ^ k =
+      sym (add-mul (a - 2 ^ n) (2 ^ n) (2 ^ k)) ∙ ap (λ (m : ℕ). m * 2 ^ k) (omega arith) in
+      (omega (arith, pow-add 2 n k), omega (arith, pow-add 2 n k))
+
+-- of two numbers, one above the other
+pub top-of-two
+    : (n k a b : ℕ) → a < 2 ^ n → b < 2 ^ k → topBits (n + k) (a * 2 ^ k + b) ≡ topBits n a ++ topBits k b
+top-of-two zero k a b ha hb =
+    let none : a ≡ 0 = omega arith in
+    rw (none, zero-mul (2 ^ k), zero-add b, zero-add k, top-of-none 0)
+top-of-two (suc n) k a b ha hb =
+    let twice = pow-succ' 2 n in
+    elim (decLt a (2 ^ n)) [
+      | yes h ↦
+          rw (
+            suc-add n k,
+            top-of-zero (n + k) (a * 2 ^ k + b) (stays-below n k a b hb h),
+            top-of-zero n a h,
+            top-of-two n k a b h hb,
+          )
+      | no h ↦
+          let beyond = goes-beyond n k a b hb (omega arith) in
+          rw (
+            suc-add n k,
+            top-of-one (n + k) (a * 2 ^ k + b) (beyond .0),
+            beyond .1,
+            top-of-one n a (omega arith),
+            top-of-two n k (a - 2 ^ n) b (omega arith) hb,
+          )
+    ]
+
 -- ---- the highest one
 
 module _ (ones place : ℕ) (high : Highest ones place) where
@@ -34,7 +81,7 @@ module _ (ones place : ℕ) (high : Highest ones place) where
   place-below last h = lt-of-not-le (λ (g : last ≤ place). not-le-of-lt h (le-trans (pow-mono g) (high .0)))
 
   -- as the code has it
-  pub its-weight : ones < 65536 → 1 * 2 ^ place % 2 ^ 32 ≡ 2 ^ place
+  pub its-weight : ones < 2 ^ 32 → 1 * 2 ^ place % 2 ^ 32 ≡ 2 ^ place
   its-weight small = let low = high .0 in omega arith
 
   left-is-below : ones - 2 ^ place < 2 ^ place
@@ -65,18 +112,17 @@ module _ (table out : List ℕ) where
       ∙ ap (λ (s : ℕ). drawn table (drawing (penAt s window cells) out) (topBits k ones)) later)
 
   pub begins
-      : (start : Pen) (word : ℕ)
-      → 1 ≤ start .since
-      → word < 65536
-      → restDrawn table out (restAt (start .since + 15) (start .window) (start .cells) word)
-      ≡ drawn table (drawing start out) (topBits 16 word)
-  begins start word h small =
+      : (start : Pen) (word width : ℕ)
+      → Drawable start word width
+      → restDrawn table out (restAt (start .since + width - 1) (start .window) (start .cells) word)
+      ≡ drawn table (drawing start out) (topBits width word)
+  begins start word width can =
       let n = start .since - 1 in
-      let place : start .since + 15 ≡ n + 16 = omega arith in
-      let since : n + 1 ≡ start .since = omega arith in
+      let place : start .since + width - 1 ≡ n + width = omega (arith, can .0) in
+      let since : n + 1 ≡ start .since = omega (arith, can .0) in
       rw place
-      (zeros-pass n 16 1 (start .window) (start .cells) word small
-      ∙ ap (λ (s : ℕ). drawn table (drawing (penAt s (start .window) (start .cells)) out) (topBits 16 word)) since)
+      (zeros-pass n width 1 (start .window) (start .cells) word (can .4)
+      ∙ ap (λ (s : ℕ). drawn table (drawing (penAt s (start .window) (start .cells)) out) (topBits width word)) since)
 
   a-one-more
       : (rest : Rest) (place : ℕ)
@@ -102,6 +148,11 @@ module _ (table out : List ℕ) where
       let no : rest .ones ≡ 0 = omega arith in
       let whole : rest .last ≡ rest .last + 0 = omega arith in
       cc (zeros-pass _ 0 1 _ _ 0 (omega arith))
+
+-- ---- what is drawn at once
+
+pub one-word : (pen : Pen) (word : ℕ) → Room pen 1 → word < 65536 → Drawable pen word 16
+one-word pen word room small = (room .0, omega (arith, room .1), omega arith, omega arith, small)
 
 -- ---- a step
 

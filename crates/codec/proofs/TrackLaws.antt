@@ -1,11 +1,12 @@
 -- Why the words of a list, drawn one after the other, are its image's half cells: each is the word of the image that
 -- stands there. Rests on no axiom.
-use Prim.Native.Nat.{ℕ, zero, suc, _+_, _≤_, _<_}
+use Prim.Native.Nat.{ℕ, zero, suc, _+_, _*_, _%_, _^_, _≤_, _<_}
 use native.Mathlib.Numerals.{add-one}
 use native.Mathlib.Omega.{arith}
 use mathlib.Core.Path.{_≡_, refl, sym, ap, _∙_}
 use mathlib.Core.Bool.{true}
 use mathlib.Core.List.{List, [], _∷_, _++_}
+use lib.Bits.{bitOr, or-shifted}
 use lib.ListN.{length, getD, drop}
 use lib.Seq.{drop-cons}
 use Rattle.lists.specs.Place.{everywhere}
@@ -19,8 +20,9 @@ use Rattle.images.specs.Distances.{halfCells, imageCells}
 use Rattle.images.specs.machine.TopBits.{topBits}
 use Rattle.images.proofs.WordLaws.{word-is-kept, last-bit-is-data}
 use Rattle.images.proofs.DistanceLaws.{last-of-word}
-use Rattle.codec.specs.machine.Pen.{drawing, drawn, Room}
+use Rattle.codec.specs.machine.Pen.{drawing, drawn, Room, Drawable}
 use Rattle.codec.specs.machine.Track.{Writing, wroteByte, wrote, Holds}
+use Rattle.codec.proofs.RestLaws.{top-of-two}
 use Rattle.codec.proofs.PenLaws.{drawn-of-append, drawn-stays-small, drawn-length, fits-before}
 
 length-of-top-bits : (place n : ℕ) → length (topBits place n) ≡ place
@@ -45,6 +47,31 @@ module _ (table : List ℕ) where
       → wrote table s (drop k ws) ≡ wrote table (wroteByte table s (getD ws k 0)) (drop (k + 1) ws)
   unfolding wrote
   wrote-from s ws k h = rw (add-one, drop-cons ws k 0) refl
+
+  -- ---- two words as one number
+
+  module _ (s : Writing) (first second high low : ℕ) (fits-high : high < 65536) (fits-low : low < 65536) where
+    abbrev both : ℕ
+    both = bitOr (high * 2 ^ 16 % 2 ^ 32) low
+
+    one-above-other : both ≡ high * 2 ^ 16 + low
+    one-above-other =
+        let kept : high * 2 ^ 16 % 2 ^ 32 ≡ high * 2 ^ 16 = omega arith in rw kept (or-shifted high 16 low fits-low)
+
+    pub two-words : Room (s .track .pen) 2 → Drawable (s .track .pen) both 32
+    two-words room = (room .0, omega (arith, room .1), omega arith, omega arith, omega (arith, one-above-other))
+
+    pub drawn-as-two
+        : high ≡ wordOf (lastBit (s .track .previous)) first
+        → low ≡ wordOf (lastBit first) second
+        → let after = wroteByte table (wroteByte table s first) second in
+        drawn table (drawing (s .track .pen) (s .out)) (topBits 32 both) ≡ drawing (after .track .pen) (after .out)
+    unfolding wroteByte
+    drawn-as-two first-is second-is =
+        let start = drawing (s .track .pen) (s .out) in
+        ap (drawn table start) (ap (topBits 32) one-above-other ∙ top-of-two 16 16 high low fits-high fits-low)
+        ∙ drawn-of-append table start (topBits 16 high) (topBits 16 low)
+        ∙ rw (first-is, second-is)
 
   -- ---- what stays small, and what stays as it is
 

@@ -1,9 +1,9 @@
-// The pen: code words in, lengths out. A length depends on the cell and its two neighbours, so that it is stored when
-// the cell after it ends.
+// The pen: half cells in, a word's or two words', lengths out. A length depends on the cell and its two neighbours, so
+// that it is stored when the cell after it ends.
 ghost use Prim.Native.Nat.{_<_, _^_};
 ghost use mathlib.Core.Path.{_≡_};
 ghost use Rattle.images.specs.machine.TopBits.{topBits};
-ghost use Rattle.codec.specs.machine.Pen.{drawing, drawn, Room, Fits, Pending, Highest, behind, Begun};
+ghost use Rattle.codec.specs.machine.Pen.{drawing, drawn, Fits, Pending, Highest, behind, Drawable, Begun};
 
 // Where the pen stands before a word.
 pub struct Pen {
@@ -26,7 +26,7 @@ pub struct Rest {
 }
 
 fn highest_one(ones: u32) -> u32
-    requires { ⌜ (0 < ones) × (ones < 65536) ⌝ }
+    requires { ⌜ (0 < ones) × (ones < 2 ^ 32) ⌝ }
     ensures { λ r. ⌜ Highest ones r ⌝ }
 {
     31 - u32::leading_zeros(ones)
@@ -53,37 +53,37 @@ fn pass_one(rest: Rest, place: u32, window: u32) -> Rest
     }
 }
 
-// A word's ones before the first is stored. With a track's first one no length is known: it is passed here, so that the
+// The ones before the first is stored. With a track's first one no length is known: it is passed here, so that the
 // others are stored without a test.
-fn begin_word(start: Pen, word: u16) -> Rest
-    requires { ⌜ Room start 1 ⌝ }
-    ensures { λ r. ⌜ Begun start word r ⌝ }
+fn begin(start: Pen, word: u32, width: u32) -> Rest
+    requires { ⌜ Drawable start word width ⌝ }
+    ensures { λ r. ⌜ Begun start word width r ⌝ }
 {
     let rest = Rest {
-        last: start.since + 15,
+        last: start.since + width - 1,
         window: start.window,
         cells: start.cells,
-        ones: word as u32,
+        ones: word,
     };
     if 0 < start.cells {
         return rest;
     }
     if 0 < word {
-        let place = highest_one(rest.ones);
+        let place = highest_one(word);
         return pass_one(rest, place, window_at(rest, place));
     }
     rest
 }
 
-// A word's ones, the highest first.
-pub fn draw_word(table: &[u16; 64], start: Pen, word: u16, out: &mut [u16]) -> Pen
-    requires { ⌜ Room start 1 ⌝ }
-    requires { ⌜ Fits (drawn (now table) (drawing start (now out)) (topBits 16 word)) ⌝ }
+// The ones of so many half cells, the highest first.
+pub fn draw(table: &[u16; 64], start: Pen, word: u32, width: u32, out: &mut [u16]) -> Pen
+    requires { ⌜ Drawable start word width ⌝ }
+    requires { ⌜ Fits (drawn (now table) (drawing start (now out)) (topBits width word)) ⌝ }
     ensures { λ r. ⌜
         drawing r (now (out .exit))
-        ≡ drawn (now (table .entry)) (drawing start (now (out .entry))) (topBits 16 word) ⌝ }
+        ≡ drawn (now (table .entry)) (drawing start (now (out .entry))) (topBits width word) ⌝ }
 {
-    let mut rest = begin_word(start, word);
+    let mut rest = begin(start, word, width);
     while 0 < rest.ones {
         let place = highest_one(rest.ones);
         let window = window_at(rest, place);

@@ -5,7 +5,7 @@ ghost use lib.ListN.{length};
 ghost use Rattle.codec.specs.machine.Pen.{Room, Fits};
 ghost use Rattle.codec.specs.machine.Track.{writing, wordDrawn, wroteByte, wrote, closingWord, freshTrack, Holds};
 use crate::pen::Pen;
-use crate::pen::draw_word;
+use crate::pen::draw;
 
 // A pen, and the byte before.
 pub struct Track {
@@ -35,10 +35,28 @@ pub fn write_byte(table: &[u16; 64], start: Track, byte: u16, out: &mut [u16]) -
         writing r (now (out .exit)) ≡ wroteByte (now (table .entry)) (writing start (now (out .entry))) byte ⌝ }
 {
     let word = images::made_word(start.previous, byte);
-    let pen = draw_word(table, start.pen, word, out);
+    let pen = draw(table, start.pen, word as u32, 16, out);
     Track {
         pen,
         previous: byte,
+    }
+}
+
+// Two bytes at once: that the pen has drawn all ones is told half as often.
+fn write_two(table: &[u16; 64], start: Track, first: u16, second: u16, out: &mut [u16]) -> Track
+    requires { ⌜ Room (start .pen) 2 ⌝ }
+    requires { ⌜ Holds (wroteByte (now table) (wroteByte (now table) (writing start (now out)) first) second) ⌝ }
+    ensures { λ r. ⌜
+        writing r (now (out .exit))
+        ≡ wroteByte (now (table .entry))
+        (wroteByte (now (table .entry)) (writing start (now (out .entry))) first) second ⌝ }
+{
+    let high = images::made_word(start.previous, first);
+    let low = images::made_word(first, second);
+    let pen = draw(table, start.pen, (high as u32) << 16 | low as u32, 32, out);
+    Track {
+        pen,
+        previous: second,
     }
 }
 
@@ -49,11 +67,17 @@ pub fn write_bytes(table: &[u16; 64], start: Track, bytes: &[u16], out: &mut [u1
         writing r (now (out .exit))
         ≡ wrote (now (table .entry)) (writing start (now (out .entry))) (now (bytes .entry)) ⌝ }
 {
+    let pairs = bytes.len() / 2;
     let mut track = start;
-    let mut k: usize = 0;
-    while k < bytes.len() {
-        track = write_byte(table, track, bytes[k], out);
-        k += 1;
+    let mut i: usize = 0;
+    while i < pairs {
+        let k = 2 * i;
+        track = write_two(table, track, bytes[k], bytes[k + 1], out);
+        i += 1;
+    }
+    let k = 2 * i;
+    if k < bytes.len() {
+        return write_byte(table, track, bytes[k], out);
     }
     track
 }
@@ -81,6 +105,12 @@ pub fn write_closing(table: &[u16; 64], track: Track, out: &mut [u16]) -> usize
         now (out .exit)
         ≡ wordDrawn (now (table .entry)) (writing track (now (out .entry))) (closingWord (track .previous)) .out ⌝ }
 {
-    let pen = draw_word(table, track.pen, closing_word(track.previous), out);
+    let pen = draw(
+        table,
+        track.pen,
+        closing_word(track.previous) as u32,
+        16,
+        out,
+    );
     pen.cells - 1
 }

@@ -67,7 +67,7 @@ restDrawn table out rest =
 -- the ones stand below the last one, and no place is too large
 pub record Pending (rest : Rest) : Type 0 where
   pub below : rest .ones < 2 ^ rest .last
-  pub small : rest .ones < 65536
+  pub small : rest .ones < 2 ^ 32
   pub near : rest .last ≤ 300000
 
 -- the place of the highest one
@@ -84,8 +84,13 @@ behind rest place =
       ones = rest .ones - 2 ^ place;
     }
 
--- a word is left to draw, and no one but behind the first
-pub record Begun (start : Pen) (word : ℕ) (rest : Rest) : Type 0 where
+-- half cells that a pen can draw at once
+abbrev pub Drawable : Pen → ℕ → ℕ → Type 0
+Drawable pen word width =
+    (1 ≤ pen .since) × (pen .since + width ≤ 300000) × (1 ≤ width) × (width ≤ 32) × (word < 2 ^ width)
+
+-- they are left to draw, and no one but behind the first
+pub record Begun (start : Pen) (word width : ℕ) (rest : Rest) : Type 0 where
   pub pending : Pending rest
-  pub behind-first : rest .ones ≤ 65535 * rest .cells
-  pub same : (table out : List ℕ) → restDrawn table out rest ≡ drawn table (drawing start out) (topBits 16 word)
+  pub behind-first : rest .ones ≤ (2 ^ 32 - 1) * rest .cells
+  pub same : (table out : List ℕ) → restDrawn table out rest ≡ drawn table (drawing start out) (topBits width word)

@@ -1,6 +1,6 @@
 -- Why `codec::pen::highest_one` answers the place of the highest one: the zeros above it are counted from place 31 on.
 -- Rests on no axiom.
-use Prim.Native.Nat.{ℕ, _-_, _≤_, _<_}
+use Prim.Native.Nat.{ℕ, _-_, _^_, _≤_, _<_}
 use native.Mathlib.Omega.{arith}
 use mathlib.Core.Path.{_≡_}
 use lib.Count.{leadingZeros, leading-top}
@@ -8,7 +8,7 @@ use Rattle.codec.specs.machine.Pen.{Highest}
 use Rattle.codec.proofs.pen.highest_one.Statement.{statement}
 use Rattle.codec.proofs.pen.highest_one.Tie as tie
 
-module _ (ones : ℕ) (positive : 0 < ones) (small : ones < 65536) where
+module _ (ones : ℕ) (positive : 0 < ones) (small : ones < 2 ^ 32) where
   few-leading-zeros : leadingZeros 32 ones ≤ 31
   few-leading-zeros = let top = leading-top 32 ones positive (omega arith) in omega (arith, top .1)
 

@@ -8,7 +8,7 @@ use Rattle.codec.proofs.pen.pass_one.Tie as tie
 shl-t5 : tie.Need-shl-t5
 shl-t5 c =
     let pre = c .before .pre .0 in
-    let low = place-below _ _ (pre .1) 16 (pre .0 .small) in
+    let low = place-below _ _ (pre .1) 32 (pre .0 .small) in
     omega arith
 
 returns : tie.Need-returns

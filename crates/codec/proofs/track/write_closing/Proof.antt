@@ -7,6 +7,7 @@ use borrow.Author.Needs.{needs}
 use denote.Ref.{now}
 use Rattle.images.specs.machine.TopBits.{topBits}
 use Rattle.codec.specs.machine.Pen.{Drawing, drawing, drawn}
+use Rattle.codec.proofs.RestLaws.{one-word}
 use Rattle.codec.proofs.StreamLaws.{closing-ends-a-cell}
 use Rattle.codec.proofs.track.write_closing.Statement.{statement}
 use Rattle.codec.proofs.track.write_closing.Tie as tie
@@ -14,9 +15,11 @@ use Rattle.codec.proofs.track.write_closing.Tie as tie
 one-less : (n m : ℕ) → n ≡ m → 1 ≤ m → n - 1 + 1 ≡ m
 one-less n m e h = omega arith
 
-draw-word-requires : tie.Need-draw-word-requires
-draw-word-requires c κs =
-    let pre = c .before .before .before .pre in (pre .0, rw (c .before .closing-word .ensures) (pre .1))
+draw-requires : tie.Need-draw-requires
+draw-requires c κs =
+    let entry = c .before .before .before in
+    let made = c .before .closing-word in
+    (one-word (entry .args .track .pen) _ (entry .pre .0) (made .ok), rw (made .ensures) (entry .pre .1))
 
 sub-result : tie.Need-sub-result
 sub-result c =
@@ -24,7 +27,7 @@ sub-result c =
     let made = drew .before .before in
     let args = made .before .before .args in
     let start = drawing (args .track .pen) (now (args .out)) in
-    let all = drew .draw-word .ensures
+    let all = drew .draw .ensures
     ∙ ap (λ (w : ℕ). drawn (now (args .table)) start (topBits 16 w)) (made .closing-word .ensures) in
     omega (
       arith,
@@ -38,11 +41,11 @@ returns c =
     let made = drew .before .before in
     let start = drawing _ _ in
     let all =
-    drew .draw-word .ensures
+    drew .draw .ensures
     ∙ ap (λ (w : ℕ). drawn (now (made .before .before .args .table)) start (topBits 16 w))
     (made .closing-word .ensures) in
     (one-less _ _ (ap (λ (d : Drawing). d .pen .cells) all) (closing-ends-a-cell _ start _), cc all)
 
 pub write-closing-spec : {M : Type 1} → statement M
 write-closing-spec =
-    tie.close (tie.spec (λ c κs. search needs) draw-word-requires sub-result (λ c. search needs) returns)
+    tie.close (tie.spec (λ c κs. search needs) (λ c. search needs) draw-requires sub-result (λ c. search needs) returns)

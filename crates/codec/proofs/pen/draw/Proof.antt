@@ -1,6 +1,6 @@
--- Why `codec::pen::draw_word` draws the word's half cells: each turn draws up to the highest one that is left, and
+-- Why `codec::pen::draw` draws the word's half cells: each turn draws up to the highest one that is left, and
 -- stores where it has a place, since all that is to come has. Rests on no axiom.
-use Prim.Native.Nat.{ℕ, zero, suc, _+_, _-_, _*_, _≤_, _<_}
+use Prim.Native.Nat.{ℕ, zero, suc, _+_, _-_, _*_, _^_, _≤_, _<_}
 use native.Mathlib.Omega.{arith}
 use mathlib.Core.Path.{_≡_, refl, ap}
 use mathlib.Core.List.{List}
@@ -9,13 +9,13 @@ use Rattle.codec.specs.machine.Pen.{storedBefore, restDrawn, Fits, Pendi
 use Rattle.codec.specs.declared.pen.Rest.{Rest}
 use Rattle.codec.proofs.PenLaws.{stored-before-length, fits-before}
 use Rattle.codec.proofs.RestLaws.{Stepped, ends, steps}
-use Rattle.codec.proofs.pen.draw_word.Statement.{statement}
-use Rattle.codec.proofs.pen.draw_word.Tie as tie
+use Rattle.codec.proofs.pen.draw.Statement.{statement}
+use Rattle.codec.proofs.pen.draw.Tie as tie
 
 -- at the head: what is left, with places for it, and the whole
 record Going (table out₀ : List ℕ) (rest₀ : Rest) (out : List ℕ) (rest : Rest) : Type 0 where
   pub pending : Pending rest
-  pub behind-first : rest .ones ≤ 65535 * rest .cells
+  pub behind-first : rest .ones ≤ (2 ^ 32 - 1) * rest .cells
   pub fits : Fits (restDrawn table out rest)
   pub same-length : length out ≡ length out₀
   pub whole : restDrawn table out rest ≡ restDrawn table out₀ rest₀
@@ -63,14 +63,14 @@ module _ {table out₀ : List ℕ} {rest₀ : Rest} {out : List ℕ} {rest : Res
         }
 
 abbrev Inv-loop : tie.InvT-loop
-Inv-loop table word out₀ rest₀ out rest = Going table out₀ rest₀ out rest
+Inv-loop table word width out₀ rest₀ out rest = Going table out₀ rest₀ out rest
 
 abbrev μ-loop : tie.MeasureT-loop
-μ-loop table word out₀ rest₀ out rest = rest .ones
+μ-loop table word width out₀ rest₀ out rest = rest .ones
 
 loop-holds : tie.Need-loop-holds Inv-loop μ-loop
 loop-holds c =
-    let begun = c .begin-word .ensures in
+    let begun = c .begin .ensures in
     record {
       pending = begun .pending;
       behind-first = begun .behind-first;
@@ -101,7 +101,7 @@ mul-out-2 c =
     let head = found .before .before .before in
     let place = has-place (head .loop .inv) (found .before .if1 .taken) _ (found .highest-one .ensures) in
     let same = head .loop .inv .same-length in
-    omega arith
+    omega (arith, head .before .before .before .good)
 
 slice-write-out : tie.Need-slice-write-out Inv-loop μ-loop
 slice-write-out c =
@@ -116,7 +116,9 @@ pass-one-requires c κs =
     let head = found .before .before .before in
     let g = head .loop .inv in
     let cells = cells-fit g in
-    ((g .pending, found .highest-one .ensures), (omega arith, c .before .before .window-at .ensures))
+    let same = g .same-length in
+    let start = head .before .before .before in
+    ((g .pending, found .highest-one .ensures), (omega (arith, start .good), c .before .before .window-at .ensures))
 
 loop-less : tie.Need-loop-less Inv-loop μ-loop
 loop-less c =
@@ -130,8 +132,8 @@ loop-again c =
     rw (c .pass-one .ensures, c .before .before .before .window-at .ensures)
     (turn (found .before .before .before .loop .inv) (found .before .if1 .taken) _ (found .highest-one .ensures))
 
-add-t17 : tie.Need-add-t17 Inv-loop μ-loop
-add-t17 c = let near = c .before .before .before .loop .inv .pending .near in omega arith
+add-t18 : tie.Need-add-t18 Inv-loop μ-loop
+add-t18 c = let near = c .before .before .before .loop .inv .pending .near in omega arith
 
 same-length : tie.Need-same-length Inv-loop μ-loop
 same-length c = cc
@@ -139,12 +141,12 @@ same-length c = cc
 returns : tie.Need-returns Inv-loop μ-loop
 returns c =
     let head = c .before .before .before .loop in
-    let begun = c .before .before .before .before .begin-word .ensures in
+    let begun = c .before .before .before .before .begin .ensures in
     cc (ends _ (head .out) (head .rest) (c .before .if1 .left), begun .same _ _)
 
-pub draw-word-spec : {M : Type 1} → statement M
-draw-word-spec =
+pub draw-spec : {M : Type 1} → statement M
+draw-spec =
     tie.close
     (tie.spec Inv-loop μ-loop (λ c κs. c .before .pre .0) loop-holds highest-one-requires window-at-requires
     (λ c. omega (arith, small-window c)) (λ c. omega (arith, small-window c)) (λ c. small-window c) sub-out mul-out-2
-    slice-write-out pass-one-requires loop-less loop-again add-t17 same-length returns)
+    slice-write-out pass-one-requires loop-less loop-again add-t18 same-length returns)
