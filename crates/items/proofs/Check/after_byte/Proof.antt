@@ -6,11 +6,13 @@ use Rattle.items.proofs.Check.after_byte.Tie as tie
 
 returns : tie.Need-returns
 unfolding afterByte afterMark
-returns c = rw (← c .before .before .before .is-mark .ensures, c .before .before .if1 .taken) (cc)
+returns c =
+    let mark = c .before .before .before .is-mark .ensures in
+    rw (← mark, c .before .before .if1 .taken, c .feed .ensures, c .before .before-mark .ensures)
 
 returns-2 : tie.Need-returns-2
 unfolding afterByte afterData
-returns-2 c = rw (← c .before .before .is-mark .ensures, c .before .if1 .left) (cc)
+returns-2 c = rw (← c .before .before .is-mark .ensures, c .before .if1 .left, c .feed2 .ensures)
 
 pub after-byte-spec : {M : Type 1} → statement M
 after-byte-spec =

@@ -1,6 +1,6 @@
 -- `Check::after_bytes` is the definition's fold: what the bytes from k on make of the state, all make of the first.
 use Prim.Native.Nat.{_-_, _≤_}
-use mathlib.Core.Path.{_≡_, refl}
+use mathlib.Core.Path.{_≡_, refl, sym, _∙_}
 use native.Mathlib.Omega.{arith}
 use denote.Ref.{now}
 use borrow.Author.Needs.{needs}
@@ -18,16 +18,19 @@ abbrev μ-loop : tie.MeasureT-loop
 μ-loop bytes check₀ k₀ check k = length bytes - k
 
 loop-less : tie.Need-loop-less Inv-loop μ-loop
-loop-less c = let place = c .before .after-run .ensures .0 in omega arith
+loop-less c = let place = c .before .after-run .ensures .0 in omega (arith, c .before .before .loop-test .taken)
+
+loop-again : tie.Need-loop-again Inv-loop μ-loop
+loop-again c =
+    let run = c .before .after-run .ensures in (run .0 .1, run .1 ∙ c .before .before .before .loop .inv .1)
 
 returns : tie.Need-returns Inv-loop μ-loop
 returns c =
     let head = c .before .loop in
     let bytes = now (c .before .before .before .args .bytes) in
-    cc (after-bytes-from-end (head .check) bytes (head .k) (c .loop-test .left))
+    sym (after-bytes-from-end (head .check) bytes (head .k) (c .loop-test .left)) ∙ head .inv .1
 
 pub after-bytes-spec : {M : Type 1} → statement M
 after-bytes-spec =
     tie.close
-    (tie.spec Inv-loop μ-loop (λ c. (omega arith, refl)) (λ c κs. search needs) loop-less
-    (λ c. (c .before .after-run .ensures .0 .1, cc)) returns)
+    (tie.spec Inv-loop μ-loop (λ c. (omega arith, refl)) (λ c κs. search needs) loop-less loop-again returns)

@@ -1,7 +1,7 @@
 -- `Check::after_run` keeps what the bytes from k on make of the state: two numbers below 256 pass through as the data
 -- bytes that they are. Rests on no axiom.
 use Prim.Native.Nat.{ℕ, _+_, _-_, _≤_, _<_}
-use mathlib.Core.Path.{_≡_, refl}
+use mathlib.Core.Path.{_≡_, refl, sym, ap, _∙_}
 use mathlib.Core.List.{List}
 use native.Mathlib.Omega.{arith}
 use denote.Ref.{now}
@@ -9,7 +9,8 @@ use borrow.Author.Needs.{needs}
 use lib.Bits.{bitOr, or-add-and, and-le-l, and-le-r}
 use lib.ListN.{length, getD, drop}
 use Rattle.items.specs.Written.{afterBytes}
-use Rattle.items.proofs.CheckLaws.{after-bytes-from, after-two-data-from}
+use Rattle.items.specs.declared.Check.{Check}
+use Rattle.items.proofs.CheckLaws.{unmarked, after-bytes-from, after-two-data-from}
 use Rattle.items.proofs.Check.after_run.Statement.{statement}
 use Rattle.items.proofs.Check.after_run.Tie as tie
 
@@ -34,7 +35,9 @@ kept-from-start : (c : tie.At-loop Inv-loop μ-loop)
 kept-from-start c =
     let start = c .before .before .before .before in
     let bytes = now (start .args .bytes) in
-    cc (after-bytes-from _ bytes _ (start .pre))
+    c .loop .inv .2
+    ∙ ap (λ (s : Check). afterBytes s (drop (start .args .from + 1) bytes)) (c .before .after-byte .ensures)
+    ∙ sym (after-bytes-from _ bytes _ (start .pre))
 
 returns : tie.Need-returns Inv-loop μ-loop
 returns c =
@@ -47,8 +50,12 @@ loop-again c =
     let bytes : List ℕ = now (turn .before .before .before .before .before .args .bytes) in
     let inside : head .k + 1 < length bytes = let test = turn .loop-test .taken in omega arith in
     let small =
-    both-small (getD bytes (head .k) 0) (getD bytes (head .k + 1) 0) (omega (arith, c .before .if1 .left)) in
-    (omega arith, omega arith, cc (after-two-data-from (head .check) bytes (head .k) inside (small .0) (small .1)))
+    both-small (getD bytes (head .k) 0) (getD bytes (head .k + 1) 0) (omega (arith, c .before .if1 .left)) in (
+      omega (arith, head .inv .0),
+      omega (arith, inside),
+      ap (λ (r : ℕ). afterBytes (unmarked r) (drop (head .k + 2) bytes)) (c .feed-two .ensures)
+          ∙ sym (after-two-data-from (head .check) bytes (head .k) inside (small .0) (small .1)) ∙ head .inv .2,
+    )
 
 returns-2 : tie.Need-returns-2 Inv-loop μ-loop
 returns-2 c = ((c .before .loop .inv .0, c .before .loop .inv .1), kept-from-start (c .before))

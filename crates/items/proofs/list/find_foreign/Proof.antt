@@ -1,6 +1,6 @@
 -- `find_foreign` scans for the lowest place: an item moves it on by one, the first number that is none ends it.
 use Prim.Native.Nat.{ℕ, _+_, _-_, _≤_, zero-le}
-use mathlib.Core.Path.{_≡_}
+use mathlib.Core.Path.{_≡_, sym, _∙_}
 use mathlib.Core.List.{List}
 use native.Mathlib.Nat.{zero-add}
 use native.Mathlib.Omega.{arith}
@@ -30,21 +30,22 @@ loop-again c =
     let turn = c .before .before .before in
     let head = turn .before .loop in
     let items : List ℕ = now (entry-of (turn .before) .args .items) in
-    let item = item-is-not-foreign (getD items (head .k) 0) (cc) in
-    (omega arith, cc (lowest-from-failing-is-further isForeign items 0 (head .k) (turn .loop-test .taken) item))
+    let item = item-is-not-foreign (getD items (head .k) 0) (sym (c .before .is-item .ensures) ∙ c .if1 .taken) in
+    let further = lowest-from-failing-is-further isForeign items 0 (head .k) (turn .loop-test .taken) item in
+    (omega (arith, turn .loop-test .taken), sym further ∙ head .inv .1)
 
 returns : tie.Need-returns Inv-loop μ-loop
 returns c =
     let turn = c .before .before .before in
     let head = turn .before .loop in
     let items = now (entry-of (turn .before) .args .items) in
-    let foreign = no-item-is-foreign (getD items (head .k) 0) (cc) in
-    cc (lowest-from-passing-is-here isForeign items 0 (head .k) (turn .loop-test .taken) foreign)
+    let foreign = no-item-is-foreign (getD items (head .k) 0) (sym (c .before .is-item .ensures) ∙ c .if1 .left) in
+    sym (lowest-from-passing-is-here isForeign items 0 (head .k) (turn .loop-test .taken) foreign) ∙ head .inv .1
 
 returns-2 : tie.Need-returns-2 Inv-loop μ-loop
 returns-2 c =
     let items = now (entry-of (c .before) .args .items) in
-    cc (lowest-from-end-is-here isForeign items (c .before .loop .k) (c .loop-test .left))
+    sym (lowest-from-end-is-here isForeign items (c .before .loop .k) (c .loop-test .left)) ∙ c .before .loop .inv .1
 
 pub find-foreign-spec : {M : Type 1} → statement M
 find-foreign-spec =

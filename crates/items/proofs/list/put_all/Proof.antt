@@ -1,7 +1,7 @@
 -- `list::put_all` stores byte after byte: what the bytes from k on have still to store makes the whole. Rests on no
 -- axiom.
 use Prim.Native.Nat.{ℕ, _+_, _-_, _≤_, _<_, zero-le}
-use mathlib.Core.Path.{_≡_, refl}
+use mathlib.Core.Path.{_≡_, refl, sym, ap, _∙_}
 use mathlib.Core.List.{List}
 use native.Mathlib.Numerals.{add-one}
 use native.Mathlib.Omega.{arith}
@@ -38,8 +38,9 @@ loop-again c =
     let turn = turn-of c in
     let head = turn .before .loop in
     let bytes = now (entry-of (turn .before) .args .bytes) in (
-      omega arith,
-      cc (stored-then-rest (head .out) _ bytes (head .k) (turn .loop-test .taken) (c .before .before .put .ensures)),
+      omega (arith, turn .loop-test .taken),
+      stored-then-rest (head .out) _ bytes (head .k) (turn .loop-test .taken) (c .before .before .put .ensures)
+          ∙ head .inv .1,
     )
 
 -- nothing is left to store
@@ -49,11 +50,13 @@ all-stored : (c : tie.After-loop Inv-loop μ-loop)
 all-stored c =
     let head = c .before .loop in
     let bytes = now (entry-of (c .before) .args .bytes) in
-    cc (stored-none (head .out) (head .k), drop-of-length-le bytes (c .loop-test .left))
+    sym (stored-none (head .out) (head .k))
+    ∙ ap (storedAt (head .out) (head .k)) (sym (drop-of-length-le bytes (c .loop-test .left))) ∙ head .inv .1
 
 same-length : tie.Need-same-length Inv-loop μ-loop
 same-length c =
-    let given = entry-of (c .before) .args in cc (all-stored c, stored-length (now (given .out)) 0 (now (given .bytes)))
+    let given = entry-of (c .before) .args in
+    ap length (all-stored c) ∙ stored-length (now (given .out)) 0 (now (given .bytes))
 
 pub put-all-spec : {M : Type 1} → statement M
 put-all-spec =

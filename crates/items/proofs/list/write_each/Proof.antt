@@ -76,8 +76,8 @@ loop-again c =
     let items : List ℕ = now (entry-of (turn .before) .args .items) in
     let inside = turn .loop-test .taken in
     let put = c .before .before .before .before .put-item .ensures in (
-      omega arith,
-      omega (arith, written-bytes-from items (head .k) inside),
+      omega (arith, inside),
+      omega (arith, c .bytes-of .ensures, head .inv .1, written-bytes-from items (head .k) inside),
       stored-then-rest _ _ _ _ items _ _ _ inside (c .bytes-of .ensures) put (c .before .after-item .ensures)
           ∙ head .inv .2,
       passed-then-rest items (head .k) (head .check) _ inside (c .before .after-item .ensures) ∙ head .inv .3,
@@ -93,8 +93,11 @@ returns c =
     let end = c .loop-test .left in
     let none : writtenFrom (head .check) (drop (head .k) items) ≡ [] =
     written-from-end (head .check) items (head .k) end in (
-      cc (after-no-bytes (head .check)),
-      (omega (arith, written-bytes-from-end items (head .k) end), cc (stored-none (head .out) (head .at))),
+      sym (ap (afterBytes (head .check)) none ∙ after-no-bytes (head .check)) ∙ head .inv .3,
+      (
+        omega (arith, head .inv .1, written-bytes-from-end items (head .k) end),
+        sym (stored-none (head .out) (head .at)) ∙ ap (storedAt (head .out) (head .at)) (sym none) ∙ head .inv .2,
+      ),
     )
 
 pub write-each-spec : {M : Type 1} → statement M
