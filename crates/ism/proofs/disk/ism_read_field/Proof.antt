@@ -25,7 +25,7 @@ answered
     ≡ fieldAnswerOf
     (fieldReading (read .before .before .profile .result) (now (start .intervals)) (start .bytes)
     (length (now (start .out))))
-answered c = cc (c .field-answer .ensures, c .before .before .before .read-field .ensures .0)
+answered c = c .field-answer .ensures ∙ ap fieldAnswerOf (c .before .before .before .read-field .ensures .0)
 
 -- under the profile that came in
 answered-for
@@ -54,7 +54,7 @@ stored c =
     let profiled = read .before .before in
     let start = profiled .before .before .before .args in
     read .read-field .ensures .1
-    ∙ ap (λ q. fieldOutput q (now (start .intervals)) (start .bytes) (now (start .out)))
+    ∙ ap (λ (q : Profile). fieldOutput q (now (start .intervals)) (start .bytes) (now (start .out)))
     (profiled .profile .ensures)
 
 -- no more intervals are used than there are
