@@ -2,7 +2,7 @@
 -- stores where it has a place, since all that is to come has. Rests on no axiom.
 use Prim.Native.Nat.{ℕ, zero, suc, _+_, _-_, _*_, _^_, _≤_, _<_}
 use native.Mathlib.Omega.{arith}
-use mathlib.Core.Path.{_≡_, refl, ap}
+use mathlib.Core.Path.{_≡_, refl, ap, _∙_}
 use mathlib.Core.List.{List}
 use lib.ListN.{length, getD, set, length-set}
 use Rattle.codec.specs.machine.Pen.{storedBefore, restDrawn, Fits, Pending, Highest, behind}
@@ -58,8 +58,8 @@ module _ {table out₀ : List ℕ} {rest₀ : Rest} {out : List ℕ} {rest : Res
           pending = step .pending;
           behind-first = omega arith;
           fits = rw stores next-fits;
-          same-length = cc (length-set out _ _);
-          whole = cc (step .same table out);
+          same-length = length-set out _ _ ∙ g .same-length;
+          whole = ap (λ (o : List ℕ). restDrawn table o next) stores ∙ step .same table out ∙ g .whole;
         }
 
 abbrev Inv-loop : tie.InvT-loop
@@ -101,13 +101,14 @@ mul-out-2 c =
     let head = found .before .before .before in
     let place = has-place (head .loop .inv) (found .before .if1 .taken) _ (found .highest-one .ensures) in
     let same = head .loop .inv .same-length in
-    omega (arith, head .before .before .before .good)
+    omega (arith, head .before .before .before .good .1 .1 .1 .1)
 
 slice-write-out : tie.Need-slice-write-out Inv-loop μ-loop
 slice-write-out c =
     let found = c .before .before .before in
     let g = found .before .before .before .loop .inv in
     let place = has-place g (found .before .if1 .taken) _ (found .highest-one .ensures) in
+    let first = has-first g (found .before .if1 .taken) in
     omega arith
 
 pass-one-requires : tie.Need-pass-one-requires Inv-loop μ-loop
@@ -117,8 +118,8 @@ pass-one-requires c κs =
     let g = head .loop .inv in
     let cells = cells-fit g in
     let same = g .same-length in
-    let start = head .before .before .before in
-    ((g .pending, found .highest-one .ensures), (omega (arith, start .good), c .before .before .window-at .ensures))
+    let good = head .before .before .before .good .1 .1 .1 .1 in
+    ((g .pending, found .highest-one .ensures), (omega arith, c .before .before .window-at .ensures))
 
 loop-less : tie.Need-loop-less Inv-loop μ-loop
 loop-less c =
@@ -136,13 +137,13 @@ add-t18 : tie.Need-add-t18 Inv-loop μ-loop
 add-t18 c = let near = c .before .before .before .loop .inv .pending .near in omega arith
 
 same-length : tie.Need-same-length Inv-loop μ-loop
-same-length c = cc
+same-length c = c .before .before .before .loop .inv .same-length
 
 returns : tie.Need-returns Inv-loop μ-loop
 returns c =
     let head = c .before .before .before .loop in
     let begun = c .before .before .before .before .begin .ensures in
-    cc (ends _ (head .out) (head .rest) (c .before .if1 .left), begun .same _ _)
+    ends _ (head .out) (head .rest) (c .before .if1 .left) ∙ head .inv .whole ∙ begun .same _ _
 
 pub draw-spec : {M : Type 1} → statement M
 draw-spec =

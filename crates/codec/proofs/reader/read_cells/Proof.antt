@@ -20,7 +20,7 @@ answer-is
     : (c : tie.After-conclude)
     → let pass = c .before .before .before .before .pass-over .result in
     countedAnswer (c .conclude .result) ≡ stripAnswer (pass .reading) (pass .used - 1)
-answer-is c = cc
+answer-is c = c .conclude .ensures ∙ ap (stripAnswer _) (c .before .last-place .ensures)
 
 last-place-requires : tie.Need-last-place-requires
 last-place-requires c κs =
@@ -47,7 +47,8 @@ returns c =
 
 slice-aggregate-words-to-bytes : tie.Need-slice-aggregate-words-to-bytes
 slice-aggregate-words-to-bytes c =
-    sym (length-take-le _ _ (omega (arith, c .before .before .before .before .before .if1 .left)))
+    let tested = c .before .before .before .before .before in
+    sym (length-take-le _ _ (omega (arith, tested .if1 .left, c .before .before .before .pass-over2 .kept .1 .1 .1 .0)))
 
 returns-2 : tie.Need-returns-2
 unfolding readOutput

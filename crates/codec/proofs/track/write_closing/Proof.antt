@@ -43,8 +43,10 @@ returns c =
     let all =
     drew .draw .ensures
     ∙ ap (λ (w : ℕ). drawn (now (made .before .before .args .table)) start (topBits 16 w))
-    (made .closing-word .ensures) in
-    (one-less _ _ (ap (λ (d : Drawing). d .pen .cells) all) (closing-ends-a-cell _ start _), cc all)
+    (made .closing-word .ensures) in (
+      one-less _ _ (ap (λ (d : Drawing). d .pen .cells) all) (closing-ends-a-cell _ start _),
+      ap (λ (d : Drawing). d .out) all,
+    )
 
 pub write-closing-spec : {M : Type 1} → statement M
 write-closing-spec =

@@ -1,6 +1,6 @@
 -- Why `codec::writer::write_each` draws all words of a list: each turn those of one item more. Rests on no axiom.
 use Prim.Native.Nat.{ℕ, _+_, _-_, _*_, _≤_, _<_}
-use mathlib.Core.Path.{_≡_, refl, sym, ap, _∙_}
+use mathlib.Core.Path.{_≡_, refl, sym, ap, ap₂, _∙_}
 use mathlib.Core.List.{List}
 use native.Mathlib.Omega.{arith}
 use borrow.Author.Needs.{needs}
@@ -49,7 +49,7 @@ module _ (table items old : List ℕ) (s : Writing) (check : Check) (k : ℕ) (h
       rw (length-of-item-bytes check (getD items k 0)) (bytes-of-bounds (getD items k 0) .1) in (
         omega arith,
         room-carries table left left (omega arith) writes (room-after-bytes table s bytes left (on .1 .0, omega arith)),
-        cc (writes, checks, behind),
+        ap₂ (λ (x : Writing) (c : Check). wrote table x (writtenFrom c (drop (k + 1) items))) writes checks ∙ behind,
       )
 
 abbrev Inv-loop : tie.InvT-loop
@@ -61,13 +61,16 @@ abbrev μ-loop : tie.MeasureT-loop
 
 loop-holds : tie.Need-loop-holds Inv-loop μ-loop
 unfolding written
-loop-holds c = rw (c .fresh .ensures, c .before .fresh-track .ensures) (omega arith, (omega arith, omega arith), refl)
+loop-holds c =
+    let few = c .before .before .before .before .pre .0 in
+    rw (c .fresh .ensures, c .before .fresh-track .ensures) (omega arith, (omega arith, omega arith), refl)
 
 write-item-requires : tie.Need-write-item-requires Inv-loop μ-loop
 write-item-requires c κs =
     let on = c .before .before .before .loop .inv in
     let pre = c .before .before .before .before .before .before .before .before .pre in
-    ((on .1 .0, omega arith), item-holds _ _ _ _ _ _ (c .before .before .loop-test .taken) on (pre .1))
+    let inside = c .before .before .loop-test .taken in
+    ((on .1 .0, omega (arith, on .1 .1)), item-holds _ _ _ _ _ _ inside on (pre .1))
 
 loop-again : tie.Need-loop-again Inv-loop μ-loop
 loop-again c =
@@ -85,7 +88,8 @@ returns c =
     let args = c .before .before .before .before .before .before .before .args in
     let s = writing (head .part .track) (head .out) in
     let none = written-from-end (head .part .check) (now (args .items)) (head .k) (c .before .loop-test .left) in
-    ((head .inv .1 .0, omega arith), cc (wrote-none (now (args .table)) s))
+    let end = sym (wrote-none (now (args .table)) s) ∙ ap (wrote (now (args .table)) s) (sym none) in
+    ((head .inv .1 .0, omega (arith, head .inv .1 .1)), end ∙ head .inv .2)
 
 pub write-each-spec : {M : Type 1} → statement M
 write-each-spec =

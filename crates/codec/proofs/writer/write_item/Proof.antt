@@ -39,7 +39,8 @@ write-byte-requires c κs =
     let tested = c .before .before .before in
     let entry = tested .before .before .before in
     let check = sym (tested .is-check .ensures) ∙ c .before .before .if1 .taken in
-    ((entry .pre .0 .0, omega arith), rw (c .before .high .ensures) (high-holds _ _ _ _ (entry .pre .1) check))
+    let holds = high-holds _ _ _ _ (entry .pre .1) check in
+    ((entry .pre .0 .0, omega (arith, entry .pre .0 .1)), rw (c .before .high .ensures) holds)
 
 write-byte-requires-2 : tie.Need-write-byte-requires-2
 write-byte-requires-2 c κs =
@@ -66,7 +67,9 @@ returns c =
     let check = sym (tested .is-check .ensures) ∙ high .before .before .before .if1 .taken in (
       checked .after-item .ensures,
       low .write-byte2 .ensures
-          ∙ ap₂ (wroteByte table) (cc) (low .before .before .low .ensures)
+          ∙ ap₂ (wroteByte table)
+          (high .write-byte .ensures ∙ ap (wroteByte table s) (high .before .before .high .ensures))
+          (low .before .before .low .ensures)
           ∙ ap (wrote table s) (sym (item-bytes-of-check _ _ check)),
     )
 
@@ -74,7 +77,7 @@ write-byte-requires-3 : tie.Need-write-byte-requires-3
 write-byte-requires-3 c κs =
     let entry = c .before .before .before .before .before in
     let other = sym (c .before .before .is-check .ensures) ∙ c .before .if1 .left in
-    ((entry .pre .0 .0, omega arith), byte-holds _ _ _ _ (entry .pre .1) other)
+    ((entry .pre .0 .0, omega (arith, entry .pre .0 .1)), byte-holds _ _ _ _ (entry .pre .1) other)
 
 returns-2 : tie.Need-returns-2
 unfolding wrote

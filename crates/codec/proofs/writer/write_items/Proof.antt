@@ -2,7 +2,7 @@
 -- no check order, and is its own bytes. Rests on no axiom.
 use Prim.Native.Nat.{ℕ}
 use native.Mathlib.Omega.{arith}
-use mathlib.Core.Path.{_≡_, ap, _∙_}
+use mathlib.Core.Path.{_≡_, sym, ap, _∙_}
 use mathlib.Core.List.{List}
 use borrow.Author.Needs.{needs}
 use denote.Ref.{now}
@@ -18,13 +18,13 @@ use Rattle.codec.proofs.writer.write_items.Statement.{statement}
 use Rattle.codec.proofs.writer.write_items.Tie as tie
 
 own-bytes : (items : List ℕ) (bytes : ℕ) → bytes ≡ writtenBytes items → bytes ≡ length items → written items ≡ items
-own-bytes items bytes counted few = written-of-no-check items (one-byte-each-is-no-check items (cc))
+own-bytes items bytes counted few = written-of-no-check items (one-byte-each-is-no-check items (sym counted ∙ few))
 
 write-bytes-requires : tie.Need-write-bytes-requires
 write-bytes-requires c κs =
     let entry = c .before .before .before .before .before in
     let own = own-bytes _ _ (entry .pre .0 .0) (c .before .before .if1 .taken) in
-    rw (c .before .fresh-track .ensures) ((omega arith, omega arith), rw own at (entry .pre .1))
+    rw (c .before .fresh-track .ensures) ((omega arith, omega (arith, entry .pre .0 .1)), rw own at (entry .pre .1))
 
 returns : tie.Need-returns
 returns c =
@@ -38,8 +38,8 @@ returns c =
     c .before .before .write-bytes .ensures
     ∙ ap (λ (t : Track). wrote table (writing t old) items) (begun .fresh-track .ensures) in (
       room-carries table 1 1 (omega arith) all
-          (room-after-bytes table (writing freshTrack old) items 1 (omega arith, omega arith)),
-      cc (all, own),
+          (room-after-bytes table (writing freshTrack old) items 1 (omega arith, omega (arith, entry .pre .0 .1))),
+      all ∙ ap (wrote table (writing freshTrack old)) (sym own),
     )
 
 pub write-items-spec : {M : Type 1} → statement M

@@ -31,8 +31,8 @@ returns c =
     let wrote = c .before .before .write-stream .ensures in
     let room = sym (tested .before .has-room .ensures) ∙ tested .if1 .taken in
     let answers = long-enough (entry .args .p) (written items) old room _ _ (wrote .0) (wrote .1) in (
-      cc (rule-of-stream (entry .args .p) items old (pre .0) (pre .1)),
-      cc (output-of-stream (entry .args .p) items old (pre .0) (pre .1)),
+      answers .0 ∙ rule-of-stream (entry .args .p) items old (pre .0) (pre .1),
+      answers .1 ∙ output-of-stream (entry .args .p) items old (pre .0) (pre .1),
     )
 
 returns-2 : tie.Need-returns-2
@@ -43,8 +43,8 @@ returns-2 c =
     let old = now (entry .args .out) in
     let no-room = sym (c .before .has-room .ensures) ∙ c .if1 .left in
     let answers = too-short (entry .args .p) (written items) old no-room in (
-      cc (rule-of-stream (entry .args .p) items old (pre .0) (pre .1)),
-      cc (output-of-stream (entry .args .p) items old (pre .0) (pre .1)),
+      answers .0 ∙ rule-of-stream (entry .args .p) items old (pre .0) (pre .1),
+      answers .1 ∙ output-of-stream (entry .args .p) items old (pre .0) (pre .1),
     )
 
 pub write-list-spec : {M : Type 1} → statement M
