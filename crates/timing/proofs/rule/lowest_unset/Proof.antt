@@ -1,7 +1,8 @@
 -- Why `timing::lowest_unset` answers `lowestUnset`: the scan keeps what is still to be found; a number that is out ends
 -- it at its place, and one that is inside moves it on. Rests on no axiom.
-use Prim.Native.Nat.{_≤_, _<_, _-_}
-use mathlib.Core.Path.{_≡_, refl, ap}
+use Prim.Native.Nat.{ℕ, _≤_, _<_, _-_}
+use mathlib.Core.Path.{_≡_, refl, sym, ap, _∙_}
+use mathlib.Core.List.{List}
 use native.Mathlib.Numerals.{add-one}
 use lib.ListN.{length}
 use borrow.Author.Needs.{needs}
@@ -31,11 +32,11 @@ returns c =
     let turn = c .before .before .before .before .before .loop in
     let below : turn .k < profileNumbers = c .before .before .before .before .loop-test .taken in
     let same = ap length (found .ensures) in
-    cc (
-      add-one (turn .k),
-      scan-ends-here ranges (found .result) none (turn .k) below (omega arith) (c .if1 .taken),
-      scan-finds-lowest (start .args .p),
-    )
+    add-one (turn .k)
+    ∙ sym (scan-ends-here ranges (found .result) none (turn .k) below (omega arith) (c .if1 .taken))
+    ∙ turn .inv .2
+    ∙ ap (λ (ns : List ℕ). unsetFrom ranges ns 0) (found .ensures)
+    ∙ scan-finds-lowest (start .args .p)
 
 loop-again : tie.Need-loop-again Inv-loop μ-loop
 loop-again c =
@@ -44,15 +45,20 @@ loop-again c =
     let below : turn .k < profileNumbers = c .before .before .before .before .loop-test .taken in
     let same = ap length (found .ensures) in (
       refl,
-      search needs,
-      cc (add-one (turn .k), scan-goes-on ranges (found .result) none (turn .k) below (omega arith) (c .if1 .left)),
+      omega (arith, below),
+      ap (unsetFrom ranges (found .result)) (add-one (turn .k))
+          ∙ sym (scan-goes-on ranges (found .result) none (turn .k) below (omega arith) (c .if1 .left))
+          ∙ turn .inv .2,
     )
 
 returns-2 : tie.Need-returns-2 Inv-loop μ-loop
 returns-2 c =
     let start = c .before .before .before in
     let found = c .before .before .numbers in
-    cc (scan-finds-none ranges (found .result) (c .before .loop .k) (omega arith), scan-finds-lowest (start .args .p))
+    sym (scan-finds-none ranges (found .result) (c .before .loop .k) (c .loop-test .left))
+    ∙ c .before .loop .inv .2
+    ∙ ap (λ (ns : List ℕ). unsetFrom ranges ns 0) (found .ensures)
+    ∙ scan-finds-lowest (start .args .p)
 
 pub lowest-unset-spec : {M : Type 1} → statement M
 lowest-unset-spec =

@@ -6,7 +6,7 @@ use Rattle.timing.proofs.cursor.Cursor.step.Tie as tie
 
 returns : tie.Need-returns
 unfolding cursorPast
-returns c = cc
+returns c = rw (c .class-of .ensures)
 
 pub step-spec : {M : Type 1} → statement M
 step-spec = tie.close (tie.spec (λ c κs. search needs) returns)
