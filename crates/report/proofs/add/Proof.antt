@@ -1,4 +1,5 @@
 -- Why `add` answers `added`: the rows are added where the sum is accepted. Rests on no axiom.
+use mathlib.Core.Path.{_∙_}
 use Rattle.refusal.proofs.AnswerLaws.{verdict-accepts}
 use Rattle.report.specs.Report.{added}
 use Rattle.report.proofs.RefusalLaws.{refused-gives-zeros, accepted-gives-report}
@@ -17,7 +18,8 @@ returns-2 : tie.Need-returns-2
 unfolding added
 returns-2 c =
     let told = c .before in
-    cc (accepted-gives-report _ _ _ (told .before .before .check-sum .ensures) (told .enum-told2 .given .1))
+    c .add-rows .ensures
+    ∙ accepted-gives-report _ _ _ (told .before .before .check-sum .ensures) (told .enum-told2 .given .1)
 
 pub add-spec : {M : Type 1} → statement M
 add-spec =

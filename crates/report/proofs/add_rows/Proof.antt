@@ -1,11 +1,12 @@
 -- Why `add_rows` answers `addReports`: each turn puts the sum of two rows in its place. Rests on no axiom.
 use Prim.Native.Nat.{_-_, _≤_}
-use mathlib.Core.Path.{_≡_, refl}
+use mathlib.Core.Path.{_≡_, refl, ap₂, _∙_}
 use mathlib.Core.List.{_++_}
 use native.Mathlib.Omega.{arith}
-use lib.ListN.{take, drop}
+use lib.ListN.{set, take, drop}
 use borrow.Author.Needs.{needs}
-use Rattle.report.specs.Report.{addReports, noReport}
+use Rattle.report.specs.Row.{Row}
+use Rattle.report.specs.Report.{Report, addReports, noReport}
 use Rattle.report.proofs.SumLaws.{row-of-sum-fits, next-row, rows-at-end}
 use Rattle.report.proofs.add_rows.Statement.{statement}
 use Rattle.report.proofs.add_rows.Tie as tie
@@ -21,11 +22,22 @@ add-requires c κs =
     let turn = c .before .before in row-of-sum-fits _ _ _ (turn .loop-test .taken) (turn .before .before .pre)
 
 loop-again : tie.Need-loop-again Inv-loop μ-loop
-loop-again c = (search needs, cc (c .add .ensures, next-row _ _ _ (c .before .before .before .loop-test .taken)))
+loop-again c =
+    let turn = c .before .before .before in
+    let k = turn .before .loop .k in (
+      omega (arith, turn .loop-test .taken),
+      ap₂ (λ (rows : Report) (row : Row). set rows k row) (turn .before .loop .inv .1) (c .add .ensures)
+          ∙ next-row _ _ _ (turn .loop-test .taken),
+    )
+
+returns : tie.Need-returns Inv-loop μ-loop
+returns c =
+    let head = c .before .loop in
+    head .inv .1 ∙ rows-at-end _ _ (head .k) (omega (arith, c .loop-test .left, head .inv .0))
 
 pub add-rows-spec : {M : Type 1} → statement M
 add-rows-spec =
     tie.close
     (tie.spec Inv-loop μ-loop (λ c. (search needs, refl)) (λ c. search needs) (λ c. search needs) (λ c. search needs)
     (λ c. search needs) add-requires (λ c. search needs) (λ c. search needs) (λ c. search needs) (λ c. search needs)
-    loop-again (λ c. cc (rows-at-end _ _ (c .before .loop .k) (omega arith))))
+    loop-again returns)

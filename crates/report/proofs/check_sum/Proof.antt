@@ -28,7 +28,8 @@ returns c =
 loop-again : tie.Need-loop-again Inv-loop μ-loop
 loop-again c =
     let turn = c .before .before .before .before in
-    (search needs, fits-here _ _ _ (turn .loop-test .taken) (cc) ∙ turn .before .loop .inv .1)
+    let fits = sym (c .before .overflows .ensures) ∙ c .if1 .left in
+    (search needs, fits-here _ _ _ (turn .loop-test .taken) fits ∙ turn .before .loop .inv .1)
 
 returns-2 : tie.Need-returns-2 Inv-loop μ-loop
 unfolding addRule

@@ -1,7 +1,9 @@
 -- Why `report_list` answers `reported`: a list that is accepted is not overlong, and its report is gathered from the
 -- start of a list. Rests on no axiom.
+use mathlib.Core.Path.{sym, ap, _∙_}
 use Rattle.refusal.proofs.AnswerLaws.{verdict-accepts}
-use Rattle.report.specs.Report.{reported}
+use Rattle.timing.specs.declared.cursor.Cursor.{Cursor}
+use Rattle.report.specs.Report.{reportFrom, reported}
 use Rattle.report.proofs.ReportLaws.{report-from-start}
 use Rattle.report.proofs.RefusalLaws.{refused-gives-zeros, accepted-gives-report, reported-list-is-short}
 use borrow.Author.Needs.{needs}
@@ -22,10 +24,11 @@ returns-2 : tie.Need-returns-2
 unfolding reported
 returns-2 c =
     let told = c .before .before in
-    cc (
-      report-from-start _ _,
-      accepted-gives-report _ _ _ (told .before .before .check-list .ensures) (told .enum-told2 .given .1),
-    )
+    let intervals = told .before .before .before .before .args .intervals .now in
+    c .gather .ensures
+    ∙ ap (λ (cursor : Cursor). reportFrom cursor intervals) (c .before .start .ensures)
+    ∙ sym (report-from-start _ _)
+    ∙ accepted-gives-report _ _ _ (told .before .before .check-list .ensures) (told .enum-told2 .given .1)
 
 pub report-list-spec : {M : Type 1} → statement M
 report-list-spec =
