@@ -35,7 +35,10 @@ module _ (p : Profile) (old : List ℕ) where
   an-entry-more k h table n stored entry =
       let place : k ≡ 0 + k = omega arith in
       let inside : k < length (lengthTable p) = rw size h in
-      cc (entry-is-rule (lengthAt p) 64 k 0 h, stored-copies k 0 (lengthTable p) old 0 inside)
+      ap (λ (t : List ℕ). set t k n) stored
+      ∙ ap (λ (i : ℕ). set (begun k) i n) place
+      ∙ ap (set (begun k) (0 + k)) (entry ∙ sym (entry-is-rule (lengthAt p) 64 k 0 h))
+      ∙ stored-copies k 0 (lengthTable p) old 0 inside
 
   whole : length old ≡ 64 → (k : ℕ) → 64 ≤ k → begun k ≡ lengthTable p
   unfolding filled
@@ -63,7 +66,9 @@ loop-again c =
     )
 
 returns : tie.Need-returns Inv-loop μ-loop
-returns c = cc (whole _ _ (length-replicate {A = ℕ} 64 0) (c .before .loop .k) (c .loop-test .left))
+returns c =
+    let head = c .before .loop in
+    head .inv .1 ∙ whole _ _ (length-replicate {A = ℕ} 64 0) (head .k) (c .loop-test .left)
 
 pub length-table-spec : {M : Type 1} → statement M
 length-table-spec =
