@@ -1,18 +1,19 @@
 -- What a word of half cells says of its byte: one test, which antt computes over every letter and row of eight letters
 -- after it in which gaps stand as reading gives them.
-use Prim.Native.Nat.{ℕ, zero, suc, _+_, _*_, _%_}
+use Prim.Native.Nat.{ℕ, zero, suc, _+_, _-_, _*_, _%_, _^_}
 use mathlib.Core.Path.{_≡_, refl, ap}
 use mathlib.Core.Bool.{Bool, true, false, not, _&&_, _||_}
 use mathlib.Core.List.{List, [], _∷_, _++_}
 use native.Mathlib.Omega.{arith}
 use lib.Dec.{T, eqb, eqb→eq}
+use lib.Bits.{bitAnd, bitOr, and-comm}
 use lib.Count.{leadingZeros}
 use lib.ListN.{length, take}
 use Rattle.lists.specs.Place.{anywhere, lowest, passed}
 use Rattle.symbols.specs.Bits.{Bit, O, I, G, lastOf}
 use Rattle.symbols.specs.Bytes.{digit, numberFrom, isGap, gapInPlace, straysFrom, rowStrays, itemOf}
 use Rattle.symbols.specs.machine.Candidate.{dataBits, candidate}
-use Rattle.symbols.specs.machine.Word.{missing, misfits}
+use Rattle.symbols.specs.machine.Word.{missing, isMarkWord, misfits}
 use Rattle.symbols.proofs.TestLaws.{and-false, holds, implied, left-of, right-of}
 use Rattle.symbols.proofs.RowLaws.{overLetters, over-letters}
 use Rattle.symbols.proofs.CellLaws.{follows, sound}
@@ -29,13 +30,21 @@ sameBool : Bool → Bool → Bool
 sameBool true b = b
 sameBool false b = not b
 
-wordRight : Bit → List Bit → Bool
-wordRight a row =
+-- the clock bits that are left out, the shorter number first, whose digits are the ones that antt goes through
+shownMissing : ℕ → ℕ
+shownMissing x = bitAnd 0x15554 ((2 ^ 32 - 1) - bitOr (bitOr x (x * 2 ^ 1 % 2 ^ 32)) (x * 2 ^ 2 % 2 ^ 32))
+
+rightWith : ℕ → Bit → List Bit → Bool
+rightWith gaps a row =
     let x = wordAfter a row in
     let tests = shownTests a row in
-    sameBool (anywhere passed tests) (misfits x)
-    && (not (misfits x) || eqb (leadingZeros 32 (missing x)) (15 + 2 * lowest passed tests))
-    && (misfits x || isGap (lastOf a row) || eqb (itemOf row) (candidate (x % 65536)))
+    let stray = not (eqb gaps 0) && not (isMarkWord x) in
+    sameBool (anywhere passed tests) stray
+    && (not stray || eqb (leadingZeros 32 gaps) (15 + 2 * lowest passed tests))
+    && (stray || isGap (lastOf a row) || eqb (itemOf row) (candidate (x % 65536)))
+
+wordRight : Bit → List Bit → Bool
+wordRight a row = let gaps = shownMissing (wordAfter a row) in rightWith gaps a row
 
 -- a test of every row of n letters that can follow one
 overNext : Bit → (Bit → Bool) → Bool
@@ -48,8 +57,8 @@ overRows zero a f = f []
 overRows (suc n) a f = overNext a λ b. overRows n b λ row. f (b ∷ row)
 
 all-words-right : T (overLetters λ a. overRows 8 a (wordRight a))
-unfolding overLetters overRows overNext wordRight sameBool wordAfter shownTests cellsAfter clockAfter dataOf numberFrom
-    lastOf misfits missing candidate dataBits itemOf anywhere lowest rowStrays straysFrom gapInPlace
+unfolding overLetters overRows overNext wordRight rightWith shownMissing sameBool wordAfter shownTests cellsAfter
+    clockAfter dataOf numberFrom lastOf candidate dataBits itemOf anywhere lowest rowStrays straysFrom gapInPlace
     leadingZeros
 all-words-right = tt
 
@@ -101,15 +110,26 @@ same-bool false false t = refl
 unless : (a b c : Bool) → T (a || b || c) → a ≡ false → b ≡ false → T c
 unless a b c t h k = rw (h, k) at t
 
-pub word-verdict : (a : Bit) (row : List Bit) → length row ≡ 8 → T (sound a row) → Verdict a row
+shown-is-missing : (x : ℕ) → missing x ≡ shownMissing x
+unfolding missing shownMissing
+shown-is-missing x = and-comm _ 0x15554
+
+right-with-missing :
+    (a : Bit) (row : List Bit) → length row ≡ 8 → T (sound a row) → T (rightWith (missing (wordAfter a row)) a row)
 unfolding wordRight
+right-with-missing a row n s =
+    rw (shown-is-missing (wordAfter a row))
+    (over-rows 8 a (wordRight a) (over-letters (λ a. overRows 8 a (wordRight a)) all-words-right a) row n s)
+
+pub word-verdict : (a : Bit) (row : List Bit) → length row ≡ 8 → T (sound a row) → Verdict a row
+unfolding rightWith misfits
 word-verdict a row n s =
     let x = wordAfter a row in
     let tests = shownTests a row in
     let p : Bool = sameBool (anywhere passed tests) (misfits x) in
     let q : Bool = not (misfits x) || eqb (leadingZeros 32 (missing x)) (15 + 2 * lowest passed tests) in
     let r : Bool = misfits x || isGap (lastOf a row) || eqb (itemOf row) (candidate (x % 65536)) in
-    let t = over-rows 8 a (wordRight a) (over-letters (λ a. overRows 8 a (wordRight a)) all-words-right a) row n s in
+    let t = right-with-missing a row n s in
     let pq = left-of (p && q) r t in
     record {
       stray = same-bool _ _ (left-of p q pq);
