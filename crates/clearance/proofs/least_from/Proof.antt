@@ -1,10 +1,11 @@
 -- Why `least_from` answers `leastFrom`: each turn takes the lesser of the least so far and an interval's clearance.
 -- Rests on no axiom.
 mod Turn
-use Prim.Native.Nat.{_-_}
+use Prim.Native.Nat.{ℕ, _-_, min}
+use mathlib.Core.Path.{ap₂, _∙_}
 use native.Mathlib.Omega.{arith}
 use lib.ListN.{length}
-use Rattle.clearance.specs.Nearest.{leastMet}
+use Rattle.clearance.specs.Nearest.{turned, room, leastMet}
 use Rattle.clearance.proofs.NearestLaws.{met-with}
 use borrow.Author.Needs.{needs}
 use Rattle.clearance.proofs.least_from.Proof.Turn.{Met, none-met, one-more-met, all-met}
@@ -34,8 +35,14 @@ loop-again c =
 returns : tie.Need-returns Inv-loop μ-loop
 unfolding leastMet
 returns c =
-    let at-end = c .before .before .before .before .before .before in
-    cc (all-met _ _ _ _ (at-end .before .loop .inv) (at-end .loop-test .left))
+    let at-room = c .before .before in
+    let at-end = at-room .before .before .before .before in
+    let met = at-end .before .loop in
+    let bounds = ap₂ (λ (low high : ℕ). room low high (turned (met .shortest)) (turned (met .longest)))
+    (at-room .before .before .before .turned .ensures) (at-room .before .turned2 .ensures) in
+    c .lesser .ensures
+    ∙ ap₂ min (at-room .room .ensures ∙ bounds) (c .before .room2 .ensures)
+    ∙ all-met _ _ _ _ (met .inv) (at-end .loop-test .left)
 
 pub least-from-spec : {M : Type 1} → statement M
 least-from-spec =

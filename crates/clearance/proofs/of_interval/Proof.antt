@@ -1,7 +1,10 @@
 -- Why `of_interval` answers `clearanceOf`: the least of one clearance is that clearance, and under an accepted profile
 -- the edges ascend. Rests on no axiom.
 use native.Mathlib.Omega.{arith}
-use Rattle.clearance.specs.Clearance.{clearanceOf}
+use mathlib.Core.Path.{ap, _∙_}
+use mathlib.Core.List.{[], _∷_}
+use Rattle.timing.specs.declared.cursor.Cursor.{Cursor}
+use Rattle.clearance.specs.Clearance.{leastFrom, clearanceOf}
 use Rattle.clearance.proofs.CursorLaws.{ascending-at-start}
 use Rattle.clearance.proofs.LeastLaws.{least-from-one}
 use borrow.Author.Needs.{needs}
@@ -13,7 +16,11 @@ least-from-requires c κs = (rw (c .before .start .ensures) (ascending-at-start 
 
 returns : tie.Need-returns
 unfolding clearanceOf
-returns c = cc (least-from-one _ _)
+returns c =
+    let interval = c .before .before .before .args .interval in
+    c .least-from .ensures
+    ∙ ap (λ (at : Cursor). leastFrom at (interval ∷ [])) (c .before .before .start .ensures)
+    ∙ least-from-one _ interval
 
 pub of-interval-spec : {M : Type 1} → statement M
 of-interval-spec = tie.close (tie.spec (λ c κs. search needs) (λ c. search needs) least-from-requires returns)
