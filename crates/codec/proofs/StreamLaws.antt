@@ -13,7 +13,7 @@ use Rattle.items.specs.Item.{isByte}
 use Rattle.symbols.specs.Bits.{Bit, O, I, lastOf}
 use Rattle.symbols.specs.Cells.{writtenCells}
 use Rattle.timing.specs.declared.Profile.{Profile}
-use Rattle.images.specs.Words.{clockBit, lastBit}
+use Rattle.words.specs.Words.{clockBit, lastBit}
 use Rattle.images.specs.Image.{imageOf}
 use Rattle.images.specs.Distances.{imageCells, distancesFrom}
 use Rattle.images.specs.machine.TopBits.{topBits}

@@ -14,7 +14,7 @@ use Rattle.lists.proofs.PlaceLaws.{everywhere-passes-at-first, everywhere-in-re
 use Rattle.items.specs.Item.{isByte}
 use Rattle.symbols.specs.Bits.{Bit, lastOf}
 use Rattle.symbols.proofs.CellLaws.{last-append}
-use Rattle.images.specs.Words.{wordOf, lastBit}
+use Rattle.words.specs.Words.{wordOf, lastBit}
 use Rattle.images.specs.Image.{imageFrom}
 use Rattle.images.specs.Distances.{halfCells, imageCells}
 use Rattle.images.specs.machine.TopBits.{topBits}

@@ -34,7 +34,7 @@ pub fn write_byte(table: &[u16; 64], start: Track, byte: u16, out: &mut [u16]) -
     ensures { λ r. ⌜
         writing r (now (out .exit)) ≡ wroteByte (now (table .entry)) (writing start (now (out .entry))) byte ⌝ }
 {
-    let word = images::made_word(start.previous, byte);
+    let word = words::made_word(start.previous, byte);
     let pen = draw(table, start.pen, word as u32, 16, out);
     Track {
         pen,
@@ -51,8 +51,8 @@ fn write_two(table: &[u16; 64], start: Track, first: u16, second: u16, out: &mut
         ≡ wroteByte (now (table .entry))
         (wroteByte (now (table .entry)) (writing start (now (out .entry))) first) second ⌝ }
 {
-    let high = images::made_word(start.previous, first);
-    let low = images::made_word(first, second);
+    let high = words::made_word(start.previous, first);
+    let low = words::made_word(first, second);
     let pen = draw(table, start.pen, (high as u32) << 16 | low as u32, 32, out);
     Track {
         pen,

@@ -7,7 +7,7 @@ use Rattle.refusal.specs.Answer.{accepted, refused}
 use Rattle.items.specs.Item.{isMark}
 use Rattle.symbols.specs.Bits.{O, I, byteBits, lastOf}
 use Rattle.symbols.specs.Bytes.{numberFrom}
-use Rattle.images.specs.Words.{clockBit, clocked, dataWord, markWord, wordOf, lastBit}
+use Rattle.words.specs.Words.{clockBit, clocked, dataWord, markWord, wordOf, lastBit}
 use Rattle.images.specs.Image.{imageFrom, imageOf, allBytes, isUnruly, byteOf, unrulyFrom, unrulyIn}
 use Rattle.images.specs.Rules.{wordsRule}
 use Rattle.images.specs.Distances.{halfCells, imageCells, framed, distancesFrom, distances}

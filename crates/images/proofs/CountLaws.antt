@@ -19,7 +19,7 @@ use Rattle.symbols.proofs.CellLaws.{sound}
 use Rattle.symbols.proofs.HalfCells.{clockAfter, dataOf, cellsAfter, onesAmong}
 use Rattle.symbols.proofs.HalfLaws.{cells-after-append}
 use Rattle.symbols.proofs.NumberLaws.{ones-of-number}
-use Rattle.images.specs.Words.{clockBit, wordOf, lastBit}
+use Rattle.words.specs.Words.{clockBit, wordOf, lastBit}
 use Rattle.images.specs.Distances.{distancesFrom}
 use Rattle.images.proofs.WordLaws.{word-is-kept, last-bit-is-data}
 use Rattle.images.proofs.DistanceLaws.{unitsAt, distances-of-letters, last-of-first}

@@ -14,7 +14,7 @@ use Rattle.symbols.specs.Cells.{pairSymbols, symbolsFrom, symbolsOf, cellsFrom,
 use Rattle.symbols.proofs.CellLaws.{last-append, follows, sound, sound-append}
 use Rattle.symbols.proofs.HalfCells.{clockAfter, dataOf, cellsAfter}
 use Rattle.symbols.proofs.HalfLaws.{cells-after-append}
-use Rattle.images.specs.Words.{clockBit, wordOf, lastBit}
+use Rattle.words.specs.Words.{clockBit, wordOf, lastBit}
 use Rattle.images.specs.Image.{imageFrom, imageOf}
 use Rattle.images.specs.Distances.{halfCells, imageCells, framed, distancesFrom, distances}
 use Rattle.images.proofs.WordLaws.{word-is-kept, last-bit-is-data}

@@ -13,7 +13,7 @@ use Rattle.lists.proofs.PlaceLaws.{everywhere-passes-at-first, everywhere-in-re
 use Rattle.items.specs.Item.{isByte}
 use Rattle.symbols.specs.Bits.{Bit, O}
 use Rattle.symbols.specs.Bytes.{isGap}
-use Rattle.images.specs.Words.{wordOf, lastBit}
+use Rattle.words.specs.Words.{wordOf, lastBit}
 use Rattle.images.specs.Image.{imageFrom, imageOf, hasWord, isUnruly, byteOf, unrulyFrom, bytesFrom}
 use Rattle.symbols.specs.machine.Candidate.{candidate}
 use Rattle.images.proofs.WordLaws.{word-is-kept, last-bit-is-data}

@@ -1,6 +1,4 @@
 -- One word: the table, the test over all words
-pub mod TableLaws
-pub mod SpreadLaws
 pub mod WordLaws
 -- Words and cells
 pub mod DistanceLaws

@@ -17,7 +17,7 @@ use Rattle.items.specs.Item.{isByte, isMark}
 use Rattle.items.proofs.ItemLaws.{data-is-byte, byte-is-data-or-mark, mark-is-A1-or-C2}
 use Rattle.symbols.specs.Bits.{Bit}
 use Rattle.symbols.specs.Bytes.{isGap}
-use Rattle.images.specs.Words.{wordOf}
+use Rattle.words.specs.Words.{wordOf}
 use Rattle.images.specs.Image.{allBytes, hasWord, isUnruly, byteOf}
 use Rattle.symbols.specs.machine.Candidate.{fours, dataBits, candidate}
 use Rattle.images.proofs.WordLaws.{word-is-kept}

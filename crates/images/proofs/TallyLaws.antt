@@ -23,7 +23,7 @@ use Rattle.symbols.specs.Cells.{writtenCells}
 use Rattle.symbols.proofs.UnitLaws.{digit-is-small, cells-at-most}
 use Rattle.symbols.proofs.HalfCells.{onesAmong}
 use Rattle.symbols.proofs.NumberLaws.{ones-of-number}
-use Rattle.images.specs.Words.{clocked, dataWord, markWord, wordOf, lastBit}
+use Rattle.words.specs.Words.{clocked, dataWord, markWord, wordOf, lastBit}
 use Rattle.images.specs.machine.Tally.{noTally, talliedByte, tallied}
 use Rattle.images.specs.declared.count.Tally.{Tally}
 use Rattle.images.proofs.WordLaws.{last-bit-is-data}

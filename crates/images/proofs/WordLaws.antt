@@ -11,7 +11,7 @@ use Rattle.symbols.proofs.TestLaws.{left-of, right-of, holds}
 use Rattle.symbols.proofs.RowLaws.{sameBit, sameBits, same-bit, same-bits, passesBelow, overBytes, over-bytes}
 use Rattle.symbols.proofs.CellLaws.{follows, sound}
 use Rattle.symbols.proofs.HalfCells.{clockAfter, dataOf, cellsAfter}
-use Rattle.images.specs.Words.{clockBit, clocked, dataWord, markWord, wordOf, lastBit}
+use Rattle.words.specs.Words.{clockBit, clocked, dataWord, markWord, wordOf, lastBit}
 use Rattle.images.specs.Distances.{halfCells}
 use Rattle.symbols.specs.machine.Candidate.{dataBits, candidate}
 use Rattle.images.specs.machine.TopBits.{topBits}

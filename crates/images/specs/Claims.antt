@@ -12,7 +12,7 @@ use Rattle.items.specs.Written.{written}
 use Rattle.items.specs.Rule.{listRule}
 use Rattle.symbols.specs.Bits.{writtenBits}
 use Rattle.symbols.specs.Cells.{symbolsFrom, cellsOf, writtenCells}
-use Rattle.images.specs.Words.{wordOf, lastBit}
+use Rattle.words.specs.Words.{wordOf, lastBit}
 use Rattle.images.specs.Image.{imageOf}
 use Rattle.images.specs.Rules.{makeRule, makeOutput, readImageRule, readImageOutput}
 use Rattle.images.specs.Distances.{framed, distances}

@@ -3,7 +3,7 @@ use Prim.Native.Nat.{ℕ, suc, _/_, _%_}
 use mathlib.Core.Bool.{cond}
 use mathlib.Core.List.{List, [], _∷_, _++_}
 use Rattle.symbols.specs.Bits.{Bit, O, I, isOne, byteBits, lastOf}
-use Rattle.images.specs.Words.{clockBit}
+use Rattle.words.specs.Words.{clockBit}
 
 -- a word's half cells, most significant first
 unfoldable pub halfCells : ℕ → List Bit

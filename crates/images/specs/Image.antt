@@ -7,7 +7,7 @@ use lib.ListN.{getD}
 use Rattle.lists.specs.Place.{anywhere, lowest}
 use Rattle.lists.specs.Table.{tabulated}
 use Rattle.symbols.specs.Bits.{Bit, O}
-use Rattle.images.specs.Words.{wordOf, lastBit}
+use Rattle.words.specs.Words.{wordOf, lastBit}
 
 -- the words of written bytes, after a data bit; the previous bit of a word is the last data bit of the byte before
 unfoldable pub imageFrom : Bit → List ℕ → List ℕ

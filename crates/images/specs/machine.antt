@@ -1,3 +1,2 @@
-pub mod Spread
 pub mod TopBits
 pub mod Tally

@@ -7,8 +7,8 @@ ghost use Rattle.items.specs.Rule.{listRule};
 ghost use Rattle.items.specs.Written.{afterItem, itemBytes, written};
 ghost use Rattle.symbols.specs.Cells.{writtenCells};
 ghost use Rattle.images.specs.machine.Tally.{noTally, talliedByte, tallied};
-use crate::words::made_word;
 use items::Check;
+use words::made_word;
 
 // The cells that ended so far, and the byte before. No list writes 65,536 cells: numbers of 16 bits add up fastest.
 pub struct Tally {

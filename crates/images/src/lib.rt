@@ -2,10 +2,7 @@
 mod count;
 mod make;
 mod read;
-mod table;
-mod words;
 
 pub use count::count_cells;
 pub use make::make_image;
 pub use read::read_image;
-pub use words::made_word;

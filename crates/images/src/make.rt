@@ -5,12 +5,12 @@ ghost use Rattle.refusal.specs.Answer.{countedAnswer};
 ghost use Rattle.items.specs.Rule.{listRule};
 ghost use Rattle.images.specs.Image.{imageOf};
 ghost use Rattle.images.specs.Rules.{makeRule, makeOutput};
-use crate::table::code_words;
-use crate::words::word_of;
 use items::Check;
 use refusal::Counted;
 use refusal::Refusal;
 use refusal::Verdict;
+use words::code_words;
+use words::word_of;
 
 // Written bytes become their words where they stand.
 fn turn_into_words(bytes: &mut [u16])

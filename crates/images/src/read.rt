@@ -9,12 +9,12 @@ ghost use Rattle.refusal.specs.Answer.{verdictAnswer, countedAnswer};
 ghost use Rattle.images.specs.Image.{unrulyIn};
 ghost use Rattle.images.specs.Rules.{wordsRule, readImageRule, readImageOutput};
 ghost use Rattle.symbols.specs.machine.Candidate.{candidate};
-use crate::table::code_words;
-use crate::words::word_of;
 use refusal::Counted;
 use refusal::Refusal;
 use refusal::Verdict;
 use symbols::word::byte_of;
+use words::code_words;
+use words::word_of;
 
 // The most words that an image may have.
 const MAX_WORDS: usize = 6400;

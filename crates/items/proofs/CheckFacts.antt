@@ -3,7 +3,7 @@ use Prim.Native.Nat.{ℕ}
 use mathlib.Core.Path.{_≡_, refl, sym, ap, _∙_}
 use mathlib.Core.List.{List, [], _∷_, _++_, append-assoc}
 use Rattle.items.specs.Item.{isMark, isCheck}
-use Rattle.items.specs.Register.{fed, shiftedBy, shifted}
+use Rattle.register.specs.Register.{fed, shiftedBy, shifted}
 use Rattle.items.specs.Written.{freshCheck, beforeMark, afterMark, afterData, afterByte, afterBytes, checkBytes}
 use Rattle.items.specs.Written.{itemBytes, writtenFrom, written}
 use Rattle.items.specs.declared.Check.{Check}

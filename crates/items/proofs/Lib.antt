@@ -1,7 +1,3 @@
-pub mod XorLaws
-pub mod LinearLaws
-pub mod RegisterLaws
-pub mod FormulaLaws
 pub mod ItemLaws
 pub mod CheckLaws
 pub mod WrittenLaws

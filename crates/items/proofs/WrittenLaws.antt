@@ -13,7 +13,7 @@ use Rattle.lists.proofs.PlaceLaws.{nowhere-fails-at-first, nowhere-in-rest}
 use Rattle.lists.specs.Filled.{storedAt}
 use Rattle.lists.proofs.StoreLaws.{front-of-stored}
 use Rattle.items.specs.Item.{isByte, isCheck, isItem, isForeign, bytesOf, writtenBytes}
-use Rattle.items.specs.Register.{highByte, lowByte}
+use Rattle.register.specs.Register.{highByte, lowByte}
 use Rattle.items.specs.Written.{freshCheck, afterByte, afterBytes, checkBytes, itemBytes, afterCheck, afterItem}
 use Rattle.items.specs.Written.{writtenFrom, written}
 use Rattle.items.specs.declared.Check.{Check}

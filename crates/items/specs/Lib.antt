@@ -1,4 +1,3 @@
 pub mod Item
-pub mod Register
 pub mod Written
 pub mod Rule

@@ -5,7 +5,7 @@ use Prim.Native.Nat.{ℕ, _%_}
 use mathlib.Core.Bool.{true, false, cond}
 use mathlib.Core.List.{List, [], _∷_, _++_}
 use Rattle.items.specs.Item.{isMark, isCheck}
-use Rattle.items.specs.Register.{allOnes, fed, highByte, lowByte}
+use Rattle.register.specs.Register.{allOnes, fed, highByte, lowByte}
 use Rattle.items.specs.declared.Check.{Check}
 
 -- all ones at the start of a list

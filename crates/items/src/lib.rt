@@ -1,6 +1,5 @@
 // Document 01, "Items and the check register".
 mod list;
-mod register;
 
 pub use list::Stored;
 pub use list::check_list;
@@ -11,7 +10,7 @@ ghost use Prim.Native.Nat.{_≤_, _<_};
 ghost use mathlib.Core.Path.{_≡_};
 ghost use lib.ListN.{length, drop};
 ghost use Rattle.items.specs.Item.{isMark, isCheck, isItem, bytesOf};
-ghost use Rattle.items.specs.Register.{highByte, lowByte};
+ghost use Rattle.register.specs.Register.{highByte, lowByte};
 ghost use Rattle.items.specs.Written.{freshCheck, beforeMark, afterByte, afterBytes, afterCheck, afterItem};
 
 pub fn is_mark(n: u16) -> bool

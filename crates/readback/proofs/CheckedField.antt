@@ -12,7 +12,7 @@ use Rattle.timing.specs.Profile.{outside}
 use Rattle.timing.specs.Class.{classesOf}
 use Rattle.timing.specs.declared.Profile.{Profile}
 use Rattle.items.specs.Item.{isByte}
-use Rattle.items.specs.Register.{highByte, lowByte}
+use Rattle.register.specs.Register.{highByte, lowByte}
 use Rattle.items.specs.Written.{freshCheck, afterBytes}
 use Rattle.items.proofs.ItemLaws.{data-is-byte}
 use Rattle.items.proofs.CheckLaws.{fresh-bound, after-bytes-bound, high-byte-bound, low-byte-bound}

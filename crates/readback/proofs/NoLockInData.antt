@@ -15,7 +15,7 @@ use Rattle.timing.specs.declared.Profile.{Profile}
 use Rattle.timing.proofs.ClassLaws.{classes-of-drop}
 use Rattle.timing.proofs.ProfileLaws.{kept}
 use Rattle.items.specs.Item.{isMark}
-use Rattle.items.specs.Register.{highByte, lowByte}
+use Rattle.register.specs.Register.{highByte, lowByte}
 use Rattle.items.specs.Written.{freshCheck, itemBytes, afterItem, writtenFrom, written}
 use Rattle.items.specs.declared.Check.{Check}
 use Rattle.items.proofs.ItemLaws.{check-or-not, data-is-no-mark}

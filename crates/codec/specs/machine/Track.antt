@@ -4,7 +4,7 @@ use Prim.Native.Nat.{ℕ, _+_, _*_, _%_}
 use mathlib.Core.Bool.{cond}
 use mathlib.Core.List.{List, [], _∷_}
 use lib.Dec.{eqb}
-use Rattle.images.specs.Words.{wordOf, lastBit}
+use Rattle.words.specs.Words.{wordOf, lastBit}
 use Rattle.images.specs.machine.TopBits.{topBits}
 use Rattle.codec.specs.machine.Pen.{Drawing, drawing, drawn, Fits}
 use Rattle.codec.specs.declared.track.Track.{Track}

@@ -8,7 +8,7 @@ use mathlib.Core.List.{List, [], _∷_}
 use borrow.Author.Needs.{needs}
 use denote.Ref.{now}
 use Rattle.items.specs.Item.{isCheck}
-use Rattle.items.specs.Register.{highByte, lowByte}
+use Rattle.register.specs.Register.{highByte, lowByte}
 use Rattle.items.specs.Written.{itemBytes}
 use Rattle.items.specs.declared.Check.{Check}
 use Rattle.items.proofs.WrittenLaws.{item-bytes-of-check, item-bytes-of-byte}

@@ -3,7 +3,7 @@ use native.Mathlib.Omega.{arith}
 use mathlib.Core.Path.{ap}
 use lib.Count.{ones}
 use borrow.Author.Needs.{needs}
-use Rattle.images.specs.Words.{lastBit}
+use Rattle.words.specs.Words.{lastBit}
 use Rattle.images.specs.machine.Tally.{talliedByte}
 use Rattle.images.proofs.TallyLaws.{sixteen-at-most}
 use Rattle.images.proofs.count.count_byte.Statement.{statement}

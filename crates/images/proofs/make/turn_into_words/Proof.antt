@@ -8,7 +8,7 @@ use native.Mathlib.Numerals.{add-one}
 use borrow.Author.Needs.{needs}
 use lib.ListN.{length, getD, set, take, drop, length-set}
 use lib.Seq.{drop-cons, take-suc-set, drop-set-lt, take-length, drop-length}
-use Rattle.images.specs.Words.{wordOf, lastBit}
+use Rattle.words.specs.Words.{wordOf, lastBit}
 use Rattle.images.specs.Image.{imageFrom, imageOf}
 use Rattle.images.proofs.make.turn_into_words.Statement.{statement}
 use Rattle.images.proofs.make.turn_into_words.Tie as tie

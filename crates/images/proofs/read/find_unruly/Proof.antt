@@ -12,7 +12,7 @@ use denote.Ref.{now}
 use lib.ListN.{length, getD, drop, drop-of-length-le}
 use lib.Seq.{drop-cons}
 use Rattle.lists.specs.Place.{lowest, passed}
-use Rattle.images.specs.Words.{wordOf, lastBit}
+use Rattle.words.specs.Words.{wordOf, lastBit}
 use Rattle.images.specs.Image.{unrulyFrom, unrulyIn}
 use Rattle.symbols.specs.machine.Candidate.{candidate}
 use Rattle.images.proofs.WordLaws.{last-bit-is-data}

@@ -10,7 +10,7 @@ use lib.ListN.{set}
 use Rattle.lists.specs.Filled.{storedAt}
 use Rattle.lists.proofs.StoreLaws.{stored-past-end}
 use Rattle.items.specs.Item.{isCheck}
-use Rattle.items.specs.Register.{highByte, lowByte}
+use Rattle.register.specs.Register.{highByte, lowByte}
 use Rattle.items.specs.Written.{itemBytes}
 use Rattle.items.specs.declared.Check.{Check}
 use Rattle.items.proofs.WrittenLaws.{item-bytes-of-check, item-bytes-of-byte}

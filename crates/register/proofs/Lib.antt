@@ -1,0 +1,4 @@
+pub mod XorLaws
+pub mod LinearLaws
+pub mod RegisterLaws
+pub mod FormulaLaws
