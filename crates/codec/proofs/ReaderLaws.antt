@@ -23,7 +23,7 @@ use Rattle.timing.proofs.ClassLaws.{classes-from-start, classes-length}
 use Rattle.timing.proofs.EdgeLaws.{accepted-ascends}
 use Rattle.symbols.specs.Reading.{readBits}
 use Rattle.symbols.specs.Strip.{isRagged, isStray, bytesRead, strayPlace, stripRule, stripItems}
-use Rattle.symbols.specs.machine.Candidate.{candidate}
+use Rattle.half_cells.specs.Candidate.{candidate}
 use Rattle.symbols.specs.machine.Step.{freshReading, ran, ranWords, stripAnswer}
 use Rattle.symbols.specs.declared.Cell.{Cell}
 use Rattle.symbols.proofs.RoundTripLaws.{write-of-read}

@@ -8,6 +8,7 @@ ghost use Rattle.timing.specs.Class.{classesOf};
 ghost use Rattle.symbols.specs.machine.Step.{stripAnswer};
 ghost use Rattle.intervals.specs.Cells.{edgeRule};
 ghost use Rattle.codec.specs.Reader.{readRule, readOutput};
+use half_cells::words_to_bytes;
 use intervals::edges::check_edges;
 use intervals::last_place;
 use intervals::pass_over;
@@ -15,7 +16,6 @@ use refusal::Counted;
 use refusal::Refusal;
 use refusal::Verdict;
 use symbols::Reading;
-use symbols::word::words_to_bytes;
 use timing::Profile;
 
 // The most intervals of a strip: 6,400 bytes and the two closing 0s. It has fewer bytes than intervals, so that no pass

@@ -3,7 +3,7 @@
 -- begins. Rests on no axiom.
 use Prim.Native.Nat.{ℕ, suc, _+_, _-_, _<_, _≤_}
 use mathlib.Core.Path.{_≡_, refl, sym, ap, _∙_}
-use mathlib.Core.Bool.{Bool, true, false, cond, _&&_, true≢false}
+use mathlib.Core.Bool.{Bool, true, false, cond, _&&_}
 use mathlib.Core.List.{List, [], _∷_, _++_, append-assoc}
 use native.Mathlib.Omega.{arith}
 use lib.Dec.{eqb, ltb}
@@ -11,6 +11,7 @@ use lib.ListN.{length, getD, drop, replicate, length-append, length-replicate, g
 use lib.Seq.{append-snoc, drop-at, getD-append-add, getD-append-seam}
 use borrow.Author.Tests.{ltb-true, eqb-true, eqb-false}
 use Rattle.lists.specs.Place.{anywhere}
+use Rattle.lists.proofs.BoolLaws.{both}
 use Rattle.refusal.specs.Answer.{Answer, accepted}
 use Rattle.timing.specs.Class.{classNumber}
 use Rattle.timing.specs.declared.Class.{Class}
@@ -83,10 +84,6 @@ module _ (front : List Class) (m : ℕ) (rest : List Class) where
 unfoldable pub passes : ℕ → List Class → Bool
 passes run [] = eqb run 0
 passes run (c ∷ cs) = cond (eqb (classNumber c) 2) (ltb run 63 && passes (suc run) cs) (passes 0 cs)
-
-both : (a b : Bool) → (a && b) ≡ true → (a ≡ true) × (b ≡ true)
-both true b h = (refl, h)
-both false b h = absurd (true≢false (sym h))
 
 module _ (tail : List Class) where
   abbrev Passed : List Class → List Class → ℕ → Type 0

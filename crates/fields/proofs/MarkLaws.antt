@@ -3,13 +3,14 @@
 -- induction on the cells. Rests on no axiom.
 use Prim.Native.Nat.{ℕ, zero, suc, _+_}
 use mathlib.Core.Path.{_≡_, refl, sym, ap, _∙_}
-use mathlib.Core.Bool.{Bool, true, false, _&&_, _||_, true≢false, false≢true}
+use mathlib.Core.Bool.{Bool, true, false, _||_, true≢false, false≢true}
 use mathlib.Core.List.{List, [], _∷_, _++_, map}
 use lib.Dec.{eqb}
 use lib.ListN.{drop}
 use lib.Seq.{drop-drop}
 use borrow.Author.Tests.{eqb-true}
 use Rattle.lists.specs.Place.{anywhere}
+use Rattle.lists.proofs.BoolLaws.{both}
 use Rattle.lists.proofs.PlaceLaws.{anywhere-of-append}
 use Rattle.timing.specs.Class.{classNumber}
 use Rattle.symbols.specs.Bits.{Bit, O, I, G}
@@ -29,10 +30,6 @@ number-of-class : (x : Cell) → classNumber (classOfCell x) ≡ units x
 number-of-class Short = refl
 number-of-class Medium = refl
 number-of-class Long = refl
-
-both : (a b : Bool) → (a && b) ≡ true → (a ≡ true) × (b ≡ true)
-both true b e = (refl, e)
-both false b e = absurd (false≢true e)
 
 -- cells whose classes begin with the numbers of some cells begin with those cells
 cells-of-pattern

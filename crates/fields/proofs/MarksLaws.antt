@@ -13,7 +13,7 @@ use Rattle.items.specs.Item.{isMark}
 use Rattle.timing.specs.Class.{classesOf, classNumber}
 use Rattle.timing.specs.declared.Profile.{Profile}
 use Rattle.timing.specs.declared.Class.{Class}
-use Rattle.symbols.specs.Bits.{Bit, O, I, G, byteBits, markBits, withGaps, writtenBits, allBits}
+use Rattle.symbols.specs.Bits.{Bit, O, I, byteBits, markBits, withGaps, writtenBits, allBits}
 use Rattle.symbols.specs.Cells.{pairSymbols, symbolsFrom, symbolsOf, cellsFrom, cellsOf}
 use Rattle.symbols.specs.Reading.{units, given, lastAfter, readFrom, readBits}
 use Rattle.symbols.specs.Bytes.{itemOf, rowStrays, rowsOf, straysOf, itemsRead, straysRead}

@@ -1,7 +1,7 @@
 -- The field reader's answer and output from what its first two tests found, and that it uses no more intervals than
 -- there are. Rests on no axiom.
 use Prim.Native.Nat.{ℕ, zero, suc, _≤_}
-use mathlib.Core.Path.{_≡_, _∙_}
+use mathlib.Core.Path.{_≡_, sym, _∙_}
 use mathlib.Core.Bool.{Bool, true, false, cond}
 use mathlib.Mathlib.Data.Bool.Basic.{or-eq-false-eq-eq-false-and-eq-false}
 use mathlib.Core.List.{List, [], _∷_}
@@ -9,6 +9,7 @@ use native.Mathlib.Omega.{arith}
 use borrow.Author.Tests.{ltb-false, le-ltb, eq-eqb}
 use lib.Dec.{eqb, ltb}
 use lib.ListN.{length}
+use Rattle.lists.proofs.StoreLaws.{stored-at-front-fills, stored-over-all}
 use Rattle.refusal.specs.Table.{numberOf, placeOf}
 use Rattle.refusal.specs.Answer.{Answer, refused, refuseIf}
 use Rattle.refusal.specs.declared.Refusal.{Refusal}
@@ -27,7 +28,16 @@ use Rattle.fields.specs.FieldRule.{FieldAnswer, fieldTurnedAway, gatherR
 use Rattle.fields.specs.FieldRule.{checkedOutput, fieldRule, fieldReading, fieldOutput}
 use Rattle.fields.proofs.TakenLaws.{taken-one-more}
 use Rattle.fields.proofs.FieldLaws.{field-items-count}
-use Rattle.fields.proofs.RuleLaws.{gather-stops-nowhere, fills-all}
+use Rattle.fields.proofs.RuleLaws.{gather-stops-nowhere}
+
+-- under an accepted profile, of a count in range
+pub checked-reads
+    : (p : Profile) (ds : List ℕ) (n room : ℕ)
+    → profileRule p .number ≡ 0
+    → outside 1 1030 n ≡ false
+    → checkedReading (classesOf p ds) n room ≡ fieldReading p ds n room
+unfolding fieldReading fieldRule checkedReading
+checked-reads p ds n room fair h = rw (eq-eqb _ 0 fair, h)
 
 module _ (p : Profile) (ds : List ℕ) (n : ℕ) (old : List ℕ) where
   abbrev Settles : FieldAnswer → List ℕ → Type 0
@@ -53,8 +63,8 @@ module _ (p : Profile) (ds : List ℕ) (n : ℕ) (old : List ℕ) where
     pub checked-settles
         : outside 1 1030 n ≡ false
         → Settles (checkedReading (classesOf p ds) n (length old)) (checkedOutput (classesOf p ds) n old)
-    unfolding fieldReading fieldOutput fieldRule checkedReading checkedOutput
-    checked-settles h = (rw (eq-eqb _ 0 fair, h), rw (eq-eqb _ 0 fair, h))
+    unfolding fieldOutput fieldRule checkedOutput
+    checked-settles h = (checked-reads p ds n (length old) fair h, rw (eq-eqb _ 0 fair, h))
 
 pub count-in-range : (n : ℕ) → outside 1 1030 n ≡ false → (1 ≤ n) × (n ≤ 1030)
 count-in-range n h =
@@ -79,7 +89,8 @@ module _ (p : Profile) (ds : List ℕ) (n : ℕ) (accepts : fieldRule p ds n n .
       let count = field-items-count (classesOf p ds) n (gather-stops-nowhere (classesOf p ds) n gather-accepts) in
       rw e
       (acceptance-fills-the-buffer (fieldRule p ds n n) (fieldItems (classesOf p ds) n) old accepts
-      ∙ fills-all (fieldItems (classesOf p ds) n) old (omega arith))
+      ∙ sym (stored-at-front-fills (fieldItems (classesOf p ds) n) old (omega arith))
+      ∙ stored-over-all (fieldItems (classesOf p ds) n) old (omega arith))
 
 -- ---- the used intervals are in the list
 

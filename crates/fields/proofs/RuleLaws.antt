@@ -2,23 +2,21 @@
 -- output. Rests on no axiom.
 use Prim.Native.Nat.{ℕ, _≤_}
 use mathlib.Core.Path.{_≡_, sym, ap, _∙_}
-use mathlib.Core.Bool.{false}
-use mathlib.Core.List.{List, append-nil}
+use mathlib.Core.Bool.{Bool, false}
+use mathlib.Core.List.{List}
 use native.Mathlib.Omega.{arith}
 use borrow.Author.Tests.{le-ltb}
-use lib.Dec.{ltb}
-use lib.ListN.{length, take, drop-of-length-le}
-use Rattle.lists.specs.Filled.{filled}
-use Rattle.lists.proofs.StoreLaws.{front-of-stored, stored-at-front-fills}
+use lib.ListN.{length, take}
+use Rattle.lists.proofs.StoreLaws.{front-of-stored}
 use Rattle.refusal.specs.Table.{numberOf, placeOf}
-use Rattle.refusal.specs.Answer.{Answer, accepted, refused, refuseIf}
+use Rattle.refusal.specs.Answer.{Answer, accepted, refused}
 use Rattle.refusal.specs.declared.Refusal.{Refusal}
 use Rattle.refusal.proofs.AnswerLaws.{number-is-not-zero, refusal-decides, refusal-keeps-the-buffer}
 use Rattle.refusal.proofs.AnswerLaws.{first-refusal-accepts, first-refusal-passes, refuse-if-accepts, refuse-if-passes}
 use Rattle.timing.specs.declared.Class.{Class}
-use Rattle.fields.specs.Field.{fieldStop, fieldUsed, fieldItems, fieldHolds, fieldStray}
-use Rattle.fields.specs.Field.{fieldStrayPlace, holdsAfter}
-use Rattle.fields.specs.FieldRule.{gatherRule, GathersItems, FillsItems, deliverRule, deliverReading}
+use Rattle.fields.specs.Field.{fieldStop, fieldUsed, fieldItems, fieldStray}
+use Rattle.fields.specs.Field.{fieldStrayPlace}
+use Rattle.fields.specs.FieldRule.{gatherRule, GathersItems, TellsSum, deliverRule, deliverReading}
 use Rattle.fields.specs.FieldRule.{deliverOutput, fieldTurnedAway, checkedRule, checkedReading, checkedOutput}
 use Rattle.fields.proofs.FieldLaws.{field-items-count}
 
@@ -39,60 +37,48 @@ module _ (cs : List Class) (n : ℕ) where
       ∙ refuse-if-passes (fieldStray cs n) 8 (fieldStrayPlace cs n) _ (gather-meets-no-stray e)
 
   -- a refusal of the pass is the answer, and the output is as it was
-  pub gather-refuses
-      : (r : Refusal) (old : List ℕ)
-      → refused (numberOf r) (placeOf r) ≡ gatherRule cs n
-      → (fieldTurnedAway (refused (numberOf r) (placeOf r)) ≡ checkedReading cs n (length old))
-      × (old ≡ checkedOutput cs n old)
-  unfolding checkedReading checkedOutput checkedRule
-  gather-refuses r old e =
-      let decides = refusal-decides r (gatherRule cs n) (deliverRule n (length old)) e in (
-        rw (← decides, number-is-not-zero r),
-        refusal-keeps-the-buffer r (checkedRule cs n (length old)) (fieldItems cs n) old decides,
-      )
+  module _ (r : Refusal) (e : refused (numberOf r) (placeOf r) ≡ gatherRule cs n) where
+    decides : (room : ℕ) → refused (numberOf r) (placeOf r) ≡ checkedRule cs n room
+    unfolding checkedRule
+    decides room = refusal-decides r (gatherRule cs n) (deliverRule n room) e
 
-  -- an acceptance leaves the room to what was gathered in a buffer
-  pub gather-delivers
-      : (used : ℕ) (buffer stored old : List ℕ)
-      → n ≤ length buffer
-      → accepted used ≡ gatherRule cs n
-      → GathersItems cs n buffer stored
-      → (deliverReading (take n stored) used (length old) ≡ checkedReading cs n (length old))
-      × (deliverOutput (take n stored) old ≡ checkedOutput cs n old)
-  unfolding deliverReading deliverOutput checkedReading checkedOutput checkedRule fieldHolds
-  gather-delivers used buffer stored old room e store =
-      let zero : gatherRule cs n .number ≡ 0 = sym (ap (λ (a : Answer). a .number) e) in
-      let used-is : used ≡ fieldUsed cs n = ap (λ (a : Answer). a .count) (e ∙ gather-counts-used zero) in
-      let passes = first-refusal-passes (gatherRule cs n) (deliverRule n (length old)) zero in
-      let count : length (fieldItems cs n) ≡ n = field-items-count cs n (gather-stops-nowhere zero) in
-      let same : take n stored ≡ fieldItems cs n =
-      ap (take n) (store zero) ∙ front-of-stored (fieldItems cs n) buffer n count room in
-      (rw (passes, used-is, same, count), rw (passes, same, count))
+    pub gather-refuses : (room : ℕ) → fieldTurnedAway (refused (numberOf r) (placeOf r)) ≡ checkedReading cs n room
+    unfolding checkedReading
+    gather-refuses room = rw (← decides room, number-is-not-zero r)
 
-pub fills-all : (vs old : List ℕ) → length old ≤ length vs → filled vs old ≡ vs
-unfolding filled
-fills-all vs old h = rw (drop-of-length-le old h) (append-nil vs)
+    pub gather-keeps : (old : List ℕ) → old ≡ checkedOutput cs n old
+    unfolding checkedOutput
+    gather-keeps old =
+        refusal-keeps-the-buffer r (checkedRule cs n (length old)) (fieldItems cs n) old (decides (length old))
 
--- the same where the buffer is as long as the field, and is the output
-module _ (cs : List Class) (buffer stored : List ℕ) (store : GathersItems cs (length buffer) buffer stored) where
-  abbrev n : ℕ
-  n = length buffer
+  -- an acceptance leaves the room to what was gathered
+  module _ (used : ℕ) (holds : Bool) (e : accepted used ≡ gatherRule cs n) (sum : TellsSum cs n holds) where
+    accepts : gatherRule cs n .number ≡ 0
+    accepts = sym (ap (λ (a : Answer). a .number) e)
 
-  pub gather-fills : FillsItems cs n stored
-  gather-fills zero =
-      let count : length (fieldItems cs n) ≡ n = field-items-count cs n (gather-stops-nowhere cs n zero) in
-      store zero
-      ∙ stored-at-front-fills (fieldItems cs n) buffer (omega arith)
-      ∙ fills-all (fieldItems cs n) buffer (omega arith)
+    used-is : used ≡ fieldUsed cs n
+    used-is = ap (λ (a : Answer). a .count) (e ∙ gather-counts-used accepts)
 
-  pub gather-reads
-      : (used : ℕ)
-      → accepted used ≡ gatherRule cs n
-      → record { answer = accepted n; used = used; holds = holdsAfter stored } ≡ checkedReading cs n n
-  unfolding checkedReading checkedRule deliverRule fieldHolds
-  gather-reads used e =
-      let zero : gatherRule cs n .number ≡ 0 = sym (ap (λ (a : Answer). a .number) e) in
-      let used-is : used ≡ fieldUsed cs n = ap (λ (a : Answer). a .count) (e ∙ gather-counts-used cs n zero) in
-      let passes = first-refusal-passes (gatherRule cs n) (refuseIf (ltb n n) 9 0 (accepted n)) zero in
-      let room : ltb n n ≡ false = le-ltb n n (omega arith) in
-      rw (passes, room, used-is, gather-fills zero)
+    pub gather-reads : (room : ℕ) → deliverReading n used holds room ≡ checkedReading cs n room
+    unfolding deliverReading checkedReading checkedRule
+    gather-reads room =
+        rw (first-refusal-passes (gatherRule cs n) (deliverRule n room) accepts, used-is, sum accepts)
+
+    pub gather-delivers
+        : (buffer stored old : List ℕ)
+        → n ≤ length buffer
+        → GathersItems cs n buffer stored
+        → deliverOutput (take n stored) old ≡ checkedOutput cs n old
+    unfolding deliverOutput checkedOutput checkedRule
+    gather-delivers buffer stored old room store =
+        let count : length (fieldItems cs n) ≡ n = field-items-count cs n (gather-stops-nowhere accepts) in
+        let same : take n stored ≡ fieldItems cs n =
+        ap (take n) (store accepts) ∙ front-of-stored (fieldItems cs n) buffer n count room in
+        rw (first-refusal-passes (gatherRule cs n) (deliverRule n (length old)) accepts, same, count)
+
+-- with room for all
+pub delivers-all
+    : (n used : ℕ) (holds : Bool)
+    → record { answer = accepted n; used = used; holds = holds } ≡ deliverReading n used holds n
+unfolding deliverReading deliverRule
+delivers-all n used holds = rw (le-ltb n n (omega arith))

@@ -13,7 +13,6 @@ use Rattle.timing.specs.Class.{classesOf}
 use Rattle.timing.specs.declared.Profile.{Profile}
 use Rattle.timing.specs.declared.Class.{Class}
 use Rattle.fields.specs.Field.{fieldStop, fieldUsed, fieldItems, fieldHolds, fieldStray, fieldStrayPlace}
-use Rattle.fields.specs.Field.{holdsAfter}
 use Rattle.fields.specs.declared.reader.FieldRead.{FieldRead}
 use Rattle.fields.specs.declared.reader.FieldRead.the-variants.{Field, Refused}
 
@@ -24,13 +23,12 @@ gatherRule cs n =
     (refuseIf (fieldStray cs n) 8 (fieldStrayPlace cs n)
     (accepted (fieldUsed cs n)))
 
--- what the pass leaves in its buffer, where it is accepted
+-- what the pass leaves in its buffer and tells of the register, where it is accepted
 abbrev pub GathersItems : List Class → ℕ → List ℕ → List ℕ → Type 0
 GathersItems cs n old new = gatherRule cs n .number ≡ 0 → new ≡ storedAt old 0 (fieldItems cs n)
 
--- where the buffer is as long as the field
-abbrev pub FillsItems : List Class → ℕ → List ℕ → Type 0
-FillsItems cs n new = gatherRule cs n .number ≡ 0 → new ≡ fieldItems cs n
+abbrev pub TellsSum : List Class → ℕ → Bool → Type 0
+TellsSum cs n holds = gatherRule cs n .number ≡ 0 → holds ≡ fieldHolds cs n
 
 -- 9; else the number of items
 unfoldable pub deliverRule : ℕ → ℕ → Answer
@@ -60,8 +58,8 @@ answerWith a used holds =
     cond (eqb (a .number) 0) (record { answer = a; used = used; holds = holds }) (fieldTurnedAway a)
 
 -- the answer and the output for items that are ready
-unfoldable pub deliverReading : List ℕ → ℕ → ℕ → FieldAnswer
-deliverReading items used room = answerWith (deliverRule (length items) room) used (holdsAfter items)
+unfoldable pub deliverReading : ℕ → ℕ → Bool → ℕ → FieldAnswer
+deliverReading n used holds room = answerWith (deliverRule n room) used holds
 
 unfoldable pub deliverOutput : List ℕ → List ℕ → List ℕ
 deliverOutput items old = settled (deliverRule (length items) (length old)) items old

@@ -2,15 +2,13 @@
 ghost use Prim.Native.Nat.{_≤_};
 ghost use mathlib.Core.Path.{_≡_};
 ghost use lib.ListN.{length};
-ghost use Rattle.lists.specs.Filled.{filled};
 ghost use Rattle.timing.specs.Profile.{profileRule};
 ghost use Rattle.timing.specs.Class.{classesOf};
-ghost use Rattle.fields.specs.Field.{holdsAfter};
 ghost use Rattle.fields.specs.FieldRule.{deliverReading, deliverOutput, fieldAnswer};
 ghost use Rattle.fields.specs.FieldRule.{checkedReading, checkedOutput, fieldReading, fieldOutput};
-ghost use Rattle.fields.specs.FieldRule.{FillsItems, fieldRest, restPlace};
+ghost use Rattle.fields.specs.FieldRule.{GathersItems, fieldRest, restPlace};
 use crate::gather::gather;
-use items::Check;
+use crate::gather::store;
 use refusal::Counted;
 use refusal::Refusal;
 use refusal::Verdict;
@@ -32,37 +30,20 @@ pub enum FieldRead {
     Refused(Refusal),
 }
 
-// The register is zero after the items.
-fn holds(items: &[u16]) -> bool
-    ensures { λ r. ⌜ r ≡ holdsAfter (now (items .entry)) ⌝ }
-{
-    Check::fresh().after_bytes(items).register == 0
-}
-
-fn copy(items: &[u16], out: &mut [u16])
-    requires { ⌜ length (now items) ≤ length (now out) ⌝ }
-    ensures { λ _. ⌜ now (out .exit) ≡ filled (now (items .entry)) (now (out .entry)) ⌝ }
-{
-    let mut k: usize = 0;
-    while k < items.len() {
-        out[k] = items[k];
-        k += 1;
-    }
-}
-
 // What was gathered, handed over where the output has room for it.
-fn deliver(items: &[u16], used: usize, out: &mut [u16]) -> FieldRead
-    ensures answer { λ r. ⌜ fieldAnswer r ≡ deliverReading (now (items .entry)) used (length (now (out .entry))) ⌝ }
+fn deliver(items: &[u16], used: usize, holds: bool, out: &mut [u16]) -> FieldRead
+    ensures answer { λ r. ⌜
+        fieldAnswer r ≡ deliverReading (length (now (items .entry))) used holds (length (now (out .entry))) ⌝ }
     ensures output { λ _. ⌜ now (out .exit) ≡ deliverOutput (now (items .entry)) (now (out .entry)) ⌝ }
 {
     if out.len() < items.len() {
         return FieldRead::Refused(Refusal::OutputTooShort);
     }
-    copy(items, out);
+    store(items, 0, out);
     FieldRead::Field {
         count: items.len(),
         used,
-        holds: holds(items),
+        holds,
     }
 }
 
@@ -81,9 +62,11 @@ fn read_into(
     ensures output { λ _. ⌜
         now (out .exit) ≡ checkedOutput (classesOf p (now (intervals .entry))) n (now (out .entry)) ⌝ }
 {
-    match gather(p, intervals, n as u32, buffer) {
+    let gathered = gather(p, intervals, n as u32, buffer);
+    let end = gathered.end;
+    match end {
         Counted::Refused(refusal) => FieldRead::Refused(refusal),
-        Counted::Count(used) => deliver(&buffer[..n], used, out),
+        Counted::Count(used) => deliver(&buffer[..n], used, gathered.holds, out),
     }
 }
 
@@ -133,25 +116,23 @@ pub fn read_rest<'a>(p: Profile, intervals: &'a [u16], n: usize, out: &mut [u16]
     }
 }
 
-// Reads a field that is as long as the caller's buffer where its items are to stand, without a buffer between: after a
-// refusal other numbers may stand there. Who reads field after field has checked the profile once.
-pub fn read_in_place(p: Profile, intervals: &[u16], items: &mut [u16]) -> FieldRead
+// Reads alike, and stores as many items as there is room for, without a buffer between: after a refusal other numbers
+// may stand there. Who reads field after field has checked the profile once.
+pub fn read_in_place(p: Profile, intervals: &[u16], n: usize, items: &mut [u16]) -> FieldRead
     requires { ⌜ profileRule p .number ≡ 0 ⌝ }
-    requires { ⌜ (1 ≤ length (now items)) × (length (now items) ≤ 1030) ⌝ }
-    ensures answer { λ r. ⌜
-        fieldAnswer r
-        ≡ checkedReading (classesOf p (now (intervals .entry))) (length (now (items .entry)))
-        (length (now (items .entry))) ⌝ }
+    requires { ⌜ (1 ≤ n) × (n ≤ 1030) ⌝ }
+    ensures answer { λ r. ⌜ fieldAnswer r ≡ checkedReading (classesOf p (now (intervals .entry))) n n ⌝ }
     ensures items { λ _. ⌜
-        FillsItems (classesOf p (now (intervals .entry))) (length (now (items .entry))) (now (items .exit)) ⌝ }
+        GathersItems (classesOf p (now (intervals .entry))) n (now (items .entry)) (now (items .exit)) ⌝ }
 {
-    let n = items.len();
-    match gather(p, intervals, n as u32, items) {
+    let gathered = gather(p, intervals, n as u32, items);
+    let end = gathered.end;
+    match end {
         Counted::Refused(refusal) => FieldRead::Refused(refusal),
         Counted::Count(used) => FieldRead::Field {
             count: n,
             used,
-            holds: holds(items),
+            holds: gathered.holds,
         },
     }
 }

@@ -8,11 +8,11 @@ ghost use Rattle.lists.specs.Filled.{filled};
 ghost use Rattle.refusal.specs.Answer.{verdictAnswer, countedAnswer};
 ghost use Rattle.images.specs.Image.{unrulyIn};
 ghost use Rattle.images.specs.Rules.{wordsRule, readImageRule, readImageOutput};
-ghost use Rattle.symbols.specs.machine.Candidate.{candidate};
+ghost use Rattle.half_cells.specs.Candidate.{candidate};
+use half_cells::byte_of;
 use refusal::Counted;
 use refusal::Refusal;
 use refusal::Verdict;
-use symbols::word::byte_of;
 use words::code_words;
 use words::word_of;
 

@@ -2,30 +2,31 @@
 -- are shifted in, which make no second one whole. Rests on no axiom.
 use Prim.Native.Nat.{ℕ, zero, suc, _+_, _*_, _%_, _^_, _≤_, _<_}
 use mathlib.Core.Path.{_≡_, refl, sym, ap, _∙_}
-use mathlib.Core.Bool.{Bool, true, false, not, _&&_, _||_, true≢false}
-use mathlib.Core.List.{List, [], _∷_, _++_, map, map-append}
-use native.Mathlib.Nat.{add-zero, add-suc}
+use mathlib.Core.Bool.{Bool, true, false, not, _&&_, _||_}
+use mathlib.Core.List.{List, [], _∷_, map, map-append}
+use native.Mathlib.Nat.{add-zero}
 use native.Mathlib.Decide.{decLt}
 use native.Mathlib.Omega.{arith}
 use borrow.Author.Tests.{lt-leb, le-leb}
 use lib.Dec.{eqb}
-use lib.ListN.{length, take, drop, length-drop, take-append-drop}
+use lib.ListN.{length, length-append, take, drop, length-drop, take-append-drop}
 use lib.Seq.{length-take-le}
 use Rattle.lists.specs.Filled.{ifGiven}
 use Rattle.lists.specs.Place.{everywhere}
+use Rattle.lists.proofs.BoolLaws.{both}
 use Rattle.lists.proofs.PlaceLaws.{everywhere-of-append}
 use Rattle.timing.specs.Class.{cursorPast}
 use Rattle.timing.specs.Edges.{unitsFrom}
 use Rattle.timing.specs.declared.cursor.Cursor.{Cursor}
 use Rattle.timing.proofs.UnitsLaws.{units-in-range}
-use Rattle.symbols.specs.machine.Word.{missing, isMarkWord, misfits, fits}
+use Rattle.half_cells.specs.Word.{missing, isMarkWord, misfits, fits}
 use Rattle.symbols.specs.machine.Step.{AllCells, shiftedAll, shifted, isWhole, wordOf, codeWord, closed, eased, steppedBy, wordBy}
 use Rattle.symbols.specs.declared.Reading.{Reading}
 use Rattle.symbols.proofs.WholeLaws.{step-stays-open, step-closes}
 use Rattle.symbols.proofs.EaseLaws.{held-by-shift, word-by-shift, ease-by-shift, ease-of-open, ease-of-whole}
 use Rattle.symbols.proofs.EaseLaws.{eased-whole, eased-low}
-use Rattle.intervals.specs.machine.Pass.{Passed, ended, after, passFrom}
-use Rattle.intervals.specs.machine.Fours.{Fours, alone, foursFrom}
+use Rattle.intervals.specs.machine.Pass.{Passed, ended, passFrom}
+use Rattle.intervals.specs.machine.Fours.{alone, foursFrom}
 use Rattle.intervals.proofs.PassLaws.{pass-ends, pass-is-full, pass-goes-on, pass-in-parts}
 
 -- ---- cells shifted in
@@ -159,10 +160,6 @@ cells-drop zero us cells = cells
 cells-drop (suc n) [] cells = tt
 cells-drop (suc n) (u ∷ us) cells = cells-drop n us (cells .2)
 
-and-both : (a b : Bool) → (a && b) ≡ true → (a ≡ true) × (b ≡ true)
-and-both true b e = (refl, e)
-and-both false b e = (e, absurd (true≢false (sym e)))
-
 pub by-fours
     : (n : ℕ) (us : List ℕ) (most k : ℕ) (m : Reading)
     → AllCells us
@@ -186,7 +183,7 @@ by-fours (suc n) us most k m cells size room more small fit =
     let fours : length front ≡ 4 = length-take-le 4 us (omega arith) in
     let rest = foursFrom n (eased next) back in
     let parts = everywhere-of-append fits (wholes next) (rest .words) in
-    let fits-both = and-both (everywhere fits (wholes next)) (everywhere fits (rest .words)) (sym parts ∙ fit) in
+    let fits-both = both (everywhere fits (wholes next)) (everywhere fits (rest .words)) (sym parts ∙ fit) in
     let left : Shifts m front = shifts front m (cells-take 4 us cells) (omega (arith, fours)) in
     let first = four front most k m (cells-take 4 us cells) (omega (arith, fours)) room (omega arith) small (fits-both .0) in
     let low = eased-low next (rw (left .words) (omega arith)) (omega (arith, left .high, fours)) in
@@ -229,4 +226,42 @@ held-by-pass (u ∷ us) most k m cells room =
           rw (pass-goes-on most k m u us h)
           (held-by-pass us most (suc k) (steppedBy m u k) (cells .2) (held-by-step m u k (cells .1) room))
       | no h ↦ rw (pass-is-full most k m (u ∷ us) (omega arith)) room
+    ]
+
+-- ---- the half cells of a pass
+
+half-cells-by-step
+    : (m : Reading) (u at : ℕ)
+    → u ≤ 4
+    → m .held ≤ 16
+    → 16 * length (wordBy m u) + steppedBy m u at .held ≡ m .held + u
+unfolding closed
+half-cells-by-step m u at few room =
+    let held = held-by-shift m u (omega arith) in
+    elim (decLt (shifted m u .held) 17) [
+      | yes h ↦
+          let step = step-stays-open m u at (lt-leb 17 (shifted m u .held) h) in
+          rw (step .0, step .1) (omega (arith, held))
+      | no h ↦
+          let step = step-closes m u at (le-leb 17 (shifted m u .held) (omega arith)) in
+          rw (step .0, step .1) (omega (arith, held))
+    ]
+
+-- a word takes sixteen, and a cell gives four at most
+pub half-cells
+    : (us : List ℕ) (most k : ℕ) (m : Reading)
+    → AllCells us
+    → m .held ≤ 16
+    → 16 * length (passFrom most k m us .words) ≤ m .held + 4 * length us
+unfolding AllCells
+half-cells [] most k m cells room = rw (pass-ends most k m) (omega arith)
+half-cells (u ∷ us) most k m cells room =
+    elim (decLt (m .words) most) [
+      | yes h ↦
+          let next = steppedBy m u k in
+          let one = half-cells-by-step m u k (cells .1) room in
+          let rest = half-cells us most (suc k) next (cells .2) (held-by-step m u k (cells .1) room) in
+          rw (pass-goes-on most k m u us h, length-append (wordBy m u) (passFrom most (suc k) next us .words))
+          (omega (arith, one, rest, cells .1))
+      | no h ↦ rw (pass-is-full most k m (u ∷ us) (omega arith)) (omega arith)
     ]

@@ -3,3 +3,4 @@ pub mod ClassCellLaws
 pub mod NearLaws
 pub mod PassLaws
 pub mod FoursLaws
+pub mod BlockLaws

@@ -64,30 +64,51 @@ pass-in-parts most k m (u ∷ us) vs =
           )
     ]
 
--- a pass has as many words more as it closed, and where bytes are still wanted it used every cell
+-- a pass has as many words more as it closed, one a cell at most, and where bytes are still wanted it used every cell
 pub record Counts (most k : ℕ) (m : Reading) (us : List ℕ) (pass : Passed) : Type 0 where
   pub words : pass .end .reading .words ≡ m .words + length (pass .words)
+  pub few : length (pass .words) ≤ length us
+  pub least : k ≤ pass .end .used
+  pub most-used : pass .end .used ≤ k + length us
   pub all-used : pass .end .reading .words < most → pass .end .used ≡ k + length us
 
 pub pass-counts
     : (most k : ℕ) (m : Reading) (us : List ℕ) → most < 2 ^ 32 → Counts most k m us (passFrom most k m us)
-pass-counts most k m [] few = rw (pass-ends most k m) (record { words = omega arith; all-used = λ h. omega arith })
-pass-counts most k m (u ∷ us) few =
+pass-counts most k m [] small =
+    rw (pass-ends most k m)
+    (record {
+      words = omega arith;
+      few = omega arith;
+      least = omega arith;
+      most-used = omega arith;
+      all-used = λ h. omega arith;
+    })
+pass-counts most k m (u ∷ us) small =
     elim (decLt (m .words) most) [
       | yes h ↦
           let next = steppedBy m u k in
-          let one = words-by-step m u k (omega arith) .0 in
-          let rest = pass-counts most (suc k) next us few in
+          let one = words-by-step m u k (omega arith) in
+          let rest = pass-counts most (suc k) next us small in
           let all = passFrom most (suc k) next us in
+          let both = length-append (wordBy m u) (all .words) in
           rw (pass-goes-on most k m u us h)
           (record {
-            words = rest .words ∙ omega (arith, length-append (wordBy m u) (all .words));
+            words = rest .words ∙ omega (arith, one .0);
+            few = omega (arith, one .1, rest .few);
+            least = omega (arith, rest .least);
+            most-used = omega (arith, rest .most-used);
             all-used = λ g. rest .all-used g ∙ omega arith;
           })
       | no h ↦
           let full : most ≤ m .words = omega arith in
           rw (pass-is-full most k m (u ∷ us) full)
-          (record { words = omega arith; all-used = λ g. absurd (omega arith) })
+          (record {
+            words = omega arith;
+            few = omega arith;
+            least = omega arith;
+            most-used = omega arith;
+            all-used = λ g. absurd (omega arith);
+          })
     ]
 
 -- no cell is left over where there are no more than bytes are wanted

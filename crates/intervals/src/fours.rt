@@ -6,17 +6,14 @@ ghost use mathlib.Core.List.{map};
 ghost use lib.ListN.{length, take, drop};
 ghost use Rattle.lists.specs.Filled.{storedAt};
 ghost use Rattle.lists.specs.Place.{everywhere};
-ghost use Rattle.symbols.specs.machine.Word.{fits};
+ghost use Rattle.half_cells.specs.Word.{fits};
 ghost use Rattle.symbols.specs.machine.Step.{AllCells, shiftedAll, emptyReading};
 ghost use Rattle.intervals.specs.machine.Fours.{alone, foursFrom};
+use half_cells::fits;
 use lists::put;
 use symbols::Reading;
-use symbols::word::fits;
 
-// So many fours are a block.
-pub const FOURS: usize = 16;
-
-// The register after a block, and how many words it made whole.
+// The register after some fours, and how many words they made whole.
 pub struct Fours {
     pub reading: Reading,
     pub count: usize,
@@ -32,18 +29,21 @@ fn four_cells(units: &[u8], k: usize) -> Reading
     two.shift(units[k + 2]).shift(units[k + 3])
 }
 
-// Each four's half cells are stored, and the next four's in the same place where they made no byte whole.
+// As many fours as there is room for words. Each four's half cells are stored, and the next four's in the same place
+// where they made no byte whole.
 pub fn shift_fours(start: Reading, units: &[u8], words: &mut [u32]) -> Fours
-    requires { ⌜ AllCells (now units) × (length (now units) ≡ 4 * 16) ⌝ }
-    requires { ⌜ length (now words) ≡ 16 ⌝ }
-    ensures reading { λ r. ⌜ r .reading ≡ foursFrom 16 start (now (units .entry)) .reading ⌝ }
+    requires { ⌜ AllCells (now units) × (length (now units) ≡ 4 * length (now words)) ⌝ }
+    ensures reading { λ r. ⌜
+        r .reading ≡ foursFrom (length (now (words .entry))) start (now (units .entry)) .reading ⌝ }
     ensures words { λ r. ⌜
-        (r .count ≤ 16) × (take (r .count) (now (words .exit)) ≡ foursFrom 16 start (now (units .entry)) .words) ⌝ }
+        (r .count ≤ length (now (words .entry)))
+        × (take (r .count) (now (words .exit))
+        ≡ foursFrom (length (now (words .entry))) start (now (units .entry)) .words) ⌝ }
 {
     let mut m = start;
     let mut count: usize = 0;
     let mut i: usize = 0;
-    while i < FOURS {
+    while i < words.len() {
         let next = m.join(four_cells(units, 4 * i));
         words[count] = next.half_cells();
         count += next.is_whole() as usize;

@@ -5,14 +5,11 @@ ghost use Rattle.lists.specs.Filled.{storedAt};
 ghost use Rattle.timing.specs.Class.{atStart};
 ghost use Rattle.timing.specs.Edges.{unitsFrom};
 ghost use Rattle.intervals.specs.machine.Pass.{passed};
-use block::BLOCK;
-use block::block_end;
-use block::pass_block;
+use block::Progress;
 use symbols::Reading;
-use timing::Cursor;
 use timing::Profile;
 
-mod block;
+pub mod block;
 pub mod edges;
 mod fours;
 
@@ -36,38 +33,11 @@ pub fn last_place(used: usize) -> u32
 // One pass, until so many bytes are whole or no interval is left, each interval taken as a cell. The code words that
 // have room are stored from the front on.
 pub fn pass_over(p: Profile, intervals: &[u16], most: u32, out: &mut [u16]) -> Pass
-    requires { ⌜ 1 ≤ most ⌝ }
     ensures end { λ r. ⌜ r ≡ passed most (unitsFrom (atStart p) (now (intervals .entry))) .end ⌝ }
     ensures output { λ _. ⌜
         now (out .exit)
         ≡ storedAt (now (out .entry)) 0 (passed most (unitsFrom (atStart p) (now (intervals .entry))) .words) ⌝ }
 {
-    let mut units = [0u8; BLOCK];
-    let mut m = Reading::new();
-    let mut cursor = Cursor::start(p);
-    let mut from: usize = 0;
-    while from < intervals.len() {
-        let end = block_end(from, intervals.len());
-        let n = end - from;
-        let block = pass_block(
-            m,
-            cursor,
-            &intervals[from..end],
-            &mut units[..n],
-            from,
-            most,
-            out,
-        );
-        let pass = block.pass;
-        if most <= pass.reading.words {
-            return pass;
-        }
-        m = pass.reading;
-        cursor = block.cursor;
-        from = end;
-    }
-    Pass {
-        reading: m,
-        used: from,
-    }
+    let at = Progress::start(p).pass_on(intervals, intervals.len(), most, out);
+    at.pass
 }

@@ -1,3 +1,4 @@
 pub mod PlaceLaws
 pub mod TableLaws
 pub mod StoreLaws
+pub mod BoolLaws

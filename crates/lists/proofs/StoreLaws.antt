@@ -5,9 +5,9 @@ use mathlib.Core.List.{List, [], _∷_, _++_, map}
 use native.Mathlib.Nat.{add-zero, zero-add, add-suc, suc-add, le-of-lt}
 use native.Mathlib.Numerals.{add-one}
 use native.Mathlib.Omega.{arith}
-use lib.ListN.{length, set, take, drop, getD, replicate, length-replicate, length-map}
-use lib.Seq.{sets, sets-eq, length-sets, set-out, take-suc, drop-cons, length-take-le, take-append-seam}
-use lib.Seq.{drop-append-seam}
+use lib.ListN.{length, set, take, drop, getD, replicate, length-replicate, length-map, take-append-drop}
+use lib.Seq.{sets, sets-eq, length-sets, set-out, take-suc, drop-cons, take-all, length-take-le}
+use lib.Seq.{take-append-seam, drop-append-seam}
 use Rattle.lists.specs.Filled.{filled, storedAt}
 
 module _ {A : Type 0} where
@@ -99,6 +99,22 @@ module _ {A : Type 0} where
       ap (λ (k : ℕ). take k (storedAt l 0 vs)) (sym e)
       ∙ ap (take (length vs)) (stored-at-front-fills vs l (rw e h))
       ∙ front-of-filled vs l
+
+  -- and over the whole of it
+  pub stored-over-all : (vs l : List A) → length vs ≡ length l → storedAt l 0 vs ≡ vs
+  stored-over-all vs l same =
+      sym (take-all (length l) (storedAt l 0 vs) (omega (arith, stored-length l 0 vs)))
+      ∙ front-of-stored vs l (length l) same (omega arith)
+
+  -- where there is too little room, its front does
+  pub front-fills : (vs l : List A) → length l ≤ length vs → storedAt l 0 vs ≡ take (length l) vs
+  front-fills vs l h =
+      let n = length l in
+      let count : length (take n vs) ≡ n = length-take-le n vs h in
+      ap (storedAt l 0) (sym (take-append-drop n vs))
+      ∙ sym (stored-after-stored (take n vs) (drop n vs) l 0 n (omega arith))
+      ∙ stored-past-end (storedAt l 0 (take n vs)) n (drop n vs) (omega (arith, stored-length l 0 (take n vs)))
+      ∙ stored-over-all (take n vs) l count
 
   -- and replaced, element by element, where it stands
   pub mapped-at-front

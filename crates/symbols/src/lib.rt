@@ -4,8 +4,6 @@ ghost use mathlib.Core.Path.{_≡_};
 ghost use Rattle.symbols.specs.machine.Step.{freshReading, shifted, isWhole, wordOf, codeWord, eased, closed};
 ghost use Rattle.symbols.specs.machine.Step.{emptyReading, joined, strayNow, placeNow};
 
-pub mod word;
-
 // A cell as it is read: of 2, 3 or 4 units.
 pub enum Cell {
     Short,
@@ -116,20 +114,23 @@ impl Reading {
     {
         let surplus = (self.held - 17) % 32;
         let x = (self.bits >> surplus) % 131072;
-        let gaps = word::missing(x);
+        let gaps = half_cells::missing(x);
         self.held -= 16;
         self.words = std::num::wrapping_add_u32(self.words, 1);
         if gaps == 0 {
             return self;
         }
-        if word::is_mark(x) {
+        if half_cells::is_mark(x) {
             return self;
         }
         if self.stray {
             return self;
         }
         self.stray = true;
-        self.place = word::first_of_cells(at, word::cells_since(self.bits, surplus, gaps));
+        self.place = half_cells::first_of_cells(
+            at,
+            half_cells::cells_since(self.bits, surplus, gaps),
+        );
         self
     }
 

@@ -49,6 +49,12 @@ unfolding unitsFrom cursorAfter
 units-append c [] es = refl
 units-append c (d ∷ ds) es = ap (λ (us : List ℕ). unitsIn c d ∷ us) (units-append (cursorPast c d) ds es)
 
+pub cursor-after-append
+    : (c : Cursor) (ds es : List ℕ) → cursorAfter c (ds ++ es) ≡ cursorAfter (cursorAfter c ds) es
+unfolding cursorAfter
+cursor-after-append c [] es = refl
+cursor-after-append c (d ∷ ds) es = cursor-after-append (cursorPast c d) ds es
+
 -- what is left from a place on
 module _ (c : Cursor) (ds : List ℕ) (k : ℕ) (inside : k < length ds) where
   abbrev d : ℕ

@@ -8,13 +8,13 @@ use native.Mathlib.Omega.{arith}
 use borrow.Author.Tests.{ltb-true, leb-true}
 use lib.Dec.{leb, ltb}
 use lib.ListN.{getD}
+use Rattle.lists.proofs.BoolLaws.{both}
 use Rattle.timing.specs.declared.Profile.{Profile}
 use Rattle.track.specs.FieldKinds.{fieldOf, itemsOf, opensWith, identifies, isId}
 use Rattle.track.specs.machine.Steps.{opens, idWith, identified, idRead}
 use Rattle.track.specs.declared.id.IdRead.{IdRead}
 use Rattle.track.specs.declared.id.IdRead.the-variants.{Id, NoId}
 use Rattle.track.proofs.FieldLaws.{FieldReads}
-use Rattle.track.proofs.OpeningLaws.{both}
 
 -- ---- the four bytes are data bytes
 

@@ -1,20 +1,26 @@
 -- What is read at a lock, taken for a field of a kind: by cases of whether the field reads and how it opens. One that
 -- does not begin with the classes of three A1 marks has no kind. Rests on no axiom.
-use Prim.Native.Nat.{ℕ}
+use Prim.Native.Nat.{ℕ, _≤_}
 use mathlib.Core.Path.{_≡_, refl, sym, ap, _∙_}
 use mathlib.Core.Bool.{Bool, true, false, cond, _&&_, true≢false}
 use mathlib.Core.List.{List, [], _∷_}
 use native.Mathlib.Omega.{arith}
 use borrow.Author.Tests.{eqb-true}
 use lib.Dec.{eqb}
-use lib.ListN.{length, getD, length-replicate}
+use lib.ListN.{length, getD, take, length-replicate}
+use lib.Seq.{take-all, getD-take}
+use Rattle.lists.specs.Filled.{storedAt}
+use Rattle.lists.proofs.StoreLaws.{front-fills}
+use Rattle.lists.proofs.BoolLaws.{both}
 use Rattle.refusal.specs.Answer.{Answer}
 use Rattle.timing.specs.Class.{classesOf}
 use Rattle.timing.specs.declared.Profile.{Profile}
 use Rattle.fields.specs.Field.{fieldItems}
-use Rattle.fields.specs.FieldRule.{FillsItems, fieldTurnedAway, fieldRule, fieldReading}
+use Rattle.fields.specs.FieldRule.{GathersItems, fieldTurnedAway, fieldRule, fieldReading}
 use Rattle.fields.specs.Lock.{beginsWith}
 use Rattle.fields.specs.Marks.{threeMarks}
+use Rattle.fields.proofs.FieldLaws.{field-items-count}
+use Rattle.fields.proofs.RuleLaws.{gather-stops-nowhere}
 use Rattle.fields.proofs.ReaderLaws.{gather-accepts, output-is-items}
 use Rattle.fields.proofs.MarksLaws.{afterMarks, marks-ahead}
 use Rattle.track.specs.FieldKinds.{fieldOf, itemsOf, reads, opensWith}
@@ -22,10 +28,6 @@ use Rattle.track.specs.machine.Steps.{opens, openedOf, GivesItems}
 use Rattle.track.specs.declared.opening.Opened.{Opened}
 use Rattle.track.specs.declared.opening.Opened.the-variants.{Field, NoField}
 use Rattle.track.proofs.FieldLaws.{FieldReads}
-
-pub both : (a b : Bool) → (a && b) ≡ true → (a ≡ true) × (b ≡ true)
-both true b e = (refl, e)
-both false b e = absurd (true≢false (sym e))
 
 module _ (p : Profile) (ds : List ℕ) (n : ℕ) where
   -- ---- the items of a field that reads
@@ -46,11 +48,27 @@ module _ (p : Profile) (ds : List ℕ) (n : ℕ) where
   unfolding itemsOf
   items-are-read e = output-is-items p ds n (reading-is-accepted e) _ (length-replicate n 0)
 
-  -- a buffer that was filled has them
+  items-count : reads p ds n ≡ true → length (itemsOf p ds n) ≡ n
+  items-count e =
+      let accepts = gather-accepts p ds n (reading-is-accepted e) in
+      ap length (items-are-read e)
+      ∙ field-items-count (classesOf p ds) n (gather-stops-nowhere (classesOf p ds) n accepts)
+
+  -- a buffer for the first of them has these
   pub items-in-place
-      : (new : List ℕ) → FillsItems (classesOf p ds) n new → reads p ds n ≡ true → new ≡ itemsOf p ds n
-  items-in-place new fills e =
-      fills (gather-accepts p ds n (reading-is-accepted e)) ∙ sym (items-are-read e)
+      : (old new : List ℕ)
+      → length old ≤ n
+      → GathersItems (classesOf p ds) n old new
+      → reads p ds n ≡ true
+      → new ≡ take (length old) (itemsOf p ds n)
+  items-in-place old new room gathers e =
+      gathers (gather-accepts p ds n (reading-is-accepted e))
+      ∙ ap (storedAt old 0) (sym (items-are-read e))
+      ∙ front-fills (itemsOf p ds n) old (omega (arith, items-count e))
+
+  -- and all of them where it is as long
+  pub all-in-place : reads p ds n ≡ true → take n (itemsOf p ds n) ≡ itemsOf p ds n
+  all-in-place e = take-all n (itemsOf p ds n) (omega (arith, items-count e))
 
   -- ---- of a kind or of none
 
@@ -142,7 +160,18 @@ module _ (p : Profile) (ds : List ℕ) (n : ℕ) where
         by false e = refl
         by true e = absurd (true≢false (sym (opens-at-marks e) ∙ none))
 
--- then nothing is said of the items
-pub no-items : (p : Profile) (ds : List ℕ) (kind : ℕ) (old new : List ℕ) → opens p ds (length old) kind ≡ false
-    → GivesItems p ds kind old new
-no-items p ds kind old new none e = absurd (true≢false (cc))
+    -- then nothing is said of the items
+    pub no-items : (old new : List ℕ) → opens p ds n kind ≡ false → GivesItems p ds n kind old new
+    no-items old new none e = absurd (true≢false (sym e ∙ none))
+
+-- the first four tell how a field opens
+pub opens-by-front
+    : (kind k : ℕ) (us : List ℕ) → 4 ≤ k → opensWith kind (take k us) ≡ opensWith kind us
+unfolding opensWith
+opens-by-front kind k us h =
+    rw (
+      getD-take k us 0 0 (omega arith),
+      getD-take k us 1 0 (omega arith),
+      getD-take k us 2 0 (omega arith),
+      getD-take k us 3 0 (omega arith),
+    )

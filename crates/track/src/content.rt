@@ -15,14 +15,14 @@ pub struct Sought {
     pub end: usize,
 }
 
-// As many bytes as three marks, FB, the data of the code and two check bytes are.
+// As many bytes as three marks, FB, the data of the code and two check bytes are. The first four tell what it is.
 fn read_data(p: Profile, intervals: &[u16], code: u8) -> Opened
     requires { ⌜ profileRule p .number ≡ 0 ⌝ }
     ensures { λ r. ⌜ r ≡ dataRead p (now (intervals .entry)) code ⌝ }
 {
     let n = sectors::sector_size(code) + 6;
-    let mut items = [0u16; 1030];
-    read_opened(p, intervals, 0xfb, &mut items[..n])
+    let mut items = [0u16; 4];
+    read_opened(p, intervals, n, 0xfb, &mut items)
 }
 
 // Searched after the intervals that the ID used, from `start` on.

@@ -65,7 +65,7 @@ pub fn read_id(p: Profile, intervals: &[u16]) -> IdRead
     ensures { λ r. ⌜ r ≡ idRead p (now (intervals .entry)) ⌝ }
 {
     let mut items = [0u16; 10];
-    match read_opened(p, intervals, 0xfe, &mut items) {
+    match read_opened(p, intervals, 10, 0xfe, &mut items) {
         Opened::NoField => IdRead::NoId,
         Opened::Field { used, holds } => {
             if holds {

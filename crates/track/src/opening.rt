@@ -26,14 +26,14 @@ pub fn opens_with(items: &[u16], kind: u16) -> bool
     (items[0] == A1) & (items[1] == A1) & (items[2] == A1) & (items[3] == kind)
 }
 
-// The field is as long as the buffer; the intervals begin at a lock.
-fn read_marked(p: Profile, intervals: &[u16], kind: u16, items: &mut [u16]) -> Opened
+// A field of n bytes, the first of which are handed over; the intervals begin at a lock.
+fn read_marked(p: Profile, intervals: &[u16], n: usize, kind: u16, items: &mut [u16]) -> Opened
     requires { ⌜ profileRule p .number ≡ 0 ⌝ }
-    requires { ⌜ (4 ≤ length (now items)) × (length (now items) ≤ 1030) ⌝ }
-    ensures answer { λ r. ⌜ r ≡ openedOf p (now (intervals .entry)) (length (now (items .entry))) kind ⌝ }
-    ensures items { λ _. ⌜ GivesItems p (now (intervals .entry)) kind (now (items .entry)) (now (items .exit)) ⌝ }
+    requires { ⌜ (4 ≤ length (now items)) × (length (now items) ≤ n) × (n ≤ 1030) ⌝ }
+    ensures answer { λ r. ⌜ r ≡ openedOf p (now (intervals .entry)) n kind ⌝ }
+    ensures items { λ _. ⌜ GivesItems p (now (intervals .entry)) n kind (now (items .entry)) (now (items .exit)) ⌝ }
 {
-    match read_in_place(p, intervals, items) {
+    match read_in_place(p, intervals, n, items) {
         FieldRead::Refused(_) => Opened::NoField,
         FieldRead::Field { used, holds, .. } => {
             if opens_with(items, kind) {
@@ -45,14 +45,14 @@ fn read_marked(p: Profile, intervals: &[u16], kind: u16, items: &mut [u16]) -> O
 }
 
 // Most of what a lock precedes on a worn track is seen to be no field of a sector by its first intervals.
-pub fn read_opened(p: Profile, intervals: &[u16], kind: u16, items: &mut [u16]) -> Opened
+pub fn read_opened(p: Profile, intervals: &[u16], n: usize, kind: u16, items: &mut [u16]) -> Opened
     requires { ⌜ profileRule p .number ≡ 0 ⌝ }
-    requires { ⌜ (4 ≤ length (now items)) × (length (now items) ≤ 1030) ⌝ }
-    ensures answer { λ r. ⌜ r ≡ openedOf p (now (intervals .entry)) (length (now (items .entry))) kind ⌝ }
-    ensures items { λ _. ⌜ GivesItems p (now (intervals .entry)) kind (now (items .entry)) (now (items .exit)) ⌝ }
+    requires { ⌜ (4 ≤ length (now items)) × (length (now items) ≤ n) × (n ≤ 1030) ⌝ }
+    ensures answer { λ r. ⌜ r ≡ openedOf p (now (intervals .entry)) n kind ⌝ }
+    ensures items { λ _. ⌜ GivesItems p (now (intervals .entry)) n kind (now (items .entry)) (now (items .exit)) ⌝ }
 {
     if three_marks_ahead(p, intervals) {
-        return read_marked(p, intervals, kind, items);
+        return read_marked(p, intervals, n, kind, items);
     }
     Opened::NoField
 }

@@ -3,7 +3,7 @@ use Prim.Native.Nat.{ℕ}
 use mathlib.Core.Path.{_≡_}
 use mathlib.Core.Bool.{Bool, true, cond, _&&_}
 use mathlib.Core.List.{List}
-use lib.ListN.{length, getD, drop}
+use lib.ListN.{length, getD, take, drop}
 use Rattle.timing.specs.declared.Profile.{Profile}
 use Rattle.track.specs.FieldKinds.{fieldOf, itemsOf, reads, opensWith, identifies, isId, dataBytes}
 use Rattle.track.specs.Index.{hasLock, lockPlace, dataFrom, entryAt, entryEnd, nextStart}
@@ -22,9 +22,9 @@ opens p ds n kind = reads p ds n && opensWith kind (itemsOf p ds n)
 unfoldable pub openedOf : Profile → List ℕ → ℕ → ℕ → Opened
 openedOf p ds n kind = cond (opens p ds n kind) (Field (fieldOf p ds n .used) (fieldOf p ds n .holds)) NoField
 
--- what a buffer as long as it holds then
-abbrev pub GivesItems : Profile → List ℕ → ℕ → List ℕ → List ℕ → Type 0
-GivesItems p ds kind old new = opens p ds (length old) kind ≡ true → new ≡ itemsOf p ds (length old)
+-- what a buffer for the first of its bytes holds then
+abbrev pub GivesItems : Profile → List ℕ → ℕ → ℕ → List ℕ → List ℕ → Type 0
+GivesItems p ds n kind old new = opens p ds n kind ≡ true → new ≡ take (length old) (itemsOf p ds n)
 
 -- an ID's four bytes and the intervals that it used
 abbrev pub idWith : List ℕ → ℕ → IdRead

@@ -1,9 +1,6 @@
 -- Why `fields::finder::three_marks_ahead` answers `beginsWith threeMarks`: it tries that pattern from the first interval
 -- on. Rests on no axiom.
-use mathlib.Core.Path.{ap, _∙_}
 use Rattle.timing.specs.Class.{classesOf}
-use Rattle.timing.specs.declared.cursor.Cursor.{Cursor}
-use Rattle.fields.specs.Lock.{beginsWith}
 use Rattle.fields.specs.Marks.{threeMarks}
 use borrow.Author.Needs.{needs}
 use Rattle.fields.proofs.finder.three_marks_ahead.Statement.{statement}

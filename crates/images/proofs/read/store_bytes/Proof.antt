@@ -9,7 +9,7 @@ use lib.ListN.{length, getD, set, drop, length-set, length-map, drop-of-length-l
 use lib.Seq.{drop-cons}
 use Rattle.lists.specs.Filled.{storedAt}
 use Rattle.lists.proofs.StoreLaws.{stored-none, stored-at-front-fills}
-use Rattle.symbols.specs.machine.Candidate.{candidate}
+use Rattle.half_cells.specs.Candidate.{candidate}
 use Rattle.images.proofs.read.store_bytes.Statement.{statement}
 use Rattle.images.proofs.read.store_bytes.Tie as tie
 

@@ -1,7 +1,5 @@
--- Why `block::pass_block` gives `passFrom`: the units that it stores are those that it shifts in. Rests on no axiom.
-use mathlib.Core.Path.{ap, _∙_}
+-- Why `block::pass_block` gives `passOn`: the units that it stores are those that it shifts in. Rests on no axiom.
 use native.Mathlib.Omega.{arith}
-use lib.ListN.{length}
 use Rattle.timing.proofs.UnitsLaws.{units-count}
 use Rattle.intervals.proofs.FoursLaws.{units-are-cells}
 use borrow.Author.Needs.{needs}
@@ -12,9 +10,14 @@ shift-units-requires : tie.Need-shift-units-requires
 shift-units-requires c κs =
     let units = c .before .before .before .before in
     let start = units .before .before .before .before .before in
+    let count = units-count (start .args .at .cursor) (start .args .intervals .now) in
+    let (same, few) = start .pre .1 .0 in
     rw (units .units-of .ensures .1) (
-      (units-are-cells _ _, start .pre .0 .1, start .pre .0 .0),
-      omega (arith, units-count (start .args .cursor) (start .args .intervals .now), start .pre .1 .1),
+      omega (arith, same, few),
+      (
+        (units-are-cells _ _, start .pre .0 .1, start .pre .0 .0),
+        (omega (arith, start .pre .1 .1 .0), omega (arith, start .pre .1 .1 .1)),
+      ),
     )
 
 returns : tie.Need-returns

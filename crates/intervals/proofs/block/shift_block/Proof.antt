@@ -1,64 +1,175 @@
--- Why `block::shift_block` gives `passFrom`: where every word fits, four cells at a time are cell after cell. Rests on no
--- axiom.
-use Prim.Native.Nat.{ℕ, _+_, _*_, _^_, _≤_, _<_}
-use mathlib.Core.Path.{_≡_, refl, sym, ap, _∙_}
+-- Why `block::shift_block` gives `passFrom`: where every word fits, four cells at a time are cell after cell, and what is
+-- over is the rest of the pass. Rests on no axiom.
+use Prim.Native.Nat.{ℕ, _+_, _-_, _*_, _^_, _≤_, _<_}
+use mathlib.Core.Path.{_≡_, sym, ap, _∙_}
 use mathlib.Core.Bool.{true}
 use mathlib.Core.List.{List, map}
 use native.Mathlib.Omega.{arith}
-use lib.ListN.{length, length-take}
-use lib.Seq.{length-take-le}
+use lib.ListN.{length, take, drop, length-drop, length-map, take-append-drop}
+use lib.Seq.{length-take-le, take-all}
 use Rattle.lists.specs.Filled.{storedAt}
 use Rattle.lists.specs.Place.{everywhere}
-use Rattle.symbols.specs.machine.Word.{fits}
+use Rattle.lists.proofs.StoreLaws.{stored-next}
+use Rattle.half_cells.specs.Word.{fits}
 use Rattle.symbols.specs.machine.Step.{AllCells}
 use Rattle.symbols.specs.declared.Reading.{Reading}
-use Rattle.intervals.specs.machine.Pass.{passFrom}
+use Rattle.intervals.specs.machine.Pass.{Passed, after, passFrom}
 use Rattle.intervals.specs.machine.Fours.{alone, foursFrom}
-use Rattle.intervals.proofs.FoursLaws.{by-fours}
+use Rattle.intervals.specs.declared.Pass.{Pass}
+use Rattle.intervals.proofs.PassLaws.{pass-in-parts, pass-counts}
+use Rattle.intervals.proofs.FoursLaws.{by-fours, cells-take}
 use borrow.Author.Needs.{needs}
 use Rattle.intervals.proofs.block.shift_block.Statement.{statement}
 use Rattle.intervals.proofs.block.shift_block.Tie as tie
 
-clean
-    : (us : List ℕ) (most from : ℕ) (m reading : Reading) (words old stored : List ℕ)
-    → length us ≡ 4 * 16
-    → AllCells us × (m .held ≤ 16) × (m .words + 16 < most)
-    → most < 2 ^ 32
-    → reading ≡ foursFrom 16 m us .reading
-    → words ≡ foursFrom 16 m us .words
-    → everywhere fits words ≡ true
-    → stored ≡ storedAt old (m .words) (map alone words)
-    → (record { reading = reading; used = from + length us } ≡ passFrom most from m us .end)
-    × (stored ≡ storedAt old (m .words) (passFrom most from m us .words))
-clean us most from m reading words old stored size pre small same-end same-words fit store =
-    rw (by-fours 16 us most from m (pre .0) size (pre .1) (pre .2) small (rw same-words at fit), same-end, store, same-words)
-    (refl, refl)
+module _ (us : List ℕ) (n : ℕ) (size : 4 * n ≤ length us) where
+  abbrev front : List ℕ
+  front = take (4 * n) us
 
-slice-aggregate-all-fit : tie.Need-slice-aggregate-all-fit
-slice-aggregate-all-fit c = sym (length-take-le _ _ (search needs))
+  -- what is over, as it is lent
+  abbrev over : List ℕ
+  over = take (length us - 4 * n) (drop (4 * n) us)
 
-slice-aggregate-store : tie.Need-slice-aggregate-store
-slice-aggregate-store c = sym (length-take-le _ _ (search needs))
+  front-count : length front ≡ 4 * n
+  front-count = length-take-le (4 * n) us size
+
+  over-is : over ≡ drop (4 * n) us
+  over-is = take-all (length us - 4 * n) (drop (4 * n) us) (omega (arith, length-drop (4 * n) us))
+
+  over-count : length over ≡ length us - 4 * n
+  over-count = ap length over-is ∙ length-drop (4 * n) us
+
+  module _
+      (most from to : ℕ)
+      (m reading : Reading)
+      (words : List ℕ)
+      (pre : AllCells us × (m .held ≤ 16) × (m .words + n < most))
+      (small : most < 2 ^ 32)
+      (same-end : reading ≡ foursFrom n m front .reading)
+      (same-words : words ≡ foursFrom n m front .words)
+      (fit : everywhere fits words ≡ true)
+    where
+      abbrev first : Passed
+      first = record { end = record { reading = reading; used = from + 4 * n }; words = map alone words }
+
+      first-is : passFrom most from m front ≡ first
+      first-is =
+          by-fours n front most from m (cells-take (4 * n) us (pre .0)) front-count (pre .1) (pre .2) small
+          (rw same-words at fit)
+          ∙ rw (front-count, ← same-end, ← same-words)
+
+      words-more : reading .words ≡ m .words + length words
+      words-more =
+          let counts = pass-counts most from m front small .words in
+          (rw first-is at counts) ∙ omega (arith, length-map words alone)
+
+      in-parts : passFrom most from m us ≡ after (map alone words) (passFrom most (from + 4 * n) reading over)
+      in-parts =
+          ap (passFrom most from m) (sym (take-append-drop (4 * n) us))
+          ∙ pass-in-parts most from m front (drop (4 * n) us)
+          ∙ rw (first-is, over-is)
+
+      clean
+          : (old stored new : List ℕ) (r : Pass)
+          → stored ≡ storedAt old to (map alone words)
+          → r ≡ passFrom most (from + 4 * n) reading over .end
+          → new ≡ storedAt stored (to + length words) (passFrom most (from + 4 * n) reading over .words)
+          → (r ≡ passFrom most from m us .end) × (new ≡ storedAt old to (passFrom most from m us .words))
+      clean old stored new r store end next =
+          rw in-parts (
+            end,
+            next ∙ stored-next (map alone words) _ old stored to _ store (omega (arith, length-map words alone)),
+          )
+
+-- as many words as were made whole
+count-is
+    : (c : tie.After-shift-fours)
+    → length (take (c .shift-fours .result .count) (c .shift-fours .last .1 .1 .0)) ≡ c .shift-fours .result .count
+count-is c =
+    length-take-le (c .shift-fours .result .count) _
+    (omega (arith, c .shift-fours .ensures .1 .0, c .shift-fours .kept .1 .1 .0))
+
+-- where they all fit
+fitting
+    : (c : tie.Then1)
+    → let shifted = c .before .before .before .before .before in
+    let start = shifted .before .before .before .before .before .before in
+    let n = length (start .args .words .now) in
+    let words = take (shifted .shift-fours .result .count) (shifted .shift-fours .last .1 .1 .0) in
+    (words ≡ foursFrom n (start .args .m) (take (4 * n) (start .args .units .now)) .words)
+    × (everywhere fits words ≡ true)
+fitting c =
+    (c .before .before .before .before .before .shift-fours .ensures .1 .1, sym (c .before .all-fit .ensures) ∙ c .if1 .taken)
+
+shift-fours-requires : tie.Need-shift-fours-requires
+shift-fours-requires c κs =
+    let start = c .before .before .before .before .before in
+    let n = length (start .args .words .now) in
+    (cells-take (4 * n) _ (start .pre .0 .0), front-count _ n (start .pre .1 .0))
 
 store-requires : tie.Need-store-requires
 store-requires c κs =
-    let shifted = c .before .before .before .before .before .before .before .shift-fours in
-    let start = c .before .before .before .before .before .before .before .before .before .before .before in
-    omega (arith, shifted .ensures .1 .0, length-take (shifted .result .count) (shifted .last .1 .1 .0), start .pre .1 .0 .2, start .fits .most .fits)
+    let shifted = c .before .before .before .before .before .before .before in
+    let start = shifted .before .before .before .before .before .before in
+    let few = shifted .shift-fours .ensures .1 .0 in
+    omega (arith, count-is shifted, start .pre .1 .0, start .pre .1 .1 .1)
+
+shift-in-requires : tie.Need-shift-in-requires
+shift-in-requires c κs =
+    let told = c .before .before .before .before .before .before .before .before in
+    let shifted = told .before .before .before .before .before in
+    let start = shifted .before .before .before .before .before .before in
+    let fit = fitting told in
+    let few = shifted .shift-fours .ensures .1 .0 in
+    let size = start .pre .1 .0 in
+    let more =
+    words-more (start .args .units .now) (length (start .args .words .now)) size (start .args .most) (start .args .from)
+    (start .args .to)
+    (start .args .m)
+    (shifted .shift-fours .result .reading)
+    _
+    (start .pre .0)
+    (start .fits .most .fits)
+    (shifted .shift-fours .ensures .0)
+    (fit .0)
+    (fit .1) in
+    let over = over-count (start .args .units .now) (length (start .args .words .now)) size in (
+      omega (arith, more, count-is shifted, few, start .pre .0 .2),
+      (omega (arith, over, size, start .pre .1 .1 .0), omega (arith, over, size, few, start .pre .1 .1 .1)),
+    )
 
 returns : tie.Need-returns
 returns c =
-    let told = c .before .before .before .before .before .before .before in
-    let shifted = told .before .before .before .before .shift-fours in
-    let start = told .before .before .before .before .before .before .before .before in
-    clean _ _ _ _ _ _ _ _ (start .pre .0) (start .pre .1 .0) (start .fits .most .fits) (shifted .ensures .0)
-    (shifted .ensures .1 .1)
-    (sym (told .before .all-fit .ensures) ∙ told .if1 .taken)
-    (c .before .before .before .store .ensures)
+    let told = c .before .before .before .before .before .before .before .before .before .before .before in
+    let shifted = told .before .before .before .before .before in
+    let start = shifted .before .before .before .before .before .before in
+    let fit = fitting told in
+    let rest = c .before .before .shift-in .ensures in
+    clean (start .args .units .now) (length (start .args .words .now)) (start .pre .1 .0) (start .args .most)
+    (start .args .from)
+    (start .args .to)
+    (start .args .m)
+    (shifted .shift-fours .result .reading)
+    _
+    (start .pre .0)
+    (start .fits .most .fits)
+    (shifted .shift-fours .ensures .0)
+    (fit .0)
+    (fit .1)
+    _
+    _
+    _
+    _
+    (c .before .before .before .before .before .before .before .before .store .ensures)
+    (rest .0)
+    (rw (count-is shifted) (rest .1))
 
 pub shift-block-spec : {M : Type 1} → statement M
 shift-block-spec =
     tie.close
-    (tie.spec (λ c. search needs) (λ c κs. search needs) (λ c. search needs) slice-aggregate-all-fit
-    (λ c κs. search needs) (λ c. search needs) slice-aggregate-store (λ c. search needs) store-requires
-    (λ c. search needs) (λ c. search needs) returns (λ c κs. search needs) (λ c. search needs) (λ c. search needs))
+    (tie.spec (λ c. search needs) (λ c. sym (front-count _ _ (c .before .before .before .before .pre .1 .0)))
+    shift-fours-requires (λ c. search needs) (λ c. sym (count-is (c .before .before .before))) (λ c κs. search needs)
+    (λ c. search needs) (λ c. sym (count-is (c .before .before .before .before .before .before))) store-requires
+    (λ c. search needs) (λ c. search needs) (λ c. search needs) (λ c. search needs) (λ c. search needs)
+    shift-in-requires (λ c. search needs) (λ c. search needs) returns (λ c κs. search needs) (λ c. search needs)
+    (λ c. search needs) (λ c. search needs))

@@ -12,24 +12,27 @@ use Rattle.intervals.proofs.block.shift_in.Statement.{statement}
 use Rattle.intervals.proofs.block.shift_in.Tie as tie
 
 abbrev Inv-loop : tie.InvT-loop
-Inv-loop units from most out₀ m₀ k₀ out m k = Shifting most from m₀ units out₀ out m k × (m .words < most)
+Inv-loop units from most to out₀ m₀ store-at₀ k₀ out m store-at k =
+    Shifting most from to m₀ units out₀ out m store-at k × (m .words < most)
 
 abbrev μ-loop : tie.MeasureT-loop
-μ-loop units from most out₀ m₀ k₀ out m k = length units - k
+μ-loop units from most to out₀ m₀ store-at₀ k₀ out m store-at k = length units - k
 
 -- a turn that closed a byte
 closed-turn
     : (c : tie.After-close Inv-loop μ-loop)
-    → let turn = c .before .before .before .before .before .before .before .before .before .before .before .before in
+    → let turn = c .before .before .before .before .before .before .before .before .before .before .before in
     let args = turn .before .before .before .args in
-    Shifting (args .most) (args .from) (args .start) (args .units .now) (args .out .now) (c .before .before .before .put .last .0)
+    Shifting (args .most) (args .from) (args .to) (args .start) (args .units .now) (args .out .now)
+    (c .before .before .before .put .last .0)
     (c .close .result)
+    (turn .loop .store-at + 1)
     (turn .loop .k + 1)
 closed-turn c =
-    let tested = c .before .before .before .before .before .before .before in
+    let tested = c .before .before .before .before .before .before in
     let turn = tested .before .before .before .before .before in
     let args = turn .before .before .before in
-    turn-closes _ _ _ _ _ (turn .loop .inv .0) (turn .loop .inv .1) (args .fits .most .fits)
+    turn-closes _ _ _ _ _ _ (turn .loop .inv .0) (turn .loop .inv .1) (args .fits .most .fits)
     (tested .before .before .before .before .loop-test .taken)
     _
     _
@@ -42,36 +45,42 @@ closed-turn c =
     (c .close .ensures)
 
 loop-holds : tie.Need-loop-holds Inv-loop μ-loop
-loop-holds c = (begins _ _ _ _ _, c .before .before .pre .0)
+loop-holds c = (begins _ _ _ _ _ _, c .before .before .pre .0)
 
 add-place : tie.Need-add-place Inv-loop μ-loop
 add-place c =
     let within = c .before .before .before .loop .inv .0 .within in
-    omega (arith, c .before .before .before .before .before .before .pre .1)
+    omega (arith, c .before .before .before .before .before .before .pre .1 .0)
 
 word-requires : tie.Need-word-requires Inv-loop μ-loop
-word-requires c κs = leb-true 17 _ (sym (c .before .before .before .is-whole .ensures) ∙ c .before .before .if1 .taken)
+word-requires c κs = leb-true 17 _ (sym (c .before .before .is-whole .ensures) ∙ c .before .if1 .taken)
+
+add-store-at : tie.Need-add-store-at Inv-loop μ-loop
+add-store-at c =
+    let turn = c .before .before .before .before .before .before .before .before .before .before in
+    let inside = c .before .before .before .before .before .before .before .before .before .loop-test .taken in
+    omega (arith, turn .loop .inv .0 .near, turn .before .before .before .pre .1 .1)
 
 close-requires : tie.Need-close-requires Inv-loop μ-loop
 close-requires c κs =
-    let tested = c .before .before .before .before .before .before in leb-true 17 _ (sym (tested .before .is-whole .ensures) ∙ tested .if1 .taken)
+    let tested = c .before .before .before .before .before in leb-true 17 _ (sym (tested .before .is-whole .ensures) ∙ tested .if1 .taken)
 
-add-t22 : tie.Need-add-t22 Inv-loop μ-loop
-add-t22 c =
-    let turn = c .before .before .before .before .before .before .before .before .before .before .before .before .before .before in
+add-t24 : tie.Need-add-t24 Inv-loop μ-loop
+add-t24 c =
+    let turn = c .before .before .before .before .before .before .before .before .before .before .before .before .before in
     let within = turn .loop .inv .0 .within in
-    let inside = c .before .before .before .before .before .before .before .before .before .before .before .before .before .loop-test .taken in
-    omega (arith, turn .before .before .before .pre .1)
+    let inside = c .before .before .before .before .before .before .before .before .before .before .before .before .loop-test .taken in
+    omega (arith, turn .before .before .before .pre .1 .0)
 
 same-length : tie.Need-same-length Inv-loop μ-loop
 same-length c = closed-turn (c .before .before) .same-length
 
 returns : tie.Need-returns Inv-loop μ-loop
 returns c =
-    let turn = c .before .before .before .before .before .before .before .before .before .before .before .before .before .before in
+    let turn = c .before .before .before .before .before .before .before .before .before .before .before .before .before in
     let next : turn .before .before .before .args .from + (turn .loop .k + 1)
     ≡ turn .before .before .before .args .from + turn .loop .k + 1 = omega arith in
-    rw next at (turn-is-full _ _ _ _ _ (closed-turn (c .before .before)) (c .if2 .taken))
+    rw next at (turn-is-full _ _ _ _ _ _ (closed-turn (c .before .before)) (c .if2 .taken))
 
 loop-again : tie.Need-loop-again Inv-loop μ-loop
 loop-again c = (closed-turn (c .before .before), c .if2 .left)
@@ -80,27 +89,27 @@ loop-again-2 : tie.Need-loop-again-2 Inv-loop μ-loop
 loop-again-2 c =
     let turn = c .before .before .before .before .before in
     let args = turn .before .before .before in
-    turn-stays-open _ _ _ _ _ (turn .loop .inv .0) (turn .loop .inv .1) (args .fits .most .fits)
+    turn-stays-open _ _ _ _ _ _ (turn .loop .inv .0) (turn .loop .inv .1) (args .fits .most .fits)
     (c .before .before .before .before .loop-test .taken)
     _
     (c .before .before .shift .ensures)
     (sym (c .before .is-whole .ensures) ∙ c .if1 .left)
 
-add-t23 : tie.Need-add-t23 Inv-loop μ-loop
-add-t23 c =
+add-t25 : tie.Need-add-t25 Inv-loop μ-loop
+add-t25 c =
     let within = c .before .loop .inv .0 .within in
-    omega (arith, c .before .before .before .before .pre .1)
+    omega (arith, c .before .before .before .before .pre .1 .0)
 
 same-length-2 : tie.Need-same-length-2 Inv-loop μ-loop
 same-length-2 c = c .before .loop .inv .0 .same-length
 
 returns-2 : tie.Need-returns-2 Inv-loop μ-loop
-returns-2 c = turn-ends _ _ _ _ _ (c .before .loop .inv .0) (c .loop-test .left)
+returns-2 c = turn-ends _ _ _ _ _ _ (c .before .loop .inv .0) (c .loop-test .left)
 
 pub shift-in-spec : {M : Type 1} → statement M
 shift-in-spec =
     tie.close
     (tie.spec Inv-loop μ-loop loop-holds (λ c. search needs) (λ c κs. search needs) add-place (λ c. search needs)
-    (λ c κs. search needs) (λ c. search needs) word-requires (λ c κs. search needs) (λ c. search needs) close-requires
-    add-t22 same-length returns (λ c. search needs) loop-again (λ c. search needs) loop-again-2 add-t23 same-length-2
+    (λ c κs. search needs) word-requires (λ c κs. search needs) add-store-at (λ c. search needs) close-requires
+    add-t24 same-length returns (λ c. search needs) loop-again (λ c. search needs) loop-again-2 add-t25 same-length-2
     returns-2)

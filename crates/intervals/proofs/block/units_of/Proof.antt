@@ -2,25 +2,17 @@
 -- axiom.
 use Prim.Native.Nat.{ℕ, _-_, _≤_}
 use mathlib.Core.Path.{_≡_, refl, sym, ap, _∙_}
-use mathlib.Core.List.{List}
 use native.Mathlib.Numerals.{add-one}
 use native.Mathlib.Omega.{arith}
 use lib.ListN.{length, drop, length-set, drop-of-length-le}
-use lib.Seq.{take-all}
 use Rattle.lists.specs.Filled.{storedAt}
-use Rattle.lists.proofs.StoreLaws.{stored-none, stored-one, stored-next, stored-length, front-of-stored}
+use Rattle.lists.proofs.StoreLaws.{stored-none, stored-one, stored-next, stored-over-all}
 use Rattle.timing.specs.Class.{cursorAfter}
 use Rattle.timing.specs.Edges.{unitsFrom}
 use Rattle.timing.proofs.UnitsLaws.{units-none, units-count, units-here, cursor-here, cursor-after-none}
 use borrow.Author.Needs.{needs}
 use Rattle.intervals.proofs.block.units_of.Statement.{statement}
 use Rattle.intervals.proofs.block.units_of.Tie as tie
-
--- stores over the whole of a list
-stored-over-all : (vs old : List ℕ) → length vs ≡ length old → storedAt old 0 vs ≡ vs
-stored-over-all vs old same =
-    let long : length (storedAt old 0 vs) ≤ length vs = omega (arith, stored-length old 0 vs) in
-    sym (take-all (length vs) (storedAt old 0 vs) long) ∙ front-of-stored vs old (length vs) refl (omega arith)
 
 abbrev Inv-loop : tie.InvT-loop
 Inv-loop intervals units₀ cursor₀ k₀ units cursor k =

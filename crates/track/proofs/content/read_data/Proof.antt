@@ -1,10 +1,7 @@
--- Why `content::read_data` answers `dataRead`: the buffer has room for every code. Rests on no axiom.
+-- Why `content::read_data` answers `dataRead`: a field has so many bytes of every code. Rests on no axiom.
 use Prim.Native.Nat.{ℕ, _+_, _≤_}
-use mathlib.Core.Path.{_≡_, sym, ap, _∙_}
-use mathlib.Core.List.{List}
+use mathlib.Core.Path.{_≡_, ap, _∙_}
 use native.Mathlib.Omega.{arith}
-use lib.ListN.{length, take, replicate}
-use lib.Seq.{length-take-le}
 use Rattle.track.specs.FieldKinds.{dataBytes}
 use Rattle.track.specs.machine.Steps.{openedOf, dataRead}
 use Rattle.track.proofs.DataLaws.{data-bytes-fit}
@@ -23,19 +20,14 @@ within c =
     let same = count c in
     (omega arith, omega arith)
 
-abbrev buffer : List ℕ
-buffer = replicate 1030 0
-
-front-length
-    : (c : tie.After-sector-size) → length (take (c .sector-size .result + 6) buffer) ≡ c .sector-size .result + 6
-front-length c = length-take-le _ _ (within c .1)
-
 add-n : tie.Need-add-n
 add-n c =
     let most = within c .1 in omega arith
 
 read-opened-requires : tie.Need-read-opened-requires
-read-opened-requires c κs = (c .before .before .before .pre, rw front-length (within (c .before)))
+read-opened-requires c κs =
+    let (least, most) = within (c .before) in
+    (c .before .before .before .pre, (omega arith, least, most))
 
 returns : tie.Need-returns
 unfolding dataRead
@@ -43,10 +35,9 @@ returns c =
     let at-size = c .before .before .before in
     let args = at-size .before .before .args in
     c .before .read-opened .ensures .0
-    ∙ ap (λ (n : ℕ). openedOf (args .p) (args .intervals .now) n 0xfb) (front-length at-size ∙ count at-size)
+    ∙ ap (λ (n : ℕ). openedOf (args .p) (args .intervals .now) n 0xfb) (count at-size)
 
 pub read-data-spec : {M : Type 1} → statement M
 read-data-spec =
     tie.close
-    (tie.spec (λ c κs. search needs) add-n (λ c. within c .1) (λ c. sym (front-length (c .before)))
-    read-opened-requires returns)
+    (tie.spec (λ c κs. search needs) add-n (λ c. search needs) read-opened-requires returns)

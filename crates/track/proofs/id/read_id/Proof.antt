@@ -5,7 +5,7 @@ use mathlib.Core.Path.{sym, ap, subst, _∙_}
 use mathlib.Core.List.{List}
 use Rattle.track.specs.machine.Steps.{identified}
 use Rattle.track.proofs.FieldLaws.{FieldReads}
-use Rattle.track.proofs.OpeningLaws.{unopened-means, opened-means, opened-reads}
+use Rattle.track.proofs.OpeningLaws.{all-in-place, unopened-means, opened-means, opened-reads}
 use Rattle.track.proofs.IdLaws.{unopened-is-no-id, unsound-is-no-id, sound-is-identified}
 use borrow.Author.Needs.{needs}
 use Rattle.track.proofs.id.read_id.Statement.{statement}
@@ -19,7 +19,8 @@ returns c =
     let e = sym (known .1) ∙ read .read-opened .ensures .0 in
     c .identify .ensures
     ∙ ap (λ (us : List ℕ). identified us (known .0 .0))
-    (read .read-opened .ensures .1 (opened-means _ _ 10 _ _ _ e .0))
+    (read .read-opened .ensures .1 (opened-means _ _ 10 _ _ _ e .0)
+    ∙ all-in-place (args .p) (args .intervals .now) 10 (opened-reads _ _ 10 _ _ _ e .does))
     ∙ sound-is-identified _ _ _
     (subst (FieldReads (args .p) (args .intervals .now) 10 (known .0 .0)) (c .before .before .if1 .taken)
     (opened-reads _ _ 10 _ _ _ e))

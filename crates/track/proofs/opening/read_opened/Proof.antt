@@ -1,7 +1,6 @@
 -- Why `opening::read_opened` answers `openedOf`: what does not begin with the classes of three marks opens as no field of
 -- a sector. Rests on no axiom.
 use mathlib.Core.Path.{sym, _∙_}
-use lib.ListN.{length}
 use Rattle.track.proofs.OpeningLaws.{unopened, unmarked-opens-nothing, no-items}
 use borrow.Author.Needs.{needs}
 use Rattle.track.proofs.opening.read_opened.Statement.{statement}
@@ -11,9 +10,9 @@ returns-2 : tie.Need-returns-2
 returns-2 c =
     let args = c .before .before .before .before .args in
     let none =
-    unmarked-opens-nothing (args .p) (args .intervals .now) (length (args .items .now)) (args .kind)
+    unmarked-opens-nothing (args .p) (args .intervals .now) (args .n) (args .kind)
     (sym (c .before .three-marks-ahead .ensures) ∙ c .if1 .left) in
-    (unopened _ _ _ _ none, no-items _ _ _ (args .items .now) _ none)
+    (unopened _ _ _ _ none, no-items _ _ _ _ (args .items .now) _ none)
 
 pub read-opened-spec : {M : Type 1} → statement M
 read-opened-spec =

@@ -4,13 +4,11 @@
 use Prim.Native.Nat.{ℕ, _-_, _≤_, _<_}
 use mathlib.Core.Path.{_≡_, refl, sym, ap, _∙_}
 use mathlib.Core.Bool.{Bool, true, false}
-use mathlib.Core.List.{List, [], _++_, map}
+use mathlib.Core.List.{List, [], map}
 use native.Mathlib.Decide.{decLt}
 use native.Mathlib.Omega.{arith}
 use borrow.Author.Tests.{lt-ltb, le-ltb, eqb-false}
-use lib.ListN.{length, take, drop, length-map}
-use Rattle.lists.specs.Filled.{storedAt}
-use Rattle.lists.proofs.StoreLaws.{mapped-at-front}
+use lib.ListN.{length, take, length-map}
 use Rattle.refusal.specs.Table.{numberOf, placeOf}
 use Rattle.refusal.specs.Answer.{Answer, accepted, refused, refuseIf, firstRefusal}
 use Rattle.refusal.specs.declared.Refusal.{Refusal}
@@ -28,7 +26,7 @@ use Rattle.symbols.specs.Bits.{O}
 use Rattle.symbols.specs.Bytes.{itemsRead}
 use Rattle.symbols.specs.Reading.{units, readFrom, readBits}
 use Rattle.symbols.specs.Strip.{isStray}
-use Rattle.symbols.specs.machine.Candidate.{candidate}
+use Rattle.half_cells.specs.Candidate.{candidate}
 use Rattle.symbols.specs.machine.Step.{freshReading, strayNow, placeNow}
 use Rattle.symbols.specs.declared.Cell.{Cell}
 use Rattle.symbols.specs.declared.Reading.{Reading}
@@ -42,11 +40,11 @@ use Rattle.intervals.specs.declared.Pass.{Pass}
 use Rattle.intervals.proofs.CellLaws.{classOfCell, cellOfUnits}
 use Rattle.intervals.proofs.NearLaws.{nearCells, units-of-near-cells, classes-are-near}
 use Rattle.fields.specs.Field.{bitsWanted, fieldStop, fieldCells, fieldUsed, fieldItems, fieldStray, fieldStrayPlace}
-use Rattle.fields.specs.FieldRule.{gatherRule, GathersItems}
+use Rattle.fields.specs.FieldRule.{gatherRule, GathersItems, TellsSum}
 use Rattle.fields.specs.End.{endRule}
 use Rattle.fields.proofs.AgreeLaws.{same-items, same-gather}
 use Rattle.fields.proofs.FieldLaws.{field-bits-enough, field-items-of-cells, field-stray-of-cells}
-use Rattle.fields.proofs.FieldLaws.{field-place-of-cells, field-items-count}
+use Rattle.fields.proofs.FieldLaws.{field-place-of-cells}
 use Rattle.fields.proofs.FieldPassLaws.{classesOfCells, OverField, pass-over-field}
 use Rattle.fields.proofs.ReaderLaws.{taken-at-most}
 use Rattle.fields.proofs.NearFieldLaws.{NearField, near-field}
@@ -133,15 +131,15 @@ used-at-most : (xs : List Cell) (n : ℕ) → length (fieldCells (classesOfCells
 unfolding fieldCells
 used-at-most xs n = taken-at-most (classesOfCells xs) (bitsWanted n) O
 
--- a refusal hands over nothing
+-- what is said of an acceptance is said of no refusal
 pub refuses
-    : (cs : List Class) (n : ℕ) (r : Refusal) (old new : List ℕ)
+    : (cs : List Class) (n : ℕ) (r : Refusal) (old new : List ℕ) (holds : Bool)
     → refused (numberOf r) (placeOf r) ≡ gatherRule cs n
-    → (refused (numberOf r) (placeOf r) ≡ gatherRule cs n) × GathersItems cs n old new
-refuses cs n r old new e = (
-  e,
-  λ zero. absurd (eqb-false (numberOf r) 0 (number-is-not-zero r) (ap (λ (a : Answer). a .number) e ∙ zero)),
-)
+    → (refused (numberOf r) (placeOf r) ≡ gatherRule cs n) × (TellsSum cs n holds × GathersItems cs n old new)
+refuses cs n r old new holds e = (e, (λ zero. absurd (eqb-false (numberOf r) 0 (number-is-not-zero r) (is-zero zero)), λ zero. absurd (eqb-false (numberOf r) 0 (number-is-not-zero r) (is-zero zero))))
+  where
+    is-zero : gatherRule cs n .number ≡ 0 → numberOf r ≡ 0
+    is-zero zero = ap (λ (a : Answer). a .number) e ∙ zero
 
 -- ---- a field of intervals, each taken as a cell
 
@@ -224,20 +222,9 @@ module _
       pub end-answers : endRule (r .reading) (r .used) n ≡ gatherRule (classesOf p ds) n
       end-answers = rw same-end-of-pass (end-of-cells xs n some few) ∙ sym same-rule
 
-      -- as many words as items, each replaced by its item where it stands
-      pub items-are-gathered
+      pub items-are
           : gatherRule (classesOf p ds) n .number ≡ 0
-          → (old stored : List ℕ)
-          → n ≤ length old
-          → stored ≡ storedAt old 0 (passed n (unitsFrom (atStart p) ds) .words)
-          → map candidate (take n stored) ++ drop n stored ≡ storedAt old 0 (fieldItems (classesOf p ds) n)
-      unfolding gatherRule
-      items-are-gathered zero old stored room e =
-          let words = passed n (unitsFrom (atStart p) ds) .words in
-          let items : map candidate words ≡ fieldItems (classesOf p ds) n =
+          → map candidate (passed n (unitsFrom (atStart p) ds) .words) ≡ fieldItems (classesOf p ds) n
+      items-are zero =
           rw same-pass (items-of-cells xs n some few (sym (ap (λ (a : Answer). a .number) same-rule) ∙ zero))
-          ∙ sym (same-items n (classesOfCells xs) (classesOf p ds) same-cells same-stop) in
-          let fair = first-refusal-accepts (fieldStop (classesOf p ds) n) _ zero .0 in
-          let long : length words ≡ n =
-          sym (length-map words candidate) ∙ ap length items ∙ field-items-count (classesOf p ds) n fair in
-          rw e (mapped-at-front candidate words old n long room ∙ ap (storedAt old 0) items)
+          ∙ sym (same-items n (classesOfCells xs) (classesOf p ds) same-cells same-stop)

@@ -33,36 +33,44 @@ pub one-at-most : (t : Bool) → boolByte t ≤ 1
 one-at-most true = omega arith
 one-at-most false = omega arith
 
-module _ (start : Reading) (us : List ℕ) where
+module _ (n : ℕ) (start : Reading) (us : List ℕ) where
   -- what is left, after so many fours
   abbrev rest : Reading → ℕ → Fours
-  rest m i = foursFrom (16 - i) m (drop (4 * i) us)
+  rest m i = foursFrom (n - i) m (drop (4 * i) us)
 
   abbrev whole : Fours
-  whole = foursFrom 16 start us
+  whole = foursFrom n start us
 
   pub record Shifting (words : List ℕ) (m : Reading) (count i : ℕ) : Type 0 where
-    pub within : i ≤ 16
+    pub within : i ≤ n
     pub few : count ≤ i
-    pub size : length words ≡ 16
+    pub size : length words ≡ n
     pub same-end : rest m i .reading ≡ whole .reading
     pub same-words : take count words ++ rest m i .words ≡ whole .words
 
-  pub begins : (words : List ℕ) → length words ≡ 16 → Shifting words start 0 0
-  begins words size = record { within = omega arith; few = omega arith; size = size; same-end = refl; same-words = refl }
+  pub begins : (words : List ℕ) → length words ≡ n → Shifting words start 0 0
+  begins words size =
+      let all : n - 0 ≡ n = omega arith in
+      record {
+        within = omega arith;
+        few = omega arith;
+        size = size;
+        same-end = rw all refl;
+        same-words = rw all refl;
+      }
 
   module _ {words : List ℕ} {m : Reading} {count i : ℕ} (so-far : Shifting words m count i) where
-    pub ends : 16 ≤ i → (m ≡ whole .reading) × ((count ≤ 16) × (take count words ≡ whole .words))
+    pub ends : n ≤ i → (m ≡ whole .reading) × ((count ≤ n) × (take count words ≡ whole .words))
     unfolding foursFrom
     ends h =
         let few = so-far .few in
         let within = so-far .within in
-        let done : 16 - i ≡ 0 = omega arith in (
+        let done : n - i ≡ 0 = omega arith in (
           rw done at (so-far .same-end),
           (omega arith, sym (append-nil (take count words)) ∙ rw done at (so-far .same-words)),
         )
 
-    module _ (inside : i < 16) where
+    module _ (inside : i < n) where
       abbrev next : Reading
       next = shiftedAll m (take 4 (drop (4 * i) us))
 
@@ -73,13 +81,13 @@ module _ (start : Reading) (us : List ℕ) where
           }
       unfolding foursFrom
       left =
-          let one : 16 - i ≡ suc (16 - (i + 1)) = omega arith in
+          let one : n - i ≡ suc (n - (i + 1)) = omega arith in
           let place : 4 * i + 4 ≡ 4 * (i + 1) = omega arith in
           rw (one, drop-drop 4 (4 * i) us, place)
 
       pub goes-on
           : (now : Reading) (x : ℕ) (t : Bool)
-          → AllCells us × (length us ≡ 4 * 16)
+          → AllCells us × (length us ≡ 4 * n)
           → now ≡ joined m (shiftedAll emptyReading (take 4 (drop (4 * i) us)))
           → (17 ≤ now .held → x ≡ wordOf now)
           → t ≡ isWhole now

@@ -1,0 +1,12 @@
+-- Two tests at once: by cases of the first. Rests on no axiom.
+use mathlib.Core.Path.{_≡_, refl, sym, _∙_}
+use mathlib.Core.Bool.{Bool, true, false, _&&_, true≢false}
+
+pub both : (a b : Bool) → (a && b) ≡ true → (a ≡ true) × (b ≡ true)
+both true b e = (refl, e)
+both false b e = absurd (true≢false (sym e))
+
+-- where they do not pass, the second alone
+pub second-fails : (a b : Bool) → (a && b) ≡ false → a ≡ true → b ≡ false
+second-fails true b e h = e
+second-fails false b e h = absurd (true≢false (sym h))
