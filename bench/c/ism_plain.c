@@ -514,18 +514,6 @@ ism_answer NAME(read_items)(const ism_profile *p, const uint16_t *intervals, siz
     return answer;
 }
 
-/*
- * The field reader's last step alone, for items that are ready: the items, whether the register ends as zero, and the
- * least clearance of the used intervals.
- */
-ism_answer NAME(register)(ism_profile profile, const uint16_t *intervals, uint64_t used, const uint16_t *items,
-                          size_t n, uint16_t *out, size_t room) {
-    if (room < n) return refused(ISM_FULL, 0);
-    memcpy(out, items, n * sizeof *items);
-    ism_answer answer = {ISM_ACCEPTED, 0, n, used, register_after(ALL_ONES, items, 0, n) == 0, 0};
-    return cleared(answer, least_clearance(&profile, intervals, (size_t)used));
-}
-
 /* --------------------------------------------------------------------------------------------------------- finder */
 
 #define MARK_CELLS 5u    /* of an A1 mark */

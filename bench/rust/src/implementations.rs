@@ -56,31 +56,10 @@ pub struct Implementation {
     pub add_reports: fn(Report, Report) -> Report,
     /// A FIFO operation by its number, in the order of `ism.h`.
     pub fifo: fn(u8, Fifo, u16) -> FifoAnswer,
-    /// The field reader's last step: the register over the items, the items to the output, and the least clearance of
-    /// the used intervals. The library has no entry for that alone, so there it is the whole reading of the field.
-    pub register: fn(&Field, &mut [u16]) -> Answer,
-    /// What of that is not the last step: for the library, the field refused because the output is one too short.
-    pub before_register: fn(&Field, &mut [u16]) -> Answer,
 }
 
 /// FIFO operations behind the making of one, which has the number 0.
 pub const FIFO_OPERATIONS: u8 = 7;
-
-/// A field as intervals and as the items that they read as.
-pub struct Field {
-    pub profile: Profile,
-    pub intervals: Vec<u16>,
-    pub used: u64,
-    pub items: Vec<u16>,
-}
-
-impl Field {
-    fn used(&self) -> &[u16] {
-        &self.intervals[..self.used as usize]
-    }
-}
-
-const NOTHING: Answer = Answer { number: 0, place: 0, count: 0, used: 0, holds: 0, clearance: 0 };
 
 fn made(next: Fifo) -> FifoAnswer {
     FifoAnswer { number: 0, place: 0, item: 0, next }
@@ -91,7 +70,7 @@ fn made(next: Fifo) -> FifoAnswer {
 macro_rules! c_interface {
     ($module:ident, $prefix:literal) => {
         mod $module {
-            use super::{made, Answer, Field, Fifo, FifoAnswer, Implementation, Index, Kind, Profile, Report};
+            use super::{made, Answer, Fifo, FifoAnswer, Implementation, Index, Kind, Profile, Report};
 
             extern "C" {
                 #[link_name = concat!($prefix, "margin")]
@@ -146,12 +125,7 @@ macro_rules! c_interface {
                 fn fifo_read_error(fifo: Fifo) -> FifoAnswer;
             }
 
-            pub fn implementation(
-                kind: Kind,
-                name: &'static str,
-                register: fn(&Field, &mut [u16]) -> Answer,
-                before_register: fn(&Field, &mut [u16]) -> Answer,
-            ) -> Implementation {
+            pub fn implementation(kind: Kind, name: &'static str) -> Implementation {
                 Implementation {
                     kind,
                     name,
@@ -189,8 +163,6 @@ macro_rules! c_interface {
                             _ => fifo_read_error(fifo),
                         }
                     },
-                    register,
-                    before_register,
                 }
             }
         }
@@ -203,46 +175,6 @@ c_interface!(gcc_o2, "plain_gcc_o2_");
 c_interface!(gcc_o3, "plain_gcc_o3_");
 c_interface!(clang_o2, "plain_clang_o2_");
 c_interface!(clang_o3, "plain_clang_o3_");
-
-/// The register of a plain C, which is not of `ism.h`.
-macro_rules! c_register {
-    ($name:ident, $symbol:ident) => {
-        fn $name(field: &Field, out: &mut [u16]) -> Answer {
-            extern "C" {
-                fn $symbol(
-                    p: Profile,
-                    used: *const u16,
-                    n: u64,
-                    items: *const u16,
-                    count: usize,
-                    out: *mut u16,
-                    room: usize,
-                ) -> Answer;
-            }
-            let (used, items) = (field.used(), &field.items);
-            let n = used.len() as u64;
-            // SAFETY: each pointer comes with the length of its slice
-            unsafe {
-                $symbol(field.profile, used.as_ptr(), n, items.as_ptr(), items.len(), out.as_mut_ptr(), out.len())
-            }
-        }
-    };
-}
-
-c_register!(gcc_o2_register, plain_gcc_o2_register);
-c_register!(gcc_o3_register, plain_gcc_o3_register);
-c_register!(clang_o2_register, plain_clang_o2_register);
-c_register!(clang_o3_register, plain_clang_o3_register);
-
-fn read_by_library(field: &Field, out: &mut [u16]) -> Answer {
-    let (list, n) = (&field.intervals, field.items.len() as u64);
-    // SAFETY: each pointer comes with the length of its slice
-    unsafe { ism::sys::ism_read_field(field.profile, list.as_ptr(), list.len(), n, out.as_mut_ptr(), out.len()) }
-}
-
-fn nothing(_: &Field, _: &mut [u16]) -> Answer {
-    NOTHING
-}
 
 fn rust_fifo(operation: u8, fifo: Fifo, item: u16) -> FifoAnswer {
     match operation {
@@ -274,8 +206,6 @@ const RUST: Implementation = Implementation {
     drive_report: plain_rust_drive_report,
     add_reports: |a, b| plain_rust_add_reports(&a, &b),
     fifo: rust_fifo,
-    register: |field, out| plain_rust_register(field.profile, field.used(), &field.items, out),
-    before_register: nothing,
 };
 
 /// A careful C. What it does not have is the plain Rust's, and no task measures that.
@@ -339,13 +269,12 @@ const CAREFUL_RUST: Implementation = Implementation {
 
 /// The library first.
 pub fn all() -> [Implementation; 11] {
-    let full = |field: &Field, out: &mut [u16]| read_by_library(field, &mut out[1..]);
     [
-        library::implementation(Kind::Library, "library", read_by_library, full),
-        gcc_o2::implementation(Kind::PlainC, "gcc-O2", gcc_o2_register, nothing),
-        gcc_o3::implementation(Kind::PlainC, "gcc-O3", gcc_o3_register, nothing),
-        clang_o2::implementation(Kind::PlainC, "clang-O2", clang_o2_register, nothing),
-        clang_o3::implementation(Kind::PlainC, "clang-O3", clang_o3_register, nothing),
+        library::implementation(Kind::Library, "library"),
+        gcc_o2::implementation(Kind::PlainC, "gcc-O2"),
+        gcc_o3::implementation(Kind::PlainC, "gcc-O3"),
+        clang_o2::implementation(Kind::PlainC, "clang-O2"),
+        clang_o3::implementation(Kind::PlainC, "clang-O3"),
         careful_gcc_o2::IMPLEMENTATION,
         careful_gcc_o3::IMPLEMENTATION,
         careful_clang_o2::IMPLEMENTATION,

@@ -4,7 +4,6 @@
 //!     bench list                  tasks, one a line: name, input, units, unit
 //!     bench names TASK            implementations that have it, the library first: kind, name
 //!     bench repeat TASK WHO TIMES run a task so many times and print nothing
-//!     bench before TASK WHO TIMES the same for what of a run does not belong to the task
 //!     bench times                 nanoseconds for each task and implementation
 //!     bench stacks                bytes of stack for each task and implementation
 
@@ -20,8 +19,7 @@ use std::time::Instant;
 use implementations::Implementation;
 use tasks::Task;
 
-const USAGE: &str =
-    "usage: bench agree [CALLS] | list | names TASK | repeat TASK WHO TIMES | before TASK WHO TIMES | times | stacks";
+const USAGE: &str = "usage: bench agree [CALLS] | list | names TASK | repeat TASK WHO TIMES | times | stacks";
 
 /// Random calls where no number is given.
 const CALLS: u64 = 20_000;
@@ -35,9 +33,7 @@ fn main() {
         ["agree", calls] => agree(&implementations, calls.parse().expect("a number of calls")),
         ["list"] => list(),
         ["names", task] => names(task, &implementations),
-        [what @ ("repeat" | "before"), task, who, times] => {
-            repeat(what, task, who, times.parse().expect("a number of times"), &implementations)
-        }
+        ["repeat", task, who, times] => repeat(task, who, times.parse().expect("a number of times"), &implementations),
         ["times"] => each("time", &implementations, time),
         ["stacks"] => {
             each("stack", &implementations, |task, who| beyond_calling(|| task.run(who)));
@@ -82,11 +78,9 @@ fn beyond_calling(call: impl FnMut() -> ism::sys::Answer) -> f64 {
 fn each(what: &str, implementations: &[Implementation], measure: impl Fn(&mut Task, &Implementation) -> f64) {
     for plan in tasks::all() {
         let mut task = (plan.make)();
-        if task.is_whole() {
-            let measured = implementations.iter().filter(|who| plan.measures(who));
-            let numbers = measured.map(|who| format!("{}\t{:.2}", who.kind.word(), measure(&mut task, who)));
-            println!("{what}\t{}\t{}", plan.name, numbers.collect::<Vec<_>>().join("\t"));
-        }
+        let measured = implementations.iter().filter(|who| plan.measures(who));
+        let numbers = measured.map(|who| format!("{}\t{:.2}", who.kind.word(), measure(&mut task, who)));
+        println!("{what}\t{}\t{}", plan.name, numbers.collect::<Vec<_>>().join("\t"));
     }
 }
 
@@ -100,15 +94,12 @@ fn time(task: &mut Task, who: &Implementation) -> f64 {
     (0..300).map(|_| run()).fold(f64::INFINITY, f64::min)
 }
 
-fn repeat(what: &str, name: &str, who: &str, times: usize, implementations: &[Implementation]) {
+fn repeat(name: &str, who: &str, times: usize, implementations: &[Implementation]) {
     let who = implementations.iter().find(|one| one.name == who);
     let Some(who) = who else { fail("no such implementation", 2) };
     let mut task = (plan_of(name).make)();
     for _ in 0..times {
-        match what {
-            "before" => drop(black_box(task.run_before(who))),
-            _ => drop(black_box(task.run(who))),
-        }
+        black_box(task.run(who));
     }
 }
 

@@ -1,12 +1,10 @@
 //! What is measured: each task is one call, or a short row of calls, on a fixed input.
 
-use std::rc::Rc;
-
-use bench::plain::{plain_rust_make_image, plain_rust_make_sector, plain_rust_read_field, plain_rust_write};
+use bench::plain::{plain_rust_make_image, plain_rust_make_sector, plain_rust_write};
 use ism::sys::{Answer, Index, Profile, Report};
 use ism::{CHECK, MARK_A1, MARK_C2, MAX_BYTES, MAX_INTERVALS, MAX_SECTORS, SECTOR_OVERHEAD};
 
-use crate::implementations::{Field, Implementation};
+use crate::implementations::Implementation;
 
 /// The worked profile of the paper.
 pub const PROFILE: Profile =
@@ -26,14 +24,12 @@ pub struct Task {
     /// the number that every implementation answers
     pub number: u32,
     run: Run,
-    /// what of the run does not belong to the task
-    before: Option<Run>,
     out: Vec<u16>,
 }
 
 impl Task {
     fn new(units: usize, unit: &'static str, room: usize, run: Run) -> Task {
-        Task { units, unit, number: 0, run, before: None, out: vec![0; room] }
+        Task { units, unit, number: 0, run, out: vec![0; room] }
     }
 
     fn refused(self, number: u32) -> Task {
@@ -42,16 +38,6 @@ impl Task {
 
     pub fn run(&mut self, who: &Implementation) -> Answer {
         (self.run)(who, &mut self.out)
-    }
-
-    /// Whether the task is a whole call, and not the difference of two.
-    pub fn is_whole(&self) -> bool {
-        self.before.is_none()
-    }
-
-    /// Runs what does not belong to the task.
-    pub fn run_before(&mut self, who: &Implementation) -> Option<Answer> {
-        self.before.as_mut().map(|before| before(who, &mut self.out))
     }
 
     /// What the last run has left in the output, which is cleared.
@@ -123,7 +109,6 @@ fn with_careful() -> Vec<Plan> {
 fn others() -> Vec<Plan> {
     Vec::from(plans! {
         false,
-        "register-1030", "1030 bytes", register(1_030);
         "make_sector-512", "512 data bytes", make_sector(512);
         "make_sector-1024", "1024 data bytes", make_sector(1_024);
         "sector-512", "512 data bytes, made and written", sector(512);
@@ -235,18 +220,6 @@ fn read_field(size: usize) -> Task {
     let units = intervals.len();
     let run: Run = Box::new(move |who, out| (who.read_field)(PROFILE, &intervals, size as u64, out));
     Task::new(units, "interval", size, run)
-}
-
-/// The check register over the items of a field, the items to the output, and the least clearance of its intervals.
-fn register(size: usize) -> Task {
-    let (intervals, mut items) = (field(size), vec![0; size]);
-    let used = plain_rust_read_field(PROFILE, &intervals, size as u64, &mut items).used;
-    let field = Rc::new(Field { profile: PROFILE, intervals, used, items });
-    let same = Rc::clone(&field);
-    let run: Run = Box::new(move |who, out| (who.register)(&field, out));
-    let mut task = Task::new(size, "byte", size, run);
-    task.before = Some(Box::new(move |who, out| (who.before_register)(&same, out)));
-    task
 }
 
 fn length_code(size: usize) -> u8 {

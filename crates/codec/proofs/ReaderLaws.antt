@@ -74,8 +74,7 @@ module _ (p : Profile) (ds old : List ℕ) (accepts : profileRule p .number ≡ 
       ≡ readRule p ds (length old)
   unfolding readRule
   from-edges =
-      sym
-      (first-refusal-passes (profileRule p) _ accepts
+      sym (first-refusal-passes (profileRule p) _ accepts
       ∙ refuse-if-passes (ltb 51202 (length ds)) 4 0 _ (le-ltb 51202 (length ds) few))
 
   pub edge-refuses
@@ -162,8 +161,7 @@ module _ (p : Profile) (ds old : List ℕ) (accepts : profileRule p .number ≡ 
         turned-into-items h stored e =
             let long : length (pass .words) ≡ n =
             sym (length-map (pass .words) candidate) ∙ ap length gathers-items ∙ sym number-of-items in
-            rw e
-            (mapped-at-front candidate (pass .words) old n long h
+            rw e (mapped-at-front candidate (pass .words) old n long h
             ∙ ap (storedAt old 0) gathers-items
             ∙ stored-at-front-fills items old (subst (λ (k : ℕ). k ≤ length old) number-of-items h))
 
@@ -182,7 +180,6 @@ module _ (p : Profile) (ds old : List ℕ) (accepts : profileRule p .number ≡ 
             ∙ from-room in (
               answer,
               turned-into-items h stored e
-                  ∙ sym
-                  (acceptance-fills-the-buffer (readRule p ds (length old)) items old
+                  ∙ sym (acceptance-fills-the-buffer (readRule p ds (length old)) items old
                   (ap (λ (a : Answer). a .number) (sym answer))),
             )

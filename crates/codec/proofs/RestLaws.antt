@@ -106,8 +106,7 @@ module _ (table out : List ℕ) where
   zeros-pass (suc n) k since window cells ones h =
       let further : ones < 2 ^ (n + k) = lt-of-lt-of-le h (pow-mono (omega arith)) in
       let later : n + suc since ≡ suc n + since = omega arith in
-      rw (suc-add n k)
-      (ap (drawn table (drawing (penAt since window cells) out)) (top-of-zero (n + k) ones further)
+      rw (suc-add n k) (ap (drawn table (drawing (penAt since window cells) out)) (top-of-zero (n + k) ones further)
       ∙ zeros-pass n k (suc since) window cells ones h
       ∙ ap (λ (s : ℕ). drawn table (drawing (penAt s window cells) out) (topBits k ones)) later)
 
@@ -120,8 +119,7 @@ module _ (table out : List ℕ) where
       let n = start .since - 1 in
       let place : start .since + width - 1 ≡ n + width = omega (arith, can .0) in
       let since : n + 1 ≡ start .since = omega (arith, can .0) in
-      rw place
-      (zeros-pass n width 1 (start .window) (start .cells) word (can .4)
+      rw place (zeros-pass n width 1 (start .window) (start .cells) word (can .4)
       ∙ ap (λ (s : ℕ). drawn table (drawing (penAt s (start .window) (start .cells)) out) (topBits width word)) since)
 
   a-one-more

@@ -93,8 +93,7 @@ module _ (p : Profile) (ws old : List ℕ) (bytes : everywhere isByte ws ≡ tru
 
   cells-are-counted : closed .pen .cells ≡ length (byteStream p ws) + 1
   cells-are-counted =
-      rw closed-is-drawn
-      (cells-by-cells (lengthTable p) half-cells (drawing (freshTrack .pen) old)
+      rw closed-is-drawn (cells-by-cells (lengthTable p) half-cells (drawing (freshTrack .pen) old)
       ∙ ap (λ (cs : List ℕ). 0 + length cs) cells-and-two
       ∙ ap (λ (n : ℕ). 0 + n) (length-append (writtenCells ws) (2 ∷ []))
       ∙ ap (λ (n : ℕ). 0 + (n + 1)) (sym (stream-is-as-long-as-its-cells p ws))

@@ -57,8 +57,7 @@ writer : (p : Profile) (items : List ℕ) (room : ℕ) → Answers (writerOrder 
 unfolding writeRule listRule streamRule streamOf orderNumbers everywhere
 writer p items room =
     let stream = byteStream p (written items) in
-    answers refl
-    (profile-in-turn p _ _
+    answers refl (profile-in-turn p _ _
     (turn-before 3 _ _ _ (means-either 6400 _ 6400 _)
     (turn-before 2 _ _ _ (means-at _ _)
     (turn-by-test 9 accept (accepted (length stream)) (means-below room (length stream))
@@ -72,8 +71,7 @@ maker
 unfolding sectorRule orderNumbers everywhere
 maker track side sector code bytes room =
     let n = length (sectorItems track side sector code bytes) in
-    answers refl
-    (turn-by-test 13 _ _ (means-itself (isMisfit code bytes))
+    answers refl (turn-by-test 13 _ _ (means-itself (isMisfit code bytes))
     (turn-by-test 9 accept (accepted n) (means-below room n) (accepted-in-turn n)))
 
 -- ---- strip reader
@@ -83,8 +81,7 @@ unfolding readRule stripRule orderNumbers everywhere
 strip-reader p ds room =
     let bits = readBits (cellsRead p ds) in
     let n = length (itemsOfStream p ds) in
-    answers refl
-    (profile-in-turn p _ _
+    answers refl (profile-in-turn p _ _
     (turn-by-test 4 _ _ (means-below 51202 (length ds))
     (edges-in-turn (classesOf p ds) _ _
     (turn-before 6 _ _ _ (means-itself (isRagged bits))
@@ -109,8 +106,7 @@ field-reader : (p : Profile) (ds : List ℕ) (n room : ℕ) → Answers (fieldOr
 unfolding fieldRule checkedRule gatherRule deliverRule orderNumbers everywhere
 field-reader p ds n room =
     let cs = classesOf p ds in
-    answers refl
-    (profile-in-turn p _ _
+    answers refl (profile-in-turn p _ _
     (turn-by-test 12 _ _ (means-either n 1 1030 n)
     (rw (← first-refusal-of-first (fieldStop cs n) _ _)
     (stop-in-turn cs _ _
@@ -134,11 +130,9 @@ lock-in-turn
     → InTurn (turn 10 (at0 ((k : ℕ) → lockAt cs k ≡ true → ⊥)) accept) (countedFrom start (lockFrom cs 0))
 unfolding InTurn lockFrom
 lock-in-turn cs start =
-    ⊎-elim (λ found. inr (λ k none. none .0 _ (lock-from-found cs 0 found .stands), cc))
-    (λ adrift.
+    ⊎-elim (λ found. inr (λ k none. none .0 _ (lock-from-found cs 0 found .stands), cc)) (λ adrift.
     let same = ap (countedFrom start) adrift in
-    inl
-    ((λ k stands. true≢false (cc (adrift-has-no-lock cs 0 (cc adrift) k (omega arith))), cc same), cc same))
+    inl ((λ k stands. true≢false (cc (adrift-has-no-lock cs 0 (cc adrift) k (omega arith))), cc same), cc same))
     (lock-or-adrift cs (length cs - 0) 0)
 
 finder : (p : Profile) (ds : List ℕ) (start : ℕ) → Answers (finderOrder p ds start) (findRule p ds start)

@@ -85,10 +85,8 @@ module _ (p : Profile) (accepts : AcceptedProfile p) where
   misread b ds output other false e = turned-away (eqb-false _ 0 e)
   misread b ds output other true e =
       let (ws, a, cells, reads) = read-only-lists p ds output (eqb-true _ 0 e) in
-      another ws reads
-      (λ same.
-      other
-      (class-numbers-injective (classesOf p ds) (classesOf p (byteStream p (b ∷ [])))
+      another ws reads (λ same.
+      other (class-numbers-injective (classesOf p ds) (classesOf p (byteStream p (b ∷ [])))
       (cc (near-has-cells (b ∷ []) (byteStream p (b ∷ [])) (near-itself (marginOf p) (byteStream p (b ∷ [])))))))
 
   -- the stream with one interval moved still holds 16-bit numbers
@@ -122,8 +120,7 @@ demand-3 p accepts =
     record {
       check-orders-turned = λ items h. (written-is-listed items h, stream-of-written p items h);
       never-equal = λ us ws a b differ ds es moved-us moved-ws same.
-          differ
-          (one-list p es us ws a b (rw same at (moved-has-cells p accepts us ds a moved-us))
+          differ (one-list p es us ws a b (rw same at (moved-has-cells p accepts us ds a moved-us))
           (moved-has-cells p accepts ws es b moved-ws));
       reads-back = λ ws a changed moved output enough.
           every-list-is-read p changed output ws accepts a (moved-has-cells p accepts ws changed a moved) enough;

@@ -42,16 +42,14 @@ room-in-turn result count room e =
 pub image-maker : (items : List ℕ) (room : ℕ) → Answers (imageMakerOrder items room) (makeRule items room)
 unfolding makeRule listRule orderNumbers everywhere
 image-maker items room =
-    answers refl
-    (turn-before 3 _ _ _ (means-either 6400 _ 6400 _)
+    answers refl (turn-before 3 _ _ _ (means-either 6400 _ 6400 _)
     (turn-before 2 _ _ _ (means-at _ _)
     (room-in-turn (imageOf (written items)) (length (written items)) room (image-count items))))
 
 pub image-reader : (words : List ℕ) (room : ℕ) → Answers (imageReaderOrder words room) (readImageRule words room)
 unfolding readImageRule wordsRule orderNumbers everywhere
 image-reader words room =
-    answers refl
-    (turn-before 3 _ _ _ (means-below 6400 (length words))
+    answers refl (turn-before 3 _ _ _ (means-below 6400 (length words))
     (turn-before 15 _ _ _ (means-at _ _) (room-in-turn (bytesIn words) (length words) room (item-count words))))
 
 -- ---- the lent outputs

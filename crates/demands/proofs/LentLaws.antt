@@ -30,8 +30,7 @@ pub writer-output
 unfolding writeOutput writeRule streamRule streamOf
 writer-output p items old =
     let n = length (byteStream p (written items)) in
-    settled-is-lent _ (streamOf p items) old
-    (λ e.
+    settled-is-lent _ (streamOf p items) old (λ e.
     let after-2 = first-refusal-accepts (profileRule p) _ e in
     let after-3 = first-refusal-accepts (listRule items) _ (after-2 .1) in
     let after-9 = refuse-if-accepts (ltb (length old) n) 8 0 (accepted n) (after-3 .1) in
@@ -45,8 +44,7 @@ pub strip-output
     : (p : Profile) (ds old : List ℕ) → Lent (readRule p ds (length old)) (itemsOfStream p ds) old (readOutput p ds old)
 unfolding readOutput
 strip-output p ds old =
-    settled-is-lent _ (itemsOfStream p ds) old
-    (λ e.
+    settled-is-lent _ (itemsOfStream p ds) old (λ e.
     let passed = passed-of-accepted p ds (length old) e in
     (passed .enough, cc (accepted-of-passed p ds (length old) passed)))
 
@@ -57,8 +55,7 @@ unfolding fieldOutput fieldRule checkedRule gatherRule deliverRule
 field-output p ds n old =
     let cs = classesOf p ds in
     let room = length old in
-    settled-is-lent (fieldRule p ds n room) (fieldItems cs n) old
-    (λ e.
+    settled-is-lent (fieldRule p ds n room) (fieldItems cs n) old (λ e.
     let after-2 = first-refusal-accepts (profileRule p) _ e in
     let after-12 = refuse-if-accepts (outside 1 1030 n) 11 0 _ (after-2 .1) in
     let after-8 = first-refusal-accepts (gatherRule cs n) _ (after-12 .1) in
@@ -75,8 +72,7 @@ unfolding sectorOutput sectorRule
 maker-output track side sector code bytes old =
     let items = sectorItems track side sector code bytes in
     let n = length items in
-    settled-is-lent _ items old
-    (λ e.
+    settled-is-lent _ items old (λ e.
     let after-13 = refuse-if-accepts (isMisfit code bytes) 12 0 _ e in
     let after-9 = refuse-if-accepts (ltb (length old) n) 8 0 (accepted n) (after-13 .1) in
     let count =

@@ -47,8 +47,7 @@ merge-output first second old =
     let b = sectorsIn second in
     let room = length old in
     let n = length (setBytes (merged a b)) in
-    settled-is-lent _ (setBytes (merged a b)) old
-    (λ e.
+    settled-is-lent _ (setBytes (merged a b)) old (λ e.
     let after-13 = refuse-if-accepts (isMisfitSet first || isMisfitSet second) 12 0 _ e in
     let after-15 = refuse-if-accepts (isCrowded a b) 14 0 _ (after-13 .1) in
     let after-17 = refuse-if-accepts (anywhere (atOddsAt a b) numbers) 16 _ _ (after-15 .1) in

@@ -29,9 +29,6 @@ module _ (cs : List Class) (order : Order) (later : Answer) (rest : InTurn order
   first-at : {d : Class} → IsFirst d cs → FirstUnread d cs (lowest isUnread cs)
   first-at f = (f .0, refl, f .1)
 
-  first-is-one : {d e : Class} {k : ℕ} → IsFirst d cs → FirstUnread e cs k → d ≡ e
-  first-is-one f g = cc (f .1, g .1, g .2)
-
   not-narrow : {k : ℕ} → IsFirst Wide cs → FirstUnread Narrow cs k → ⊥
   not-narrow f g = let z : _≡_ {A = ℕ} 5 1 = cc in omega arith
 

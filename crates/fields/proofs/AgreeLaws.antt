@@ -21,10 +21,7 @@ use Rattle.fields.proofs.TakenLaws.{SameFront, used-decide}
 -- ---- what hangs on the cells and the stop
 
 module _
-    (n : ℕ)
-    (cs ds : List Class)
-    (cells : fieldCells ds n ≡ fieldCells cs n)
-    (stop : fieldStop ds n ≡ fieldStop cs n)
+    (n : ℕ) (cs ds : List Class) (cells : fieldCells ds n ≡ fieldCells cs n) (stop : fieldStop ds n ≡ fieldStop cs n)
   where
     same-used : fieldUsed ds n ≡ fieldUsed cs n
     unfolding fieldUsed
@@ -70,14 +67,8 @@ module _ (p : Profile) (ds es : List ℕ) (n room : ℕ) where
     same-front : SameFront (classesOf p ds) (classesOf p es) 0 (bitsWanted n) O
     unfolding fieldUsed fieldCells fieldStop
     same-front =
-        rw classes-split
-        (used-decide
-        (drop used (classesOf p es))
-        (classesOf p ds)
-        0
-        (bitsWanted n)
-        O
-        (accepted-stops-nowhere accepts))
+        rw classes-split (used-decide
+        (drop used (classesOf p es)) (classesOf p ds) 0 (bitsWanted n) O (accepted-stops-nowhere accepts))
 
     cells-agree : fieldCells (classesOf p es) n ≡ fieldCells (classesOf p ds) n
     unfolding fieldCells

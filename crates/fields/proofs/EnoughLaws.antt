@@ -50,17 +50,11 @@ used-give-enough [] k zero b e = no-cell b []
 used-give-enough [] k (suc want) b e = absurd (omega arith)
 used-give-enough (c ∷ cs) k zero b e = no-cell b (c ∷ cs)
 used-give-enough (c ∷ cs) k (suc want) b e =
-    by-each-class
-    (λ (d : Class). GiveEnough (d ∷ cs) k (suc want) b)
-    (λ f. absurd (omega arith))
-    (λ d x read f.
-    rw (taken-one-more read cs want b)
-    (one-cell-more b x want _
+    by-each-class (λ (d : Class). GiveEnough (d ∷ cs) k (suc want) b) (λ f. absurd (omega arith)) (λ d x read f.
+    rw (taken-one-more read cs want b) (one-cell-more b x want _
     (used-give-enough cs (suc k) (wantedAfter (suc want) b x) (lastAfter b x)
     (sym (ap (λ (a : Answer). a .number) (stop-one-more read cs want b k)) ∙ f))))
-    (λ f. absurd (omega arith))
-    c
-    e
+    (λ f. absurd (omega arith)) c e
 
 -- ---- fewer intervals give fewer bits
 
@@ -84,14 +78,10 @@ unfolding cellsTaken
 fewer-give-less [] want b = λ j h. absurd (omega arith)
 fewer-give-less (c ∷ cs) zero b = λ j h. absurd (omega arith)
 fewer-give-less (c ∷ cs) (suc want) b =
-    by-each-class
-    (λ (d : Class). FewerGiveLess (d ∷ cs) (suc want) b)
-    (λ j h. absurd (omega arith))
-    (λ d x read.
+    by-each-class (λ (d : Class). FewerGiveLess (d ∷ cs) (suc want) b) (λ j h. absurd (omega arith)) (λ d x read.
     rw (taken-one-more read cs want b)
     (fewer-of-one-more b x want _ (fewer-give-less cs (wantedAfter (suc want) b x) (lastAfter b x))))
-    (λ j h. absurd (omega arith))
-    c
+    (λ j h. absurd (omega arith)) c
 
 -- ---- cells that give as many bits as are wanted: those that are used, and the rest
 

@@ -28,8 +28,7 @@ whole-rows n bs low high =
     let whole : length (take (8 * n) bs) % 8 ≡ 0 =
     ap (λ (k : ℕ). k % 8) (length-take-le (8 * n) bs low) ∙ mul-mod-right 8 n in
     let few : length (drop (8 * n) bs) < 8 = rw (length-drop (8 * n) bs) (omega arith) in
-    sym
-    (ap rowsOf (sym (take-append-drop (8 * n) bs))
+    sym (ap rowsOf (sym (take-append-drop (8 * n) bs))
     ∙ rows-append (take (8 * n) bs) (drop (8 * n) bs) whole
     ∙ ap (λ (r : List (List Bit)). rowsOf (take (8 * n) bs) ++ r) (rows-of-few (drop (8 * n) bs) few)
     ∙ append-nil (rowsOf (take (8 * n) bs)))

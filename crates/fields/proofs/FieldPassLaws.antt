@@ -93,8 +93,7 @@ module _ (cs : List Class) (n : ℕ) where
     unfolding cellsTaken
     none-left h going =
         all-read (going .reads) (going .front .cells ∙ append-nil done)
-        (λ q. front-ends cs n done (wanted (going .reads) h) (going .front))
-        (λ q. absurd (omega arith))
+        (λ q. front-ends cs n done (wanted (going .reads) h) (going .front)) (λ q. absurd (omega arith))
 
     -- n bytes are whole, or the pass goes on
     full-or
@@ -141,8 +140,7 @@ over-field
 over-field cs n some few [] {done} {m} going =
     full-or cs n [] some going (λ h. rw (pass-ends n (length done) m) (none-left cs n h going))
 over-field cs n some few (x ∷ left) {done} {m} going =
-    full-or cs n (x ∷ left) some going
-    (λ h.
+    full-or cs n (x ∷ left) some going (λ h.
     let places : length (done ++ (x ∷ [])) ≡ suc (length done) = omega (arith, length-append done (x ∷ [])) in
     rw (pass-reads n (length done) m x (map units left) h)
     (one-more cs n x _ (rw places at (over-field cs n some few left (goes-on cs n x left few h going)))))

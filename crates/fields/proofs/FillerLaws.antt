@@ -73,8 +73,7 @@ module _ (front : List Class) (m : ℕ) (rest : List Class) where
   lock-after-run =
       longer-run-is-passed all (length front + 64) mark (omega arith) longer
       (λ j low high. two-at j (omega arith) high)
-      ∙ sym
-      (search-ends-in-lock all mark
+      ∙ sym (search-ends-in-lock all mark
       (lock-stands all mark (omega arith) (λ j low high. two-at j (omega arith) high)
       (ap markAhead from-mark ∙ mark-is-ahead rest)))
 
@@ -147,9 +146,3 @@ lock-after-filler filler m rest e =
     ∙ ap (lockAfter all) (omega arith)
     ∙ lock-after-run filler m rest
     ∙ ap accepted (omega arith)
-
--- a run and a mark with nothing before them
-pub lock-after-sync
-    : (m : ℕ) (rest : List Class) → lockFrom (replicate (m + 64) Two ++ markA1 rest) 0 ≡ accepted (m + 64)
-unfolding passes
-lock-after-sync m rest = lock-after-filler [] m rest refl ∙ ap accepted (omega arith)

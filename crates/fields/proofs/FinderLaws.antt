@@ -59,9 +59,7 @@ module _ (cs : List Class) (k : ℕ) where
 
   pub lock-is-within : lockAt cs k ≡ true → k < length cs
   lock-is-within e =
-      ⊎-elim
-      (λ past. absurd (true≢false (sym e ∙ no-lock-past-end (omega arith))))
-      (λ inside. omega arith)
+      ⊎-elim (λ past. absurd (true≢false (sym e ∙ no-lock-past-end (omega arith)))) (λ inside. omega arith)
       (eq-zero-or-pos (length cs - k))
 
 module _ (cs : List Class) where

@@ -30,13 +30,11 @@ module _ (cs : List Class) where
   unfolding firstLock
   first-is zero k t h first = absurd (let low = first .from in omega arith)
   first-is (suc places) k t h first =
-      ⊎-elim
-      (λ here.
+      ⊎-elim (λ here.
       let lock : lockAt cs k ≡ true = ap (lockAt cs) here ∙ first .stands in
       rw lock (ap accepted here))
       (λ on.
-      rw (first .before k (omega arith) on)
-      (first-is places (suc k) t (omega arith)
+      rw (first .before k (omega arith) on) (first-is places (suc k) t (omega arith)
       (record {
         from = on;
         stands = first .stands;
@@ -68,9 +66,7 @@ module _ (cs : List Class) where
         stands = first .stands;
         before =
             λ j low high.
-            ⊎-elim
-            (λ same. ap (lockAt cs) (sym same) ∙ here)
-            (λ on. first .before j on high)
+            ⊎-elim (λ same. ap (lockAt cs) (sym same) ∙ here) (λ on. first .before j on high)
             (eq-or-lt-of-le low);
       }
 
@@ -107,23 +103,14 @@ module _ (cs : List Class) where
   unfolding firstLock
   none-found zero k e j high low = absurd (omega arith)
   none-found (suc places) k e j high low =
-      none-here-or-later
-      (lockAt cs k)
-      k
-      (firstLock cs (suc k) places)
-      j
-      refl
-      (λ f on. none-found places (suc k) f j (omega arith) on)
-      e
-      low
+      none-here-or-later (lockAt cs k) k (firstLock cs (suc k) places) j refl
+      (λ f on. none-found places (suc k) f j (omega arith) on) e low
 
   pub adrift-has-no-lock : (k : ℕ) → lockFrom cs k .number ≡ 10 → (j : ℕ) → k ≤ j → lockAt cs j ≡ false
   unfolding lockFrom
   adrift-has-no-lock k e j low =
-      ⊎-elim
-      (λ past. no-lock-past-end cs j (omega arith))
-      (λ inside. none-found (length cs - k) k e j (omega arith) low)
-      (eq-zero-or-pos (length cs - j))
+      ⊎-elim (λ past. no-lock-past-end cs j (omega arith))
+      (λ inside. none-found (length cs - k) k e j (omega arith) low) (eq-zero-or-pos (length cs - j))
 
 -- ---- the finder's answer
 

@@ -87,8 +87,7 @@ no-pattern-without-gap
 no-pattern-without-gap qs gap b xs none false e = refl
 no-pattern-without-gap qs gap b xs none true e =
     let (ys, same) = cells-of-pattern qs xs e in
-    absurd
-    (true≢false
+    absurd (true≢false
     (sym (gap b ys) ∙ ap (λ (zs : List Cell). anywhere isGap (readFrom b zs)) (sym same) ∙ none))
 
 no-mark-at-front

@@ -43,8 +43,7 @@ letters : (bs : List Bit) → anywhere passed (straysOf (rowsOf bs)) ≡ false �
 unfolding rowsOf straysOf allBits
 letters =
     by-rows (λ bs. anywhere passed (straysOf (rowsOf bs)) ≡ false → Letters bs)
-    (λ bs few fair. (bs, rw (rows-of-few bs few)))
-    λ a b c d e f g h bs more fair.
+    (λ bs few fair. (bs, rw (rows-of-few bs few))) λ a b c d e f g h bs more fair.
     let row = a ∷ b ∷ c ∷ d ∷ e ∷ f ∷ g ∷ h ∷ [] in
     let parts =
     neither (anywhere passed (rowStrays row)) (anywhere passed (straysOf (rowsOf bs)))
@@ -117,17 +116,14 @@ taken-begin (q ∷ qs) vs (c ∷ cs) zero b e = absurd (let n = ap length e in o
 taken-begin (q ∷ qs) vs (c ∷ cs) (suc want) b e =
     by-each-class
     (λ (d : Class). map units (cellsTaken (d ∷ cs) (suc want) b) ≡ q ∷ qs ++ vs → beginsWith (q ∷ qs) (d ∷ cs) ≡ true)
-    (λ e. absurd (let n = ap length e in omega arith))
-    (λ d x read e.
+    (λ e. absurd (let n = ap length e in omega arith)) (λ d x read e.
     let front : units x ∷ map units (cellsTaken cs (wantedAfter (suc want) b x) (lastAfter b x)) ≡ q ∷ qs ++ vs =
     rw (taken-one-more read cs want b) at e in
     let here : units x ≡ q = cc in
     let there : map units (cellsTaken cs (wantedAfter (suc want) b x) (lastAfter b x)) ≡ qs ++ vs = cc in
     rw (eq-eqb (classNumber d) q (number-of-read read ∙ here))
     (taken-begin qs vs cs (wantedAfter (suc want) b x) (lastAfter b x) there))
-    (λ e. absurd (let n = ap length e in omega arith))
-    c
-    e
+    (λ e. absurd (let n = ap length e in omega arith)) c e
 
 pub marks-ahead
     : (p : Profile) (ds : List ℕ) (n : ℕ) (us : List ℕ)

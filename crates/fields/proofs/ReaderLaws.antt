@@ -87,8 +87,7 @@ module _ (p : Profile) (ds : List ℕ) (n : ℕ) (accepts : fieldRule p ds n n .
   unfolding fieldOutput
   output-is-items old e =
       let count = field-items-count (classesOf p ds) n (gather-stops-nowhere (classesOf p ds) n gather-accepts) in
-      rw e
-      (acceptance-fills-the-buffer (fieldRule p ds n n) (fieldItems (classesOf p ds) n) old accepts
+      rw e (acceptance-fills-the-buffer (fieldRule p ds n n) (fieldItems (classesOf p ds) n) old accepts
       ∙ sym (stored-at-front-fills (fieldItems (classesOf p ds) n) old (omega arith))
       ∙ stored-over-all (fieldItems (classesOf p ds) n) old (omega arith))
 
@@ -99,14 +98,11 @@ unfolding cellsTaken
 taken-at-most [] want b = omega arith
 taken-at-most (c ∷ cs) zero b = omega arith
 taken-at-most (c ∷ cs) (suc want) b =
-    by-each-class
-    (λ (d : Class). length (cellsTaken (d ∷ cs) (suc want) b) ≤ suc (length cs))
-    (omega arith)
+    by-each-class (λ (d : Class). length (cellsTaken (d ∷ cs) (suc want) b) ≤ suc (length cs)) (omega arith)
     (λ d x read.
     let rest = taken-at-most cs (wantedAfter (suc want) b x) (lastAfter b x) in
     rw (taken-one-more read cs want b) (omega arith))
-    (omega arith)
-    c
+    (omega arith) c
 
 used-or-none
     : (t : Bool) (a : Answer) (used most : ℕ) (holds : Bool)
@@ -122,10 +118,5 @@ field-used-at-most p ds n = rw (← classes-length p ds) (taken-at-most (classes
 pub used-is-within : (p : Profile) (ds : List ℕ) (n room : ℕ) → fieldReading p ds n room .used ≤ length ds
 unfolding fieldReading
 used-is-within p ds n room =
-    used-or-none
-    (eqb (fieldRule p ds n room .number) 0)
-    (fieldRule p ds n room)
-    (fieldUsed (classesOf p ds) n)
-    (length ds)
-    (fieldHolds (classesOf p ds) n)
-    (field-used-at-most p ds n)
+    used-or-none (eqb (fieldRule p ds n room .number) 0) (fieldRule p ds n room) (fieldUsed (classesOf p ds) n)
+    (length ds) (fieldHolds (classesOf p ds) n) (field-used-at-most p ds n)

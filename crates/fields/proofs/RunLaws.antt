@@ -25,12 +25,7 @@ is-two Four e = absurd (true≢false (sym e))
 is-two Wide e = absurd (true≢false (sym e))
 
 module _
-    {start : Cursor}
-    {ds : List ℕ}
-    {first : ℕ}
-    {cursor : Cursor}
-    {next : ℕ}
-    (run : RunTo start ds first cursor next)
+    {start : Cursor} {ds : List ℕ} {first : ℕ} {cursor : Cursor} {next : ℕ} (run : RunTo start ds first cursor next)
     (inside : next < length ds)
   where
     abbrev cs : List Class
@@ -58,8 +53,7 @@ module _
     run-goes-on two =
         record {
           twos = λ j low high.
-              ⊎-elim
-              (λ here. ap (λ (i : ℕ). getD cs i Narrow) here ∙ class-here ∙ is-two (classIn cursor d) two)
+              ⊎-elim (λ here. ap (λ (i : ℕ). getD cs i Narrow) here ∙ class-here ∙ is-two (classIn cursor d) two)
               (λ before. run .twos j low before)
               (eq-or-lt-of-le (omega arith));
           stands = stands-after;

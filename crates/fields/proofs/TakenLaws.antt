@@ -84,16 +84,10 @@ module _ (xs : List Class) where
   used-decide [] k (suc want) b e = absurd (omega arith)
   used-decide (c ∷ cs) k zero b e = none-wanted (c ∷ cs) _ k b
   used-decide (c ∷ cs) k (suc want) b e =
-      by-each-class
-      (λ (d : Class). Decide (d ∷ cs) k (suc want) b)
-      (λ f. absurd (omega arith))
-      (λ d x read f.
+      by-each-class (λ (d : Class). Decide (d ∷ cs) k (suc want) b) (λ f. absurd (omega arith)) (λ d x read f.
       let want′ : ℕ = wantedAfter (suc want) b x in
       let fewer : List Class = take (length (cellsTaken cs want′ (lastAfter b x))) cs ++ xs in
-      rw (taken-one-more read cs want b)
-      (front-grows read cs fewer k want b
+      rw (taken-one-more read cs want b) (front-grows read cs fewer k want b
       (used-decide cs (suc k) want′ (lastAfter b x)
       (sym (ap (λ (a : Answer). a .number) (stop-one-more read cs want b k)) ∙ f))))
-      (λ f. absurd (omega arith))
-      c
-      e
+      (λ f. absurd (omega arith)) c e

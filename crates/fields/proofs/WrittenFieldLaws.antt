@@ -114,10 +114,7 @@ module _ (us vs : List ℕ) (xs : List Cell) (reads : readBits xs ≡ O ∷ allB
         ap (λ (bs : List Bit). anywhere passed (straysRead bs)) bits-are ∙ whole-bytes-have-no-stray us bytes
 
     module _
-        (p : Profile)
-        (ds : List ℕ)
-        (accepts : profileRule p .number ≡ 0)
-        (same : classesOf p ds ≡ classes)
+        (p : Profile) (ds : List ℕ) (accepts : profileRule p .number ≡ 0) (same : classesOf p ds ≡ classes)
         (in-range : outside 1 1030 n ≡ false)
       where
         rule-accepts : (room : ℕ) → n ≤ room → fieldRule p ds n room ≡ accepted n
@@ -140,8 +137,7 @@ module _ (us vs : List ℕ) (xs : List Cell) (reads : readBits xs ≡ O ∷ allB
         written-field-is-stored old h =
             acceptance-fills-the-buffer (fieldRule p ds n (length old)) (fieldItems (classesOf p ds) n) old
             (ap (λ (a : Answer). a .number) (rule-accepts (length old) h))
-            ∙ ap (λ (items : List ℕ). filled items old)
-            (ap (λ (cs : List Class). fieldItems cs n) same ∙ items-are)
+            ∙ ap (λ (items : List ℕ). filled items old) (ap (λ (cs : List Class). fieldItems cs n) same ∙ items-are)
 
   -- ---- what follows the field
 
@@ -155,11 +151,9 @@ module _ (us vs : List ℕ) (xs : List Cell) (reads : readBits xs ≡ O ∷ allB
         let longer = length-append front (O ∷ []) in
         let parts =
         same-parts usedBits (readFrom (lastOf O usedBits) restOfCells) (front ++ (O ∷ [])) (I ∷ tail)
-        (split-before-one ∙ sym (append-snoc front O (I ∷ tail)))
-        (omega arith) in
+        (split-before-one ∙ sym (append-snoc front O (I ∷ tail))) (omega arith) in
         let zero-known : lastOf O usedBits ≡ O = ap (lastOf O) (parts .0) ∙ last-of-snoc O O front in
-        true≢false
-        (ap beginsWithOne (sym (parts .1) ∙ ap (λ (b : Bit). readFrom b restOfCells) zero-known)
+        true≢false (ap beginsWithOne (sym (parts .1) ∙ ap (λ (b : Bit). readFrom b restOfCells) zero-known)
         ∙ no-one-after-zero restOfCells)
 
     pub rest-of-field-is-read : readFrom (lastOf O usedBits) restOfCells ≡ allBits vs ++ (O ∷ [])
@@ -167,11 +161,8 @@ module _ (us vs : List ℕ) (xs : List Cell) (reads : readBits xs ≡ O ∷ allB
         let low = enough .enough in
         let high = enough .one-over in
         let front = front-length in
-        ⊎-elim
-        (λ same.
+        ⊎-elim (λ same.
         same-parts usedBits (readFrom (lastOf O usedBits) restOfCells) (O ∷ allBits us) (O ∷ I ∷ tail) split-before-one
-        (omega arith)
-        .1
+        (omega arith) .1
         ∙ sym begins)
-        (λ more. absurd (no-surplus (omega arith)))
-        (eq-or-lt-of-le low)
+        (λ more. absurd (no-surplus (omega arith))) (eq-or-lt-of-le low)

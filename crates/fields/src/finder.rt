@@ -28,12 +28,12 @@ fn begins_with(start: Cursor, intervals: &[u16], at: usize, pattern: &[usize]) -
     requires { ⌜ at ≤ length (now intervals) ⌝ }
     ensures { λ r. ⌜ r ≡ beginsWith (now (pattern .entry)) (classesFrom start (drop at (now (intervals .entry)))) ⌝ }
 {
+    if intervals.len() - at < pattern.len() {
+        return false;
+    }
     let mut cursor = start;
     let mut i: usize = 0;
     while i < pattern.len() {
-        if intervals.len() <= at + i {
-            return false;
-        }
         let classed = cursor.step(intervals[at + i]);
         let class = classed.class;
         if class.number() == pattern[i] {

@@ -1,5 +1,5 @@
 // The pass over a field's intervals: its items go through the check register, and into a buffer.
-ghost use Prim.Native.Nat.{_+_, _^_, _≤_, _<_};
+ghost use Prim.Native.Nat.{_^_, _≤_, _<_};
 ghost use mathlib.Core.Path.{_≡_};
 ghost use mathlib.Core.List.{map};
 ghost use Rattle.lists.specs.Filled.{storedAt};
@@ -18,7 +18,7 @@ use intervals::block::Progress;
 use intervals::edges::check_edges;
 use intervals::last_place;
 use items::Check;
-use lists::at_most;
+use lists::store;
 use refusal::Counted;
 use refusal::Refusal;
 use refusal::Verdict;
@@ -40,21 +40,6 @@ struct Summed {
 pub struct Gathered {
     pub end: Counted,
     pub holds: bool,
-}
-
-// Items from a place on, as many as there is room for.
-pub fn store(items: &[u16], at: usize, out: &mut [u16])
-    ensures { λ _. ⌜ now (out .exit) ≡ storedAt (now (out .entry)) at (now (items .entry)) ⌝ }
-{
-    if out.len() <= at {
-        return;
-    }
-    let count = at_most(out.len() - at, items.len());
-    let mut k: usize = 0;
-    while k < count {
-        out[at + k] = items[k];
-        k += 1;
-    }
 }
 
 // The code words of a part, turned into items: through the register, and to their places.

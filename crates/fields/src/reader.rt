@@ -8,7 +8,7 @@ ghost use Rattle.fields.specs.FieldRule.{deliverReading, deliverOutput, 
 ghost use Rattle.fields.specs.FieldRule.{checkedReading, checkedOutput, fieldReading, fieldOutput};
 ghost use Rattle.fields.specs.FieldRule.{GathersItems, fieldRest, restPlace};
 use crate::gather::gather;
-use crate::gather::store;
+use lists::store;
 use refusal::Counted;
 use refusal::Refusal;
 use refusal::Verdict;

@@ -34,8 +34,7 @@ module _ (m : Mode) (e : ℕ) (side : Side) where
   -- t: the mode gives the put to that side; u: the number is an item
   abbrev put : Bool → Bool → ℕ → List ℕ → Outcome
   put t u n ns =
-      cond t
-      (cond (not u) (foreign (holding ns))
+      cond t (cond (not u) (foreign (holding ns))
       (cond (isFull ns) (gives 0 (withBit (faultBit side) (holding ns)))
       (gives 0 (withItems (ns ++ (n ∷ [])) (holding ns)))))
       (gives 0 (holding ns))

@@ -31,9 +31,7 @@ unfolding imageOf unrulyIn bytesIn
 image-reads-back ws output bytes few room =
     let count : length (imageOf ws) ≡ length ws = length-of-image O ws in
     reads-as-its-bytes (imageOf ws) output ws
-    (accepted-of-words (imageOf ws) (rw count few) (made-is-ruly O ws refl bytes))
-    (rw count room)
-    (sym count)
+    (accepted-of-words (imageOf ws) (rw count few) (made-is-ruly O ws refl bytes)) (rw count room) (sym count)
     (read-of-made O ws refl bytes)
 
 made-reads-back

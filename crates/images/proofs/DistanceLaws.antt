@@ -76,8 +76,7 @@ pub last-of-bytes-is-data : (b : Bit) (ws : List ℕ) → isGap b ≡ false → 
 unfolding allBits lastOf
 last-of-bytes-is-data b [] d bytes = d
 last-of-bytes-is-data b (w ∷ ws) d bytes =
-    ap isGap
-    (last-append b (writtenBits w) (allBits ws)
+    ap isGap (last-append b (writtenBits w) (allBits ws)
     ∙ ap (λ (c : Bit). lastOf c (allBits ws)) (last-of-first w ws bytes b d))
     ∙ last-of-bytes-is-data (lastBit w) ws (last-bit-is-data w) (others-are-bytes w ws bytes)
 
@@ -132,8 +131,7 @@ distances-are-cells ws bytes =
     ∙ clock-for-zero last (last-of-bytes-is-data O ws refl bytes) in
     ap₂ (λ (l : List Bit) (c : Bit). distancesFrom 2 (l ++ (c ∷ O ∷ I ∷ []))) cells clock
     ∙ sym (zero-ends-none 2 (front ++ (clockAfter last O ∷ O ∷ I ∷ [])))
-    ∙ ap (distancesFrom 2)
-    (append-assoc front (clockAfter last O ∷ O ∷ I ∷ []) (O ∷ [])
+    ∙ ap (distancesFrom 2) (append-assoc front (clockAfter last O ∷ O ∷ I ∷ []) (O ∷ [])
     ∙ ap (λ (l : List Bit). front ++ l) (sym (closing-cells last))
     ∙ sym (cells-after-append O (allBits ws) (O ∷ O ∷ [])))
     ∙ distances-of-letters O (allBits ws ++ (O ∷ O ∷ [])) 2 (bytes-are-sound O ws refl bytes)

@@ -82,8 +82,7 @@ pub image-of-read : (b : Bit) (words : List ℕ) → isGap b ≡ false → anywh
 unfolding bytesFrom imageFrom
 image-of-read b [] d none = refl
 image-of-read b (word ∷ words) d none =
-    ap₂ _∷_
-    (ap (wordOf b) (first-is-candidate b d word words none)
+    ap₂ _∷_ (ap (wordOf b) (first-is-candidate b d word words none)
     ∙ eqb-true (wordOf b (candidate word)) word (first-has-word b d word words none))
     (image-of-read (lastBit (byteOf b word)) words (last-bit-is-data (byteOf b word))
     (rest-is-ruly b d word words none))
@@ -124,8 +123,7 @@ unfolding bytesFrom imageFrom
 read-of-made b [] d bytes = refl
 read-of-made b (w ∷ ws) d bytes =
     let first = made-has-its-byte b w d (everywhere-passes-at-first isByte w ws bytes) .1 in
-    ap₂ _∷_ first
-    (ap (λ (v : ℕ). bytesFrom (lastBit v) (imageFrom (lastBit w) ws)) first
+    ap₂ _∷_ first (ap (λ (v : ℕ). bytesFrom (lastBit v) (imageFrom (lastBit w) ws)) first
     ∙ read-of-made (lastBit w) ws (last-bit-is-data w) (everywhere-in-rest isByte w ws bytes))
 
 pub image-injective

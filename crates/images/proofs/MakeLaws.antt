@@ -73,7 +73,6 @@ module _ (items old : List ℕ) (listed : listRule items .number ≡ 0) where
           rule,
           ap₂ _++_ (turned ∙ ap imageOf front-is-written)
               (rest-is-kept ∙ ap (λ (k : ℕ). drop k old) (sym (length-of-image O (written items) ∙ written-count)))
-              ∙ sym
-              (acceptance-fills-the-buffer (makeRule items (length old)) (imageOf (written items)) old
+              ∙ sym (acceptance-fills-the-buffer (makeRule items (length old)) (imageOf (written items)) old
               (sym (ap (λ (a : Answer). a .number) rule))),
         )

@@ -58,8 +58,7 @@ unfolding makeOutput filled imageOf
 front-of-made items made h =
     let tests = made-of-accepted items (length made) h in
     let count : makeRule items (length made) .count ≡ length (imageOf (written items)) =
-    ap (λ (a : Answer). a .count)
-    (sym (rule-of-made items (length made) (tests .0))
+    ap (λ (a : Answer). a .count) (sym (rule-of-made items (length made) (tests .0))
     ∙ accepted-with-room (length (written items)) (length made) (tests .1))
     ∙ sym (length-of-image O (written items)) in
     ap (λ (n : ℕ). take n (makeOutput items made)) count

@@ -22,10 +22,8 @@ use Rattle.images.specs.machine.TopBits.{topBits}
 -- number; its letters are sound and end in its last data bit; taken by its highest ones it has the same half cells
 wordKept : Bit → ℕ → Bool
 wordKept before w =
-    eqb (candidate (wordOf before w)) w
-    && sameBits (halfCells (wordOf before w)) (cellsAfter before (writtenBits w))
-    && eqb (wordOf before w) (numberFrom 0 (cellsAfter before (writtenBits w)))
-    && sound before (writtenBits w)
+    eqb (candidate (wordOf before w)) w && sameBits (halfCells (wordOf before w)) (cellsAfter before (writtenBits w))
+    && eqb (wordOf before w) (numberFrom 0 (cellsAfter before (writtenBits w))) && sound before (writtenBits w)
     && sameBit (lastOf before (writtenBits w)) (lastBit w)
     && sameBits (topBits 16 (wordOf before w)) (halfCells (wordOf before w))
 

@@ -10,6 +10,8 @@ ghost use Rattle.images.specs.Image.{unrulyIn};
 ghost use Rattle.images.specs.Rules.{wordsRule, readImageRule, readImageOutput};
 ghost use Rattle.half_cells.specs.Candidate.{candidate};
 use half_cells::byte_of;
+use half_cells::words_to_bytes;
+use lists::store;
 use refusal::Counted;
 use refusal::Refusal;
 use refusal::Verdict;
@@ -58,11 +60,9 @@ fn store_bytes(words: &[u16], out: &mut [u16])
     requires { ⌜ length (now words) ≤ length (now out) ⌝ }
     ensures { λ _. ⌜ now (out .exit) ≡ filled (map candidate (now (words .entry))) (now (out .entry)) ⌝ }
 {
-    let mut k: usize = 0;
-    while k < words.len() {
-        out[k] = byte_of(words[k]);
-        k += 1;
-    }
+    store(words, 0, out);
+    let n = words.len();
+    words_to_bytes(&mut out[..n]);
 }
 
 // An image: 9, or its items.

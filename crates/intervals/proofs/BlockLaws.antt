@@ -92,10 +92,7 @@ module _ (most : ℕ) (ds : List ℕ) (at : Progress) where
   -- ---- one part
 
   module _
-      (count : ℕ)
-      (next : Progress)
-      (reaches : Reaches count most ds at next)
-      (small : most < 2 ^ 32)
+      (count : ℕ) (next : Progress) (reaches : Reaches count most ds at next) (small : most < 2 ^ 32)
       (fair : Fair ds at)
     where
       abbrev part : List ℕ
@@ -118,16 +115,14 @@ module _ (most : ℕ) (ds : List ℕ) (at : Progress) where
       over h =
           sym (drop-taken count (drop used ds))
           ∙ drop-drop (length part) used ds
-          ∙ ap (λ (k : ℕ). drop k ds)
-          (sym
+          ∙ ap (λ (k : ℕ). drop k ds) (sym
           (ap (λ (p : Pass). p .used) (reaches .pass)
           ∙ counts .all-used (rw (reaches .pass) at h)
           ∙ ap (λ (k : ℕ). used + k) (units-count (at .cursor) part)))
 
       in-parts
           : restFrom most ds at
-          ≡ after (first .words)
-          (passFrom most (next .pass .used) (next .pass .reading)
+          ≡ after (first .words) (passFrom most (next .pass .used) (next .pass .reading)
           (unitsFrom (cursorAfter (at .cursor) part) (drop count (drop used ds))))
       unfolding restFrom
       in-parts =
@@ -141,8 +136,7 @@ module _ (most : ℕ) (ds : List ℕ) (at : Progress) where
       unfolding wordsOf restFrom
       rest-goes-on =
           in-parts
-          ∙ ap (after (first .words))
-          (elim (decLt (next .pass .reading .words) most) [
+          ∙ ap (after (first .words)) (elim (decLt (next .pass .reading .words) most) [
             | yes h ↦ rw (reaches .cursor h, over h)
             | no h ↦ pass-is-full most _ _ _ (omega arith) ∙ sym (pass-is-full most _ _ _ (omega arith))
           ])
@@ -151,8 +145,7 @@ module _ (most : ℕ) (ds : List ℕ) (at : Progress) where
           : next .pass .reading .words < most
           → cursorAfter (next .cursor) (drop (next .pass .used) ds) ≡ cursorAfter (at .cursor) (drop used ds)
       cursor-goes-on h =
-          rw (reaches .cursor h, ← over h)
-          (sym (cursor-after-append (at .cursor) part (drop count (drop used ds)))
+          rw (reaches .cursor h, ← over h) (sym (cursor-after-append (at .cursor) part (drop count (drop used ds)))
           ∙ ap (cursorAfter (at .cursor)) (take-append-drop count (drop used ds)))
 
       pub words-more : next .pass .reading .words ≡ words + length (wordsOf count most ds at)
@@ -172,8 +165,7 @@ module _ (most : ℕ) (ds : List ℕ) (at : Progress) where
 
       pub fair-after : Fair ds next
       fair-after =
-          rw (reaches .pass)
-          (record {
+          rw (reaches .pass) (record {
             within = omega (arith, counts .most-used, part-count, fair .within);
             room = held-by-pass us most used (at .pass .reading) (units-are-cells _ _) (fair .room);
           })
@@ -185,8 +177,7 @@ module _ (most : ℕ) (ds : List ℕ) (at : Progress) where
           → used < length ds
           → most - next .pass .reading .words + (length ds - next .pass .used) < most - words + (length ds - used)
       comes-nearer some wanted left =
-          rw (reaches .pass)
-          (elim (decLt (first .end .reading .words) most) [
+          rw (reaches .pass) (elim (decLt (first .end .reading .words) most) [
             | yes h ↦ omega (arith, counts .all-used h, counts .words, part-count)
             | no h ↦ omega (arith, counts .least)
           ])

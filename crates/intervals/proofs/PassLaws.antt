@@ -75,8 +75,7 @@ pub record Counts (most k : ℕ) (m : Reading) (us : List ℕ) (pass : Passed) :
 pub pass-counts
     : (most k : ℕ) (m : Reading) (us : List ℕ) → most < 2 ^ 32 → Counts most k m us (passFrom most k m us)
 pass-counts most k m [] small =
-    rw (pass-ends most k m)
-    (record {
+    rw (pass-ends most k m) (record {
       words = omega arith;
       few = omega arith;
       least = omega arith;
@@ -91,8 +90,7 @@ pass-counts most k m (u ∷ us) small =
           let rest = pass-counts most (suc k) next us small in
           let all = passFrom most (suc k) next us in
           let both = length-append (wordBy m u) (all .words) in
-          rw (pass-goes-on most k m u us h)
-          (record {
+          rw (pass-goes-on most k m u us h) (record {
             words = rest .words ∙ omega (arith, one .0);
             few = omega (arith, one .1, rest .few);
             least = omega (arith, rest .least);
@@ -101,8 +99,7 @@ pass-counts most k m (u ∷ us) small =
           })
       | no h ↦
           let full : most ≤ m .words = omega arith in
-          rw (pass-is-full most k m (u ∷ us) full)
-          (record {
+          rw (pass-is-full most k m (u ∷ us) full) (record {
             words = omega arith;
             few = omega arith;
             least = omega arith;

@@ -47,8 +47,7 @@ length-of-item-bytes c n =
 item-bytes-are-bytes : (c : Check) (n : ℕ) → c .register < 0x10000 → isItem n ≡ true
     → everywhere isByte (itemBytes c n) ≡ true
 item-bytes-are-bytes c n h item =
-    ⊎-elim
-    (λ check.
+    ⊎-elim (λ check.
     rw (item-bytes-of-check c n check)
     (everywhere-of-passing isByte (highByte (c .register)) (lowByte (c .register) ∷ [])
     (data-is-byte (highByte (c .register)) (high-byte-bound (c .register) h))
@@ -108,8 +107,7 @@ pub written-from-are-bytes : (c : Check) (ns : List ℕ) → c .register < 0x100
     → everywhere isByte (writtenFrom c ns) ≡ true
 written-from-are-bytes c [] h e = cc (written-from-none c, everywhere-of-none isByte)
 written-from-are-bytes c (n ∷ ns) h e =
-    rw (written-from-item c n ns)
-    (everywhere-of-append isByte (itemBytes c n) (writtenFrom (afterItem c n) ns)
+    rw (written-from-item c n ns) (everywhere-of-append isByte (itemBytes c n) (writtenFrom (afterItem c n) ns)
     ∙ ap₂ _&&_ (item-bytes-are-bytes c n h (not-foreign-is-item n (nowhere-fails-at-first isForeign n ns e)))
     (written-from-are-bytes (afterItem c n) ns (after-item-bound c n h) (nowhere-in-rest isForeign n ns e)))
 

@@ -9,6 +9,7 @@ ghost use Rattle.items.specs.Item.{isForeign, writtenBytes};
 ghost use Rattle.items.specs.Written.{afterBytes, itemBytes, writtenFrom};
 ghost use Rattle.items.specs.Rule.{listRule};
 use lists::put;
+use lists::store;
 use refusal::Refusal;
 use refusal::Verdict;
 
@@ -82,17 +83,6 @@ pub struct Stored {
     pub count: usize,
 }
 
-// Stores bytes from the front on.
-fn put_all(bytes: &[u16], out: &mut [u16])
-    ensures { λ _. ⌜ now (out .exit) ≡ storedAt (now (out .entry)) 0 (now (bytes .entry)) ⌝ }
-{
-    let mut k: usize = 0;
-    while k < bytes.len() {
-        put(out, k, bytes[k]);
-        k += 1;
-    }
-}
-
 // Stores a list's bytes item by item, so that a check order finds the register as it is then.
 fn write_each(start: Check, items: &[u16], out: &mut [u16]) -> Stored
     ensures check { λ r. ⌜ r .check ≡ afterBytes start (writtenFrom start (now (items .entry))) ⌝ }
@@ -121,7 +111,7 @@ pub fn write_bytes(start: Check, items: &[u16], out: &mut [u16]) -> Stored
 {
     let count = written_bytes(items);
     if count == items.len() {
-        put_all(items, out);
+        store(items, 0, out);
         return Stored {
             check: start.after_bytes(items),
             count,

@@ -1,6 +1,6 @@
 -- Why every length is positive and nothing of it is cut off: compare points lie between Early and Late, so a shift
 -- takes away D at most, and T1 is longer than D by Min or more. Rests on no axiom.
-use Prim.Native.Nat.{ℕ, suc, _+_, _-_, _*_, _≤_, _<_}
+use Prim.Native.Nat.{ℕ, suc, _-_, _≤_}
 use native.Mathlib.Omega.{arith}
 use mathlib.Core.Path.{sym}
 use mathlib.Core.Bool.{Bool, true, false}
@@ -15,26 +15,7 @@ use Rattle.lengths.specs.Claims.{signedLength, SignedLengths, LengthsAre
 use Rattle.lengths.proofs.ShiftLaws.{signed-sum}
 use Rattle.lengths.proofs.PointLaws.{point-is-in-range}
 
--- D is less than T1, and so than every nominal length
-shift-is-less
-    : (t1 more start end early late least : ℕ)
-    → start ≤ late
-    → early ≤ end
-    → 1 ≤ least
-    → least + 2 * (late - early) ≤ t1
-    → 2 * start < t1 + more + 2 * end
-shift-is-less t1 more start end early late least h₁ h₂ h₃ h₄ = omega arith
-
 module _ {p : Profile} (k : Kept p) where
-  cell-takes-less
-      : (zeros start end : ℕ)
-      → start ≤ p .late .0
-      → p .early .0 ≤ end
-      → 2 * start < p .t1 .0 + zeros * p .t0 .0 + 2 * end
-  cell-takes-less zeros start end not-late not-early =
-      shift-is-less (p .t1 .0) (zeros * p .t0 .0) start end (p .early .0) (p .late .0) (p .min .0) not-late not-early
-      (omega arith) (k .two-from)
-
   lengths-are-signed
       : (ss : List Bool) (start zeros : ℕ) (before : Bool)
       → start ≤ p .late .0

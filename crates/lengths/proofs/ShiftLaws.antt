@@ -38,8 +38,7 @@ module _ (n s e : ℕ) (enough : s ≤ n + e) (small : n + e < 65536) where
 
   pub shifted-length : toZ w32 n +ℤ toZ w32 (ofZ w32 (toZ w32 e -ℤ toZ w32 s)) ≡ pos (n + e - s)
   shifted-length =
-      ap₂ (λ (x y : ℤ). x +ℤ y) (toZ-pos w32 {n = n} (omega arith))
-      (toZ-ofZ shift-fits
+      ap₂ (λ (x y : ℤ). x +ℤ y) (toZ-pos w32 {n = n} (omega arith)) (toZ-ofZ shift-fits
       ∙ ap₂ (λ (x y : ℤ). x -ℤ y) (toZ-pos w32 {n = e} (omega arith)) (toZ-pos w32 {n = s} (omega arith)))
       ∙ signed-sum n s e enough
 

@@ -44,8 +44,7 @@ module _ {p : Profile} (k : Kept p) where
       : (ss : List Bool) (start zeros : ℕ) (before : Bool)
       → start ≤ p .late .0
       → sumOf (lengthsFrom p start zeros before ss) + 2 * start + openZeros zeros ss * p .t0 .0
-      ≡ length (lengthsFrom p start zeros before ss) * p .t1 .0
-      + (zeros + zerosIn ss) * p .t0 .0
+      ≡ length (lengthsFrom p start zeros before ss) * p .t1 .0 + (zeros + zerosIn ss) * p .t0 .0
       + 2 * lastPointFrom p start before ss
   unfolding sumOf lengthsFrom cellLength openZeros zerosIn lastPointFrom
   sum-from [] start zeros before h = omega (arith, add-mul zeros 0 (p .t0 .0))
@@ -113,8 +112,7 @@ module _ (p : Profile) (k : Kept p) (ws : List ℕ) where
   -- cells × T1 and 0s × T0, and the two outer compare points
   pub sum-of-stream
       : sumOf (byteStream p ws) + 2 * firstPoint p (writtenSymbols ws)
-      ≡ length (byteStream p ws) * p .t1 .0
-      + zerosIn (writtenSymbols ws) * p .t0 .0
+      ≡ length (byteStream p ws) * p .t1 .0 + zerosIn (writtenSymbols ws) * p .t0 .0
       + 2 * lastPoint p (writtenSymbols ws)
   unfolding byteStream lengthsOf firstPoint lastPoint
   sum-of-stream =

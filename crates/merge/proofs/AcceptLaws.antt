@@ -36,10 +36,8 @@ module _ (first second : List ℕ) where
       let odds = refuse-if-accepts (anywhere (atOddsAt (sectorsIn first) (sectorsIn second)) numbers) 16 _ _ (few .1) in
       let fits = neither (isMisfitSet first) (isMisfitSet second) (fit .0) in
       let crowd =
-      neither
-      (ltb 32 (length (sectorsIn first)) || ltb 32 (length (sectorsIn second)))
-      (ltb 32 (howMany (inEither (sectorsIn first) (sectorsIn second)) numbers))
-      (few .0) in
+      neither (ltb 32 (length (sectorsIn first)) || ltb 32 (length (sectorsIn second)))
+      (ltb 32 (howMany (inEither (sectorsIn first) (sectorsIn second)) numbers)) (few .0) in
       let each = neither (ltb 32 (length (sectorsIn first))) (ltb 32 (length (sectorsIn second))) (crowd .0) in
       record {
         first-fits = fits .0;
@@ -71,9 +69,7 @@ module _ (first second : List ℕ) where
       → (isTwice (heldOf n (sectorsIn first)) ≡ false) × (isTwice (heldOf n (sectorsIn second)) ≡ false)
   unfolding atOddsAt
   none-is-twice a n h =
-      at-peace-is-not-twice
-      (heldOf n (sectorsIn first))
-      (heldOf n (sectorsIn second))
+      at-peace-is-not-twice (heldOf n (sectorsIn first)) (heldOf n (sectorsIn second))
       (nowhere-at-number (atOddsAt (sectorsIn first) (sectorsIn second)) (a .peace) n h)
 
 -- ---- the empty set

@@ -53,8 +53,7 @@ module _ (first second : List ℕ) (a : Accepts first second) where
     numbers-again : howMany (inEither again es) numbers ≡ howMany (inEither ss ts) numbers
     unfolding numbers inEither
     numbers-again =
-        how-many-agrees _ _ 0 256
-        (λ n h.
+        how-many-agrees _ _ 0 256 (λ n h.
         in-first again es empty n
         ∙ ap isThere (held-again n (omega arith))
         ∙ taken-is-there (heldOf n ss) (heldOf n ts))
@@ -62,16 +61,13 @@ module _ (first second : List ℕ) (a : Accepts first second) where
     merged-again : merged again es ≡ again
     unfolding merged takenAt numbers
     merged-again =
-        lists-agree _ _ 0 256
-        (λ n h. taken-of-first again es empty n ∙ ap asList (held-again n (omega arith)))
+        lists-agree _ _ 0 256 (λ n h. taken-of-first again es empty n ∙ ap asList (held-again n (omega arith)))
 
   pub merged-set-is-taken : Takes (result first second) [] × (result (result first second) [] ≡ result first second)
   unfolding isMisfitSet
   merged-set-is-taken = (
     accepts-takes
-        (result first second)
-        []
-        (record {
+        (result first second) [] (record {
           first-fits = ap isNone reads-back;
           second-fits = empty-set-fits;
           first-few = rw sectors-again few-again;

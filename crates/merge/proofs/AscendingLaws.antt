@@ -63,8 +63,7 @@ module _
     unfolding takenAt
     bytes-here =
         bytes-from (sectorsIn first) (sectorsIn second) n inside
-        ∙ sym
-        (ap (λ (h : Held). setBytes (asList h) ++ rest (n + 1))
+        ∙ sym (ap (λ (h : Held). setBytes (asList h) ++ rest (n + 1))
         (ap₂ taken (one .shows n inside) (other .shows n inside)))
 
     pub sizes-add : (size : ℕ) → size + length entryBytes + length (rest (n + 1)) ≡ size + length (rest n)

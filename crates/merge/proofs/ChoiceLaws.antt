@@ -133,8 +133,7 @@ module _ (first second : List ℕ) (a b : ℕ) where
           → getD first a 0 ≡ getD second b 0
           → size ≡ sectorSize (getD first a 0)
           → t
-          ≡ sameBytes
-          (take (a + 2 + size - (a + 2)) (drop (a + 2) first))
+          ≡ sameBytes (take (a + 2 + size - (a + 2)) (drop (a + 2) first))
           (take (b + 2 + size - (b + 2)) (drop (b + 2) second))
           → disagree (sectorAt first a) (sectorAt second b) ≡ not t
       unfolding disagree sectorAt sectorOf

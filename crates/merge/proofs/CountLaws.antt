@@ -44,23 +44,15 @@ few-bytes-within (suc n) (a ∷ b ∷ s ∷ rest) e =
     (elim (ltb 3 b || ltb (length rest) (sectorSize b)) as
     (λ t. isNone (cond t none (withFirst (sectorOf a b s rest) (setWithin n (drop (sectorSize b) rest)))) ≡ false
     → suc (suc (suc (length rest)))
-    ≤ 1027
-    * length
+    ≤ 1027 * length
     (orEmpty (cond t none (withFirst (sectorOf a b s rest) (setWithin n (drop (sectorSize b) rest)))))) [
       | true ↦ λ h. absurd (true≢false h)
       | false ↦ λ h.
           let left = length-drop (sectorSize b) rest in
           let few =
-          few-bytes-in-first
-          (sectorSize b)
-          (length (drop (sectorSize b) rest))
-          (length rest)
-          (sectorOf a b s rest)
-          (setWithin n (drop (sectorSize b) rest))
-          (size-at-most-1024 b)
-          (few-bytes-within n (drop (sectorSize b) rest))
-          h
-          (omega arith) in
+          few-bytes-in-first (sectorSize b) (length (drop (sectorSize b) rest)) (length rest) (sectorOf a b s rest)
+          (setWithin n (drop (sectorSize b) rest)) (size-at-most-1024 b)
+          (few-bytes-within n (drop (sectorSize b) rest)) h (omega arith) in
           omega arith
     ]) e
 
@@ -77,8 +69,7 @@ pub how-many-agrees
 unfolding howMany tabulated
 how-many-agrees f g k zero same = refl
 how-many-agrees f g k (suc m) same =
-    ap₂ (λ (t : Bool) (n : ℕ). cond t (suc n) n)
-    (same k (omega arith))
+    ap₂ (λ (t : Bool) (n : ℕ). cond t (suc n) n) (same k (omega arith))
     (how-many-agrees f g (suc k) m (λ n h. same n (omega arith)))
 
 shown-is-there : (set : List ℕ) (entry : ℕ) → not (eqb entry 0) ≡ isThere (shown set entry)
@@ -99,10 +90,8 @@ pub entries-count-numbers
     → howMany (entryInEither a b) numbers ≡ howMany (inEither (sectorsIn first) (sectorsIn second)) numbers
 unfolding numbers entryInEither inEither
 entries-count-numbers first second a b one other =
-    how-many-agrees _ _ 0 256
-    (λ n h.
-    ap₂ _||_
-    (shown-is-there first (getD a n 0) ∙ ap isThere (one .shows n (omega arith)))
+    how-many-agrees _ _ 0 256 (λ n h.
+    ap₂ _||_ (shown-is-there first (getD a n 0) ∙ ap isThere (one .shows n (omega arith)))
     (shown-is-there second (getD b n 0) ∙ ap isThere (other .shows n (omega arith))))
 
 -- ---- a sector for each number
@@ -131,8 +120,7 @@ module _ (first second : List Sector) where
   count-from (n ∷ xs) e =
       let peace = at-peace-is-not-twice _ _ (nowhere-fails-at-first (atOddsAt first second) n xs e) in
       length-append (takenAt first second n) (flatMap (takenAt first second) xs)
-      ∙ ap₂ _+_
-      (one-for-each (heldOf n first) (heldOf n second) (peace .0) (peace .1))
+      ∙ ap₂ _+_ (one-for-each (heldOf n first) (heldOf n second) (peace .0) (peace .1))
       (count-from xs (nowhere-in-rest (atOddsAt first second) n xs e))
       ∙ elim (isThere (heldOf n first) || isThere (heldOf n second)) as
       (λ t. cond t 1 0 + howMany (inEither first second) xs

@@ -30,8 +30,7 @@ module _ (ss ts : List Sector) where
   crowd-swaps : isCrowded ss ts ≡ isCrowded ts ss
   unfolding isCrowded
   crowd-swaps =
-      ap₂ _||_
-      (or-swaps (ltb 32 (length ss)) (ltb 32 (length ts)))
+      ap₂ _||_ (or-swaps (ltb 32 (length ss)) (ltb 32 (length ts)))
       (ap (λ (f : ℕ → Bool). ltb 32 (howMany f numbers)) either-swaps)
 
   merged-swaps
@@ -40,17 +39,10 @@ module _ (ss ts : List Sector) where
       → merged ss ts ≡ merged ts ss
   unfolding merged takenAt numbers atOddsAt
   merged-swaps good peace =
-      lists-agree _ _ 0 256
-      (λ n h.
-      ap asList
-      (taken-swaps
-      n
-      (heldOf n ss)
-      (heldOf n ts)
-      (held-has-number n ss)
-      (held-has-number n ts)
-      (nowhere-at-number (atOddsAt ss ts) peace n (omega arith))
-      (good n (omega arith))))
+      lists-agree _ _ 0 256 (λ n h.
+      ap asList (taken-swaps
+      n (heldOf n ss) (heldOf n ts) (held-has-number n ss) (held-has-number n ts)
+      (nowhere-at-number (atOddsAt ss ts) peace n (omega arith)) (good n (omega arith))))
 
   room-swaps : (room : ℕ) → merged ss ts ≡ merged ts ss → roomRule ss ts room ≡ roomRule ts ss room
   unfolding roomRule
@@ -85,8 +77,7 @@ module _ (first second : List ℕ) where
   rule-swaps
       : (room : ℕ)
       → mergeRule second first room
-      ≡ refuseIf (isMisfitSet first || isMisfitSet second) 13 0
-      (refuseIf (isCrowded ss ts) 15 0
+      ≡ refuseIf (isMisfitSet first || isMisfitSet second) 13 0 (refuseIf (isCrowded ss ts) 15 0
       (refuseIf (anywhere (atOddsAt ss ts) numbers) 17 (lowest (atOddsAt ss ts) numbers) (roomRule ts ss room)))
   unfolding mergeRule
   rule-swaps room =
@@ -101,16 +92,9 @@ module _ (first second : List ℕ) where
   either-first old good =
       let rule = sym (rule-swaps (length old)) in
       let alike =
-      settles-alike
-      (isMisfitSet first || isMisfitSet second)
-      (isCrowded ss ts)
-      (anywhere (atOddsAt ss ts) numbers)
-      (lowest (atOddsAt ss ts) numbers)
-      (roomRule ss ts (length old))
-      (roomRule ts ss (length old))
-      (result first second)
-      (result second first)
-      old
+      settles-alike (isMisfitSet first || isMisfitSet second) (isCrowded ss ts) (anywhere (atOddsAt ss ts) numbers)
+      (lowest (atOddsAt ss ts) numbers) (roomRule ss ts (length old)) (roomRule ts ss (length old))
+      (result first second) (result second first) old
       room-alike in (
         alike .0 ∙ ap (λ (a : Answer). storing a (length (result second first))) rule,
         alike .1 ∙ ap (λ (a : Answer). settled a (result second first) old) rule,

@@ -77,9 +77,7 @@ sector-restates a b s rest ss r =
     (rw (take-append-drop (sectorSize b) rest) at (restates-after (take (sectorSize b) rest) r))))
 
 module _
-    (P : List Sector → List ℕ → Type 0)
-    (at-end : P [] [])
-    (at-sector
+    (P : List Sector → List ℕ → Type 0) (at-end : P [] []) (at-sector
     : (a b s : ℕ) (rest : List ℕ) (ss : List Sector)
     → b ≤ 3
     → sectorSize b ≤ length rest
@@ -121,12 +119,7 @@ module _
         by true u f g r h = absurd (true≢false h)
         by false true f g r h = absurd (true≢false h)
         by false false f g r h =
-            first
-            (setWithin n (drop (sectorSize b) rest))
-            r
-            (ltb-false _ _ f)
-            (ltb-false _ _ g)
-            h
+            first (setWithin n (drop (sectorSize b) rest)) r (ltb-false _ _ f) (ltb-false _ _ g) h
 
     pub read-holds : (bs : List ℕ) (ss : List Sector) → setOf bs ≡ some ss → P ss bs
     unfolding setOf
@@ -146,7 +139,6 @@ sets-as-bytes =
           read-holds (λ ss bs. Restates (setBytes ss) bs) end
           (λ a b s rest ss h k r. sector-restates a b s rest ss r);
       read-is-sectors =
-          read-holds (λ ss bs. everywhere isSector ss ≡ true) (everywhere-of-none isSector)
-          (λ a b s rest ss h k r.
+          read-holds (λ ss bs. everywhere isSector ss ≡ true) (everywhere-of-none isSector) (λ a b s rest ss h k r.
           everywhere-of-passing isSector (sectorOf a b s rest) ss (read-is-a-sector a b s rest h k) ∙ r);
     }

@@ -92,9 +92,7 @@ module _ (f : ℕ → Held) (own : (j : ℕ) → hasNumber j (f j) ≡ true) whe
   held-below n k zero h = refl
   held-below n k (suc m) h =
       held-of-append n (asList (f k)) (flatMap (λ j. asList (f j)) (tabulated (λ j. j) (suc k) m))
-      ∙ ap₂ joined
-      (held-of-other k n (f k) (λ e. omega arith) (own k))
-      (held-below n (suc k) m (omega arith))
+      ∙ ap₂ joined (held-of-other k n (f k) (λ e. omega arith) (own k)) (held-below n (suc k) m (omega arith))
 
   held-within
       : (n k m : ℕ)
@@ -118,8 +116,7 @@ module _ (f : ℕ → Held) (own : (j : ℕ) → hasNumber j (f j) ≡ true) whe
           → joined (heldOf n (asList (f k))) (heldOf n rest) ≡ f n
       by true e r =
           let here : k ≡ n = eqb-true k n e in
-          ap₂ joined
-          (ap (λ (j : ℕ). heldOf n (asList (f j))) here ∙ held-of-own n (f n) (own n) once)
+          ap₂ joined (ap (λ (j : ℕ). heldOf n (asList (f j))) here ∙ held-of-own n (f n) (own n) once)
           (held-below n (suc k) m (omega arith))
           ∙ joined-nothing (f n)
       by false e r =
@@ -150,11 +147,5 @@ module _ (first second : List Sector) where
   unfolding merged takenAt numbers
   held-of-merged n h e f =
       held-within
-      (λ j. taken (heldOf j first) (heldOf j second))
-      taken-own
-      n
-      0
-      256
-      (omega arith)
-      (omega arith)
+      (λ j. taken (heldOf j first) (heldOf j second)) taken-own n 0 256 (omega arith) (omega arith)
       (none-twice (heldOf n first) (heldOf n second) e f)

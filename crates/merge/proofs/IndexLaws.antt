@@ -48,9 +48,7 @@ module _ (set : List ℕ) where
   entry-shows old place some-place one-place =
       elim (eqb old 0) as
       (λ t. shown set (cond t place 65535)
-      ≡ joined
-      (cond t Nothing (cond (eqb old 65535) Twice (One (sectorAt set old))))
-      (One (sectorAt set place))) [
+      ≡ joined (cond t Nothing (cond (eqb old 65535) Twice (One (sectorAt set old)))) (One (sectorAt set place))) [
         | true ↦ rw (ne-eqb place 0 some-place, ne-eqb place 65535 one-place)
         | false ↦
             elim (eqb old 65535) as
@@ -118,9 +116,7 @@ module _ (set : List ℕ) (start : ℕ) (inside : start < length set) (fits : is
   -- where the rest is a set, a whole sector stands at its front
   pub whole-here : Whole set start inside
   whole-here =
-      ⊎-elim
-      (λ w. w)
-      (λ m. absurd (true≢false (sym (ap isNone (m .no-set)) ∙ fits)))
+      ⊎-elim (λ w. w) (λ m. absurd (true≢false (sym (ap isNone (m .no-set)) ∙ fits)))
       (whole-or-misfit set start inside)
 
   pub rest-fits : isNone (setOf (drop next set)) ≡ false
@@ -144,17 +140,13 @@ module _ (set : List ℕ) (start : ℕ) (inside : start < length set) (fits : is
     held-here
         : (n : ℕ)
         → heldOf n (sectorsIn (drop start set))
-        ≡ cond (eqb number n)
-        (withCopy here (heldOf n (sectorsIn (drop next set))))
+        ≡ cond (eqb number n) (withCopy here (heldOf n (sectorsIn (drop next set))))
         (heldOf n (sectorsIn (drop next set)))
     unfolding heldOf
     held-here n =
         ap (heldOf n) sectors-here
-        ∙ ap
-        (λ (k : ℕ).
-        cond (eqb k n)
-        (withCopy here (heldOf n (sectorsIn (drop next set))))
-        (heldOf n (sectorsIn (drop next set))))
+        ∙ ap (λ (k : ℕ).
+        cond (eqb k n) (withCopy here (heldOf n (sectorsIn (drop next set)))) (heldOf n (sectorsIn (drop next set))))
         number-here
 
     pub sector-indexes : number < 256 → Indexing set renewed next

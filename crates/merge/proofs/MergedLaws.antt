@@ -55,12 +55,10 @@ module _ (first second : List Sector) where
       let y = heldOf n second in
       let peace = at-peace-is-not-twice x y (nowhere-fails-at-first (atOddsAt first second) n ns e) in
       map-of-append numberOf (takenAt first second n) (flatMap (takenAt first second) ns)
-      ∙ ap₂ _++_
-      (number-of-taken n (taken x y) (taken-own first second n) (none-twice x y (peace .0) (peace .1))
+      ∙ ap₂ _++_ (number-of-taken n (taken x y) (taken-own first second n) (none-twice x y (peace .0) (peace .1))
       ∙ ap (λ (t : Bool). cond t (n ∷ []) []) (taken-is-there x y))
       (numbers-in-order ns (nowhere-in-rest (atOddsAt first second) n ns e))
-      ∙ elim (isThere x || isThere y) as
-      (λ t. cond t (n ∷ []) [] ++ those (inEither first second) ns
+      ∙ elim (isThere x || isThere y) as (λ t. cond t (n ∷ []) [] ++ those (inEither first second) ns
       ≡ cond t (n ∷ those (inEither first second) ns) (those (inEither first second) ns))
       [ true ↦ refl | false ↦ refl ]
 

@@ -1,12 +1,11 @@
 -- Merging with the empty set, on either side, or with itself gives the set in order, and the merged set is such a
 -- set: what is taken of a number is then what the one set has of it. Rests on no axiom.
-use Prim.Native.Nat.{ℕ, _≤_, _<_}
+use Prim.Native.Nat.{ℕ, _<_}
 use mathlib.Core.Path.{_≡_, refl, sym, ap, _∙_, fun-ext}
 use mathlib.Core.Bool.{Bool, true, false, cond, _&&_, _||_, true≢false}
 use mathlib.Core.List.{List, [], _∷_, flatMap}
 use native.Mathlib.Omega.{arith}
 use borrow.Author.Tests.{eq-eqb}
-use lib.ListN.{length}
 use Rattle.lists.specs.Place.{anywhere}
 use Rattle.merge.specs.Set.{Sector, setBytes, sectorsIn}
 use Rattle.merge.specs.Merge.{Held, Nothing, One, Twice, heldOf, better, taken, asList, takenAt, merged}
@@ -115,16 +114,14 @@ module _ (ss es : List Sector) (empty : es ≡ []) where
     pub empty-second-at-peace : anywhere (atOddsAt ss es) numbers ≡ false
     unfolding numbers atOddsAt
     empty-second-at-peace =
-        nowhere-if-never (atOddsAt ss es) 0 256
-        (λ n h.
+        nowhere-if-never (atOddsAt ss es) 0 256 (λ n h.
         ap (atOdds (heldOf n ss)) (nothing-in-empty n)
         ∙ second-nothing-is-at-peace (heldOf n ss) (once n (omega arith)))
 
     pub empty-first-at-peace : anywhere (atOddsAt es ss) numbers ≡ false
     unfolding numbers atOddsAt
     empty-first-at-peace =
-        nowhere-if-never (atOddsAt es ss) 0 256
-        (λ n h.
+        nowhere-if-never (atOddsAt es ss) 0 256 (λ n h.
         ap (λ (x : Held). atOdds x (heldOf n ss)) (nothing-in-empty n)
         ∙ first-nothing-is-at-peace (heldOf n ss) (once n (omega arith)))
 
@@ -142,17 +139,12 @@ module _ (bs : List ℕ) (a : Accepts bs []) where
   once : (n : ℕ) → n < 256 → isTwice (heldOf n ss) ≡ false
   once n h = none-is-twice bs [] a n h .0
 
-  none-few : length (sectorsIn []) ≤ 32
-  none-few = a .second-few
-
   pub set-with-itself
       : Takes bs [] × Takes [] bs × Takes bs bs × (result [] bs ≡ result bs []) × (result bs bs ≡ result bs [])
   set-with-itself = (
     accepts-takes bs [] a,
     accepts-takes
-        []
-        bs
-        (record {
+        [] bs (record {
           first-fits = empty-set-fits;
           second-fits = a .first-fits;
           first-few = a .second-few;
@@ -161,9 +153,7 @@ module _ (bs : List ℕ) (a : Accepts bs []) where
           peace = empty-first-at-peace ss (sectorsIn []) empty-set-has-none once;
         }),
     accepts-takes
-        bs
-        bs
-        (record {
+        bs bs (record {
           first-fits = a .first-fits;
           second-fits = a .first-fits;
           first-few = a .first-few;

@@ -76,8 +76,7 @@ module _ (set : List ℕ) (code size : ℕ) (right : size ≡ sectorSize (getD s
       → sum ≡ asByte (not (eqb (getD set (code + 1) 0) 0))
       → storedAt
       (stored (stored (stored out start (getD set (code - 1) 0)) (start + 1) (getD set code 0)) (start + 2) sum)
-      (start + 3)
-      part
+      (start + 3) part
       ≡ storedAt out start (sectorBytes (sectorAt set code))
   unfolding storedAt sectorBytes sectorAt sectorOf
   sector-stored out start sum e =
@@ -127,7 +126,6 @@ pub taken-is-short
     : (first second : List ℕ) (a b : ℕ)
     → length (setBytes (asList (taken (shown first a) (shown second b)))) ≤ 1027
 taken-is-short first second a b =
-    rw taken-is-one-of-them
-    (elim (takesSecond (shown first a) (shown second b)) as
+    rw taken-is-one-of-them (elim (takesSecond (shown first a) (shown second b)) as
     (λ t. Short (cond t (shown second b) (shown first a)))
     [ true ↦ shown-is-short second b | false ↦ shown-is-short first a ])

@@ -47,12 +47,7 @@ module _ (set : List ℕ) (start : ℕ) (inside : start < length set) where
   pub whole-or-misfit : Whole ⊎ Misfit
   unfolding endRule
   whole-or-misfit =
-      by
-      (ltb (length set - start) 3)
-      (ltb 3 (getD set (start + 1) 0))
-      (ltb (length set - start - 3) size)
-      refl
-      refl
+      by (ltb (length set - start) 3) (ltb 3 (getD set (start + 1) 0)) (ltb (length set - start - 3) size) refl refl
       refl
     where
       by
@@ -62,8 +57,7 @@ module _ (set : List ℕ) (start : ℕ) (inside : start < length set) where
           → ltb (length set - start - 3) size ≡ v
           → Whole ⊎ Misfit
       by true u v e f g =
-          inr
-          (record {
+          inr (record {
             rule = rw e;
             no-set = short-end-is-no-set set start inside (let h = ltb-true (length set - start) 3 e in omega arith);
           })
@@ -76,8 +70,7 @@ module _ (set : List ℕ) (start : ℕ) (inside : start < length set) where
       by false false false e f g =
           let three : start + 3 ≤ length set = let h = ltb-false (length set - start) 3 e in omega arith in
           let fits = ltb-false (length set - start - 3) size g in
-          inl
-          (record {
+          inl (record {
             ends = omega arith;
             rule = rw (e, f, g);
             then = set-from-place set start three ∙ rw (f, g);
@@ -90,10 +83,8 @@ module _ (set : List ℕ) (start : ℕ) (inside : start < length set) where
       → refused (numberOf r) (placeOf r) ≡ endRule set start
       → refused (numberOf r) (placeOf r) ≡ countRule k (setOf (drop start set))
   misfit-ends-the-count r k e =
-      ⊎-elim
-      (λ w. absurd (eqb-false _ _ (number-is-not-zero r) (ap (λ (a : Answer). a .number) (e ∙ w .rule))))
-      (λ m. e ∙ m .rule ∙ sym (ap (countRule k) (m .no-set)))
-      whole-or-misfit
+      ⊎-elim (λ w. absurd (eqb-false _ _ (number-is-not-zero r) (ap (λ (a : Answer). a .number) (e ∙ w .rule))))
+      (λ m. e ∙ m .rule ∙ sym (ap (countRule k) (m .no-set))) whole-or-misfit
 
   pub record CountsOn (k end : ℕ) : Type 0 where
     pub on : start < end
@@ -102,8 +93,7 @@ module _ (set : List ℕ) (start : ℕ) (inside : start < length set) where
 
   pub sector-counts-on : (k end : ℕ) → accepted end ≡ endRule set start → CountsOn k end
   sector-counts-on k end e =
-      ⊎-elim
-      (λ w.
+      ⊎-elim (λ w.
       let here : end ≡ next = ap (λ (a : Answer). a .count) (e ∙ w .rule) in
       record {
         on = omega (arith, w .ends);

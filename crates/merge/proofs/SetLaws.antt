@@ -29,8 +29,7 @@ set-within-enough (suc m) (suc n) (a ∷ []) h k = refl
 set-within-enough (suc m) (suc n) (a ∷ b ∷ []) h k = refl
 set-within-enough (suc m) (suc n) (a ∷ b ∷ s ∷ rest) h k =
     let left : length (drop (sectorSize b) rest) ≤ length rest = rw length-drop (omega arith) in
-    ap
-    (λ (o : Option (List Sector)).
+    ap (λ (o : Option (List Sector)).
     cond (ltb 3 b || ltb (length rest) (sectorSize b)) none (withFirst (sectorOf a b s rest) o))
     (set-within-enough m n (drop (sectorSize b) rest) (omega arith) (omega arith))
 
@@ -50,20 +49,15 @@ set-of-two-bytes a b = refl
 pub set-of-sector
     : (number code sum : ℕ) (rest : List ℕ)
     → setOf (number ∷ code ∷ sum ∷ rest)
-    ≡ cond (ltb 3 code || ltb (length rest) (sectorSize code))
-    none
+    ≡ cond (ltb 3 code || ltb (length rest) (sectorSize code)) none
     (withFirst (sectorOf number code sum rest) (setOf (drop (sectorSize code) rest)))
 unfolding setOf setWithin
 set-of-sector number code sum rest =
     let left : length (drop (sectorSize code) rest) ≤ length rest = rw length-drop (omega arith) in
-    ap
-    (λ (o : Option (List Sector)).
+    ap (λ (o : Option (List Sector)).
     cond (ltb 3 code || ltb (length rest) (sectorSize code)) none (withFirst (sectorOf number code sum rest) o))
     (set-within-enough
-    (suc (suc (length rest)))
-    (length (drop (sectorSize code) rest))
-    (drop (sectorSize code) rest)
-    (omega arith)
+    (suc (suc (length rest))) (length (drop (sectorSize code) rest)) (drop (sectorSize code) rest) (omega arith)
     (omega arith))
 
 -- ---- at a place of a list
@@ -79,10 +73,8 @@ module _ (set : List ℕ) (start : ℕ) where
       let one : start + 1 ≡ suc start = omega arith in
       let two : start + 2 ≡ suc (suc start) = omega arith in
       let three : start + 3 ≡ suc (suc (suc start)) = omega arith in
-      rw (one, two, three)
-      (drop-cons set start 0 (omega arith)
-      ∙ ap (λ (l : List ℕ). getD set start 0 ∷ l)
-      (drop-cons set (suc start) 0 (omega arith)
+      rw (one, two, three) (drop-cons set start 0 (omega arith)
+      ∙ ap (λ (l : List ℕ). getD set start 0 ∷ l) (drop-cons set (suc start) 0 (omega arith)
       ∙ ap (λ (l : List ℕ). getD set (suc start) 0 ∷ l) (drop-cons set (suc (suc start)) 0 (omega arith))))
 
   sector-here
@@ -98,8 +90,7 @@ module _ (set : List ℕ) (start : ℕ) where
   pub set-from-place
       : start + 3 ≤ length set
       → setOf (drop start set)
-      ≡ cond (ltb 3 code || ltb (length set - start - 3) (sectorSize code))
-      none
+      ≡ cond (ltb 3 code || ltb (length set - start - 3) (sectorSize code)) none
       (withFirst (sectorAt set (start + 1)) (setOf (drop (start + 3 + sectorSize code) set)))
   set-from-place h =
       let left : length (drop (start + 3) set) ≡ length set - start - 3 = rw length-drop (omega arith) in
@@ -116,8 +107,7 @@ module _ (set : List ℕ) (start : ℕ) where
       by true e =
           let more = ltb-true (suc start) (length set) e in
           let last : length set ≤ suc (suc start) = omega arith in
-          ap (λ (l : List ℕ). setOf (getD set start 0 ∷ l))
-          (drop-cons set (suc start) 0 more
+          ap (λ (l : List ℕ). setOf (getD set start 0 ∷ l)) (drop-cons set (suc start) 0 more
           ∙ ap (λ (l : List ℕ). getD set (suc start) 0 ∷ l) (drop-of-length-le set last))
           ∙ set-of-two-bytes _ _
       by false e =

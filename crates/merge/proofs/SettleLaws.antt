@@ -39,8 +39,7 @@ module _ (first second : List Sector) where
       → Settles
       (roomRule first second (length old))
       (record { answer = accepted (length (merged first second)); stored = length (setBytes (merged first second)) })
-      (storedAt old 0 (setBytes (merged first second)))
-      old
+      (storedAt old 0 (setBytes (merged first second))) old
   unfolding roomRule
   room-is-filled old h =
       rw (le-ltb (length old) (length (setBytes (merged first second))) h)
@@ -52,10 +51,7 @@ module _ (first second : List Sector) where
       : (r : Refusal) (earlier later : Answer) (old : List ℕ)
       → refused (numberOf r) (placeOf r) ≡ earlier
       → Settles
-      (firstRefusal earlier later)
-      (record { answer = refused (numberOf r) (placeOf r); stored = 0 })
-      old
-      old
+      (firstRefusal earlier later) (record { answer = refused (numberOf r) (placeOf r); stored = 0 }) old old
   refusal-settles r earlier later old e =
       rw (sym (refusal-decides r earlier later e), number-is-not-zero r) (refl, refl)
 
@@ -86,8 +82,7 @@ pub merge-rule-in-steps
     ≡ mergeRule first second room
 unfolding setsRule checkedRule numbersRule mergeRule isCrowded
 merge-rule-in-steps first second room =
-    steps-are-the-rule
-    (isMisfitSet first || isMisfitSet second)
+    steps-are-the-rule (isMisfitSet first || isMisfitSet second)
     (ltb 32 (length (sectorsIn first)) || ltb 32 (length (sectorsIn second)))
     (ltb 32 (howMany (inEither (sectorsIn first) (sectorsIn second)) numbers))
     (anywhere (atOddsAt (sectorsIn first) (sectorsIn second)) numbers)
@@ -98,11 +93,8 @@ merge-rule-in-steps first second room =
 pub merge-settles
     : (first second : List ℕ) (answer : MergeAnswer) (new old : List ℕ)
     → Settles
-    (sectorsIn first)
-    (sectorsIn second)
-    (firstRefusal (setsRule first second) (checkedRule (sectorsIn first) (sectorsIn second) (length old)))
-    answer
-    new
+    (sectorsIn first) (sectorsIn second)
+    (firstRefusal (setsRule first second) (checkedRule (sectorsIn first) (sectorsIn second) (length old))) answer new
     old
     → (answer ≡ mergeAnswer first second (length old)) × (new ≡ mergeOutput first second old)
 unfolding mergeAnswer mergeOutput

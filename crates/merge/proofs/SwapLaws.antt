@@ -44,8 +44,7 @@ same-swaps (x ∷ xs) (y ∷ ys) = ap₂ _&&_ (equality-swaps x y) (same-swaps x
 disagreement-swaps : (a b : Sector) → disagree a b ≡ disagree b a
 unfolding disagree
 disagreement-swaps a b =
-    ap₂ _&&_
-    (and-swaps (a .holds) (b .holds))
+    ap₂ _&&_ (and-swaps (a .holds) (b .holds))
     (ap not (ap₂ _&&_ (equality-swaps (a .code) (b .code)) (same-swaps (a .bytes) (b .bytes))))
 
 pub odds-swap : (x y : Held) → atOdds x y ≡ atOdds y x

@@ -11,6 +11,7 @@ ghost use Rattle.merge.specs.Set.{asByte, sectorBytes, setBytes};
 ghost use Rattle.merge.specs.Merge.{taken, asList, atOdds};
 ghost use Rattle.merge.specs.Index.{sectorAt, endOf, shown, Within};
 use crate::choice::takes_second;
+use lists::copy;
 
 fn entry_size(set: &[u8], entry: u16) -> usize
     requires { ⌜ Within (now set) entry × (entry ≡ 65535 → ⊥) ⌝ }
@@ -38,17 +39,6 @@ pub fn taken_size(first: &[u8], a: u16, second: &[u8], b: u16) -> usize
     entry_size(first, a)
 }
 
-fn copy(bytes: &[u8], out: &mut [u8], start: usize)
-    requires { ⌜ start + length (now bytes) ≤ length (now out) ⌝ }
-    ensures { λ _. ⌜ now (out .exit) ≡ storedAt (now (out .entry)) start (now (bytes .entry)) ⌝ }
-{
-    let mut k: usize = 0;
-    while k < bytes.len() {
-        out[start + k] = bytes[k];
-        k += 1;
-    }
-}
-
 fn sum_byte(sum: u8) -> u8
     ensures { λ r. ⌜ r ≡ asByte (not (eqb sum 0)) ⌝ }
 {
@@ -74,7 +64,7 @@ fn put_sector(set: &[u8], code: usize, out: &mut [u8], start: usize) -> usize
     out[start + 2] = sum_byte(set[code + 1]);
     let data = code + 2;
     let end = data + size;
-    copy(&set[data..end], out, start + 3);
+    copy(&set[data..end], start + 3, out);
     start + 3 + size
 }
 

@@ -87,8 +87,7 @@ pub filler-classes
 unfolding classOfUnits
 filler-classes b n ws xs no-gap h =
     sym (classes-of-cells xs)
-    ∙ ap (map classOfUnits)
-    (filler-is-read b n (replicate 11 0x00 ++ ws) xs no-gap h
+    ∙ ap (map classOfUnits) (filler-is-read b n (replicate 11 0x00 ++ ws) xs no-gap h
     ∙ ap (λ (us : List ℕ). fillerAfter b n ++ (replicate 7 2 ++ us)) (cells-of-zero-bytes 11 ws))
     ∙ map-append classOfUnits (fillerAfter b n) _
     ∙ ap (λ (cs : List Class). fillerClasses b n ++ cs) (classes-after (replicate 95 2) ws)
@@ -122,8 +121,7 @@ module _ (p : Profile) (ds : List ℕ) (front rest : List Class) (m : ℕ) where
     last-is-two : getD (classesOf p ds) (length front + m) Narrow ≡ Two
     last-is-two =
         let long = run-length in
-        rw h
-        (List·getD-append (front ++ run) rest Narrow (length front + m) (omega arith)
+        rw h (List·getD-append (front ++ run) rest Narrow (length front + m) (omega arith)
         ∙ getD-append-add front run m Narrow
         ∙ getD-replicate (suc m) m Two Narrow (omega arith))
 

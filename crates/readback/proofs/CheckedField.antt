@@ -57,8 +57,7 @@ module _ (ws : List ℕ) where
       let long = checked-length in
       let in-range : outside 1 1030 (length us) ≡ false =
       rw (le-ltb (length us) 1 (omega arith), le-ltb 1030 (length us) (omega arith)) in
-      rw (← long ∙ count)
-      (record {
+      rw (← long ∙ count) (record {
         count = refl;
         answer = λ room h. written-field-is-read us vs xs reads all p ds accepts same in-range room h ∙ rw zero-after;
         output = written-field-is-stored us vs xs reads all p ds accepts same in-range;

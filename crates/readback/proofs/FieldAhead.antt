@@ -96,8 +96,7 @@ module _
     first-lock : lockFrom (classesOf p (drop start changed)) 0 ≡ accepted on
     first-lock =
         let (rest-classes, mark) = mark-classes _ in
-        ap (λ (cs : List Class). lockFrom cs 0)
-        (ahead .classes
+        ap (λ (cs : List Class). lockFrom cs 0) (ahead .classes
         ∙ ap (λ (n : ℕ). ahead .filler ++ (replicate n Two ++ classesFor (field ++ rest))) run-is
         ∙ ap (λ (cs : List Class). ahead .filler ++ (replicate run Two ++ cs)) mark)
         ∙ lock-after-filler (ahead .filler) (ahead .more) rest-classes (ahead .no-run)

@@ -78,8 +78,7 @@ no-mark-in-item
     : (c : Check) (n : ℕ) → c .register < 0x10000 → isMark n ≡ false → anywhere isMark (itemBytes c n) ≡ false
 unfolding anywhere
 no-mark-in-item c n bound e =
-    ⊎-elim
-    (λ check.
+    ⊎-elim (λ check.
     let r : ℕ = c .register in
     rw (item-bytes-of-check c n check)
     (rw (data-is-no-mark (highByte r) (high-byte-bound r bound), data-is-no-mark (lowByte r) (low-byte-bound r))))
@@ -92,8 +91,7 @@ no-mark-from
     → anywhere isMark (writtenFrom c ns) ≡ false
 no-mark-from c [] bound e = cc (written-from-none c, anywhere-of-none isMark)
 no-mark-from c (n ∷ ns) bound e =
-    rw (written-from-item c n ns)
-    (anywhere-of-append isMark (itemBytes c n) (writtenFrom (afterItem c n) ns)
+    rw (written-from-item c n ns) (anywhere-of-append isMark (itemBytes c n) (writtenFrom (afterItem c n) ns)
     ∙ rw (
       no-mark-in-item c n bound (nowhere-fails-at-first isMark n ns e),
       no-mark-from (afterItem c n) ns (after-item-bound c n bound) (nowhere-in-rest isMark n ns e),
@@ -114,8 +112,7 @@ module _ (p : Profile) (accepts : AcceptedProfile p) (items : List ℕ) (data-al
     none-stands : (start k : ℕ) → lockAt (classesOf p (drop start changed)) k ≡ false
     unfolding readBits
     none-stands start k =
-        rw (classes-of-drop p start changed, classes-are)
-        (no-lock-without-gap O (cells (written items))
+        rw (classes-of-drop p start changed, classes-are) (no-lock-without-gap O (cells (written items))
         (data-is-read-without-gap (written items) (written-has-no-mark items (data-alone .no-marks))) start k)
 
     moved-has-no-lock : NoLock p changed

@@ -122,8 +122,7 @@ pub place-is
 place-is p changed us ws k whole there within =
     let cs : List Class = classesOf p changed in
     let long = classes-length p changed in
-    place-after-zero us ws (take k cs)
-    (sym whole
+    place-after-zero us ws (take k cs) (sym whole
     ∙ sym (take-append-drop k cs)
     ∙ ap (λ (rest : List Class). take k cs ++ rest) (sym (classes-of-drop p k changed) ∙ there))
     ∙ length-take-le k cs (omega arith)

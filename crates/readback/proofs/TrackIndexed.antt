@@ -63,8 +63,7 @@ sector-then
     → before ++ (replicate 12 0x00 ++ fromId s rest) ≡ (before ++ written (itemsOfSector s)) ++ rest
 unfolding idField dataField
 sector-then s makes before rest =
-    ap (λ (us : List ℕ). before ++ us)
-    (sym
+    ap (λ (us : List ℕ). before ++ us) (sym
     (ap (λ (us : List ℕ). us ++ rest)
     (sector-written (s .track) (s .side) (s .sector) (s .code) (s .bytes) (made-of s makes))
     ∙ simp append-assoc))

@@ -95,7 +95,6 @@ two-byte-formula-is-fed-twice r high low hr hh hl =
     let bound : bitXor (bitXor r (high * 256)) low < 0x10000 =
     xor-lt 16 (bitXor r (high * 256)) low first (omega arith) in
     let whole : high * 256 % 0x10000 ≡ high * 256 = omega arith in
-    rw whole
-    (sym (two-moved-out top bound)
+    rw whole (sym (two-moved-out top bound)
     ∙ ap (shiftedBy 16) (omega arith)
     ∙ sym (fed-twice-is-sixteen-steps r high low hr hh hl))

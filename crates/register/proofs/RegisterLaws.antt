@@ -33,8 +33,7 @@ shifted-bound =
 -- both cases as one sum
 shifted-is-sum : (r : ℕ) → r < 0x10000 → shifted r ≡ bitXor (r * 2 % 0x10000) (r / 0x8000 * polynomial)
 shifted-is-sum =
-    by-top (λ (r : ℕ). r < 0x10000 → shifted r ≡ bitXor (r * 2 % 0x10000) (r / 0x8000 * polynomial))
-    (λ r h k.
+    by-top (λ (r : ℕ). r < 0x10000 → shifted r ≡ bitXor (r * 2 % 0x10000) (r / 0x8000 * polynomial)) (λ r h k.
     let moved : r * 2 % 0x10000 ≡ r * 2 = omega arith in
     let none : r / 0x8000 * polynomial ≡ 0 = omega arith in
     shifted-below-top-is-double r h ∙ sym (ap₂ bitXor moved none ∙ xor-zero-r (r * 2)))
@@ -85,8 +84,7 @@ pub fed-is-top-and-low-byte : (r byte : ℕ) → r < 0x10000 → byte < 256
 unfolding fed
 fed-is-top-and-low-byte r byte hr hb =
     let top : bitXor (r / 256) byte < 256 = xor-lt 8 (r / 256) byte (omega arith) hb in
-    ap (shiftedBy 8)
-    (ap₂ bitXor (sym (div-add-mod' r 256)) (sym (add-zero (byte * 256)))
+    ap (shiftedBy 8) (ap₂ bitXor (sym (div-add-mod' r 256)) (sym (add-zero (byte * 256)))
     ∙ xor-block 8 (r / 256) byte (r % 256) 0 (omega arith) (omega arith)
     ∙ ap (λ (low : ℕ). bitXor (r / 256) byte * 256 + low) (xor-zero-r (r % 256))
     ∙ sym (xor-shifted (bitXor (r / 256) byte) 8 (r % 256) (omega arith)))

@@ -22,8 +22,7 @@ xor-assoc-of-digits (suc (suc x)) y z hx hy hz = absurd (omega arith)
 
 pub xor-assoc : (a b c : ℕ) → bitXor (bitXor a b) c ≡ bitXor a (bitXor b c)
 xor-assoc a =
-    bin-ind (λ (n : ℕ). (b c : ℕ) → bitXor (bitXor n b) c ≡ bitXor n (bitXor b c)) (λ b c. refl)
-    (λ n ih b c.
+    bin-ind (λ (n : ℕ). (b c : ℕ) → bitXor (bitXor n b) c ≡ bitXor n (bitXor b c)) (λ b c. refl) (λ n ih b c.
     xor-halves (bitXor n b) c
     ∙ ap₂ (λ (q r : ℕ). bitXor q (c / 2) * 2 + bitXor r (c % 2)) (xor-shr n b 1) (xor-mod n b 1)
     ∙ ap₂ (λ (q r : ℕ). q * 2 + r) (ih (b / 2) (c / 2))

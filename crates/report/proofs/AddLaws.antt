@@ -29,13 +29,11 @@ same-row p q r s = cc
 module _ (a b : Row) where
   pub add-row-comm : addRow a b ≡ addRow b a
   add-row-comm =
-      by-count a
-      (λ e.
+      by-count a (λ e.
       by-count b (λ f. two-empty-rows a b e f ∙ sym (two-empty-rows b a f e))
       (λ f. first-row-is-empty a b e f ∙ sym (second-row-is-empty b a f e)))
       (λ e.
-      by-count b (λ f. second-row-is-empty a b e f ∙ sym (first-row-is-empty b a f e))
-      (λ f.
+      by-count b (λ f. second-row-is-empty a b e f ∙ sym (first-row-is-empty b a f e)) (λ f.
       no-row-is-empty a b e f
       ∙ same-row (add-comm _ _) (min-comm _ _) (max-comm _ _) (add-comm _ _)
       ∙ sym (no-row-is-empty b a f e)))
@@ -48,15 +46,12 @@ module _ (a b : Row) where
 module _ (a b c : Row) where
   first-of-three-is-empty : countIn a ≡ 0 → addRow (addRow a b) c ≡ addRow a (addRow b c)
   first-of-three-is-empty e =
-      by-count b
-      (λ f.
-      by-count c
-      (λ g.
+      by-count b (λ f.
+      by-count c (λ g.
       rw (two-empty-rows a b e f)
       (cc (two-empty-rows noRow c refl g, two-empty-rows a noRow e refl, two-empty-rows b c f g)))
       (λ g.
-      rw (two-empty-rows a b e f)
-      (first-row-is-empty noRow c refl g
+      rw (two-empty-rows a b e f) (first-row-is-empty noRow c refl g
       ∙ sym (first-row-is-empty a c e g)
       ∙ ap (addRow a) (sym (first-row-is-empty b c f g)))))
       (λ f. cc (first-row-is-empty a b e f, first-row-is-empty a (addRow b c) e (added-row-is-not-empty b c f)))
@@ -82,12 +77,9 @@ module _ (a b c : Row) where
 
   pub add-row-assoc : addRow (addRow a b) c ≡ addRow a (addRow b c)
   add-row-assoc =
-      by-count a first-of-three-is-empty
-      (λ e.
-      by-count b (second-of-three-is-empty e)
-      (λ f.
-      by-count c
-      (λ g.
+      by-count a first-of-three-is-empty (λ e.
+      by-count b (second-of-three-is-empty e) (λ f.
+      by-count c (λ g.
       second-row-is-empty (addRow a b) c (added-row-is-not-empty a b e) g
       ∙ ap (addRow a) (sym (second-row-is-empty b c f g))) (none-of-three-is-empty e f)))
 
@@ -121,8 +113,7 @@ add-reports-assoc a b c =
 -- a part of a sum that fits, fits
 part-fits : (a b : Row) → (countIn b ≡ 0 → ⊥) → isOverlarge (addRow a b) ≡ false → isOverlarge b ≡ false
 part-fits a b f fits =
-    by-count a (λ e. cc (first-row-is-empty a b e f))
-    (λ e.
+    by-count a (λ e. cc (first-row-is-empty a b e f)) (λ e.
     let both = fitting-row (bothAdded a b) (cc (no-row-is-empty a b e f)) in row-fits b (omega arith) (omega arith))
 
 pub later-rows-fit
@@ -131,8 +122,7 @@ pub later-rows-fit
     → isOverlarge (addRow (addRow a b) c) ≡ false
     → isOverlarge (addRow b c) ≡ false
 later-rows-fit a b c first whole =
-    by-count b
-    (λ f.
+    by-count b (λ f.
     by-count c (λ g. ap isOverlarge (two-empty-rows b c f g) ∙ row-fits noRow (omega arith) (omega arith))
     (λ g. ap isOverlarge (first-row-is-empty b c f g) ∙ part-fits (addRow a b) c g whole))
     (λ f. part-fits a (addRow b c) (added-row-is-not-empty b c f) (cc (add-row-assoc a b c)))

@@ -44,8 +44,7 @@ module _ (a b c : Report) (first : addRule a b .number ≡ 0) (whole : addRule (
   whole-row
       : (k : ℕ) → k < 5 → isOverlarge (addRow (addRow (rowAt a k) (rowAt b k)) (rowAt c k)) ≡ false
   whole-row k h =
-      rw (row-of-sum a b k h)
-      (row-of-sum-fits (addReports a b) c k h
+      rw (row-of-sum a b k h) (row-of-sum-fits (addReports a b) c k h
       (ap (λ (r : Report). addRule r c .number) (sym (added-if-accepted a b first)) ∙ whole))
 
   later : addRule b c .number ≡ 0

@@ -152,9 +152,7 @@ module _ (p : Profile) (margin : ℕ) (stream : List ℕ) where
       → length stream ≤ 4098
       → ((i : ℕ) → getD stream i 0 < 65536)
       → length (lineOf (ascii "margin") (margin ∷ []))
-      + length (streamText p stream)
-      + length (lineOf (ascii "end") (length stream ∷ []))
-      ≤ outputLength
+      + length (streamText p stream) + length (lineOf (ascii "end") (length stream ∷ [])) ≤ outputLength
   unfolding streamText
   report-fits h few fits =
       omega (
@@ -168,8 +166,7 @@ module _ (p : Profile) (margin : ℕ) (stream : List ℕ) where
 
   pub report-length :
       length (reportText p margin stream)
-      ≡ length (lineOf (ascii "margin") (margin ∷ []))
-      + length (streamText p stream)
+      ≡ length (lineOf (ascii "margin") (margin ∷ [])) + length (streamText p stream)
       + length (lineOf (ascii "end") (length stream ∷ []))
   unfolding reportText
   report-length = simp length-append
@@ -178,12 +175,10 @@ module _ (p : Profile) (margin : ℕ) (stream : List ℕ) where
       → cells ≡ 0 + length (lineOf (ascii "margin") (margin ∷ []))
       → end ≡ cells + length (streamText p stream)
       → storedAt
-      (storedAt (storedAt out 0 (lineOf (ascii "margin") (margin ∷ []))) cells (streamText p stream))
-      end
+      (storedAt (storedAt out 0 (lineOf (ascii "margin") (margin ∷ []))) cells (streamText p stream)) end
       (lineOf (ascii "end") (length stream ∷ []))
       ≡ storedAt out 0 (reportText p margin stream)
   unfolding reportText
   report-stored out cells end e k =
-      rw (stored-after-stored _ _ out 0 cells e)
-      (stored-after-stored _ _ out 0 end
+      rw (stored-after-stored _ _ out 0 cells e) (stored-after-stored _ _ out 0 end
       (omega (arith, length-append (lineOf (ascii "margin") (margin ∷ [])) (streamText p stream))))

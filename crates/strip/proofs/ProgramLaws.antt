@@ -91,8 +91,7 @@ module _ (p : Profile) (items : List ℕ) (h : writtenBytes items ≤ 512) where
         let true-profile = first-refusal-accepts (profileRule p) _ (sym (ap (λ (a : Answer). a .number) e)) in
         let short = refuse-if-accepts (ltb 512 (writtenBytes items)) 3 0 _ (true-profile .1) in
         let listed = first-refusal-accepts (listRule items) (accepted (length (streamOf p items))) (short .1) in
-        ap (λ (a : Answer). a .count)
-        (e
+        ap (λ (a : Answer). a .count) (e
         ∙ first-refusal-passes (profileRule p) _ (true-profile .0)
         ∙ refuse-if-passes (ltb 512 (writtenBytes items)) 4 0 _ (short .0)
         ∙ first-refusal-passes (listRule items) (accepted (length (streamOf p items))) (listed .0))

@@ -83,8 +83,7 @@ module _ (m : Reading) (cs : List Cell) (r : Reads m cs) where
   pub reads-ragged : isRagged (readBits cs) ≡ not (eqb (m .held) 4)
   reads-ragged =
       ragged-by-units cs
-      ∙ ap not
-      (same-test (unitsIn cs % 16) 4 (m .held) 4 (λ e. omega (arith, counts .held, counts .few))
+      ∙ ap not (same-test (unitsIn cs % 16) 4 (m .held) 4 (λ e. omega (arith, counts .held, counts .few))
       (λ e. rw (sym (counts .held)) (omega arith)))
 
   pub reads-bytes : m .held ≡ 4 → bytesRead (readBits cs) ≡ m .words
@@ -149,8 +148,7 @@ module _ (m : Reading) (cs : List Cell) (so-far : Held m cs) where
   last-gap (I ∷ []) e few =
       let held = held-by-letters in
       let none =
-      no-gap-before-one a
-      (subst (λ (l : List Bit). T (sound a l)) e
+      no-gap-before-one a (subst (λ (l : List Bit). T (sound a l)) e
       (sound-rest O (o .lead ∷ o .before) (o .rest)
       (subst (λ (l : List Bit). T (sound O l)) (o .letters) (read-is-sound cs)))) in
       rw (none, ne-eqb (m .held) 4 (λ h. omega (arith, ap length e, ap digit (last-letter (I ∷ []) e))))
@@ -164,8 +162,7 @@ module _ (m : Reading) (cs : List Cell) (so-far : Held m cs) where
   open-stray : m .held ≤ 4 → strayNow m ≡ isStray (readBits cs)
   unfolding isStray anywhere
   open-stray few =
-      sym
-      (ap (anywhere passed) (open-strays few)
+      sym (ap (anywhere passed) (open-strays few)
       ∙ anywhere-of-append passed (o .front) (endsInGap m ∷ [])
       ∙ ap (λ (t : Bool). anywhere passed (o .front) || t) (or-false (endsInGap m))
       ∙ ap (λ (t : Bool). t || endsInGap m) (sym (o .stray)))
@@ -233,8 +230,7 @@ rule-of-reads m cs r =
     let ragged = reads-ragged m cs r in
     let four : isRagged (readBits cs) ≡ false → m .held ≡ 4 =
     (λ h. eqb-true (m .held) 4 (not-false _ (sym ragged ∙ h))) in
-    rw (← ragged)
-    (same-rule (isRagged (readBits cs)) (isStray (readBits cs)) (strayNow m) (strayPlace cs)
+    rw (← ragged) (same-rule (isRagged (readBits cs)) (isStray (readBits cs)) (strayNow m) (strayPlace cs)
     (placeNow m (length cs - 1)) (bytesRead (readBits cs)) (m .words)
     (λ h. let held = four h in (reads-bytes m cs r held, sym (reads-stray m cs r (omega arith))))
     (λ h s. let held = four h in sym (reads-place m cs r (omega arith) s)))

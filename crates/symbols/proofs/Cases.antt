@@ -28,8 +28,7 @@ settled-cells = refl
 
 -- no cell; a lead and a closing 0; a gap on the lead 0; a gap in a byte 00, at the cell that gave it
 settled-strips :
-    map stripRule
-    ([]
+    map stripRule ([]
     ∷ (Short ∷ Short ∷ [])
     ∷ (Long ∷ [])
     ∷ (Short ∷ Short ∷ Long ∷ Short ∷ Short ∷ Short ∷ Short ∷ Short ∷ Short ∷ [])

@@ -39,12 +39,8 @@ either-order false false = refl
 
 -- m has a word whole: of the letters that are left the first eight are its row
 module _
-    (m : Reading)
-    (cs : List Cell)
-    (o : Open m cs)
-    (range : (17 ≤ m .held) × (m .held ≤ 20))
-    (room : length cs ≤ 2 ^ 32)
-    (rows : (8 ≤ length (o .rest)) × (length (o .rest) < 16))
+    (m : Reading) (cs : List Cell) (o : Open m cs) (range : (17 ≤ m .held) × (m .held ≤ 20))
+    (room : length cs ≤ 2 ^ 32) (rows : (8 ≤ length (o .rest)) × (length (o .rest) < 16))
   where
     abbrev lead : Bit
     lead = o .lead
@@ -123,8 +119,7 @@ module _
     pub verdict : Verdict a row
     unfolding lastOf
     verdict =
-        word-verdict a row eight
-        (sound-front a row rest
+        word-verdict a row eight (sound-front a row rest
         (sound-rest O (lead ∷ before) (row ++ rest) (rw letters at (read-is-sound cs))))
 
     -- The gaps that it shows
@@ -193,8 +188,7 @@ module _
     lowest-grown :
         (s t : Bool) → m .stray ≡ s → misfits (wordOf m) ≡ t → (t || s) ≡ true
         → cond (t && not s)
-        (firstOfCells (length cs - 1) (cellsSince (m .bits) (surplus m) (missing (wordOf m))))
-        (m .place)
+        (firstOfCells (length cs - 1) (cellsSince (m .bits) (surplus m) (missing (wordOf m)))) (m .place)
         ≡ getD (sources cs) (lowest passed (front ++ tests)) 0
     lowest-grown true true es et h = rw (lowest-in-front passed front tests (sym (o .stray) ∙ es)) (o .place es)
     lowest-grown true false es et h = rw (lowest-in-front passed front tests (sym (o .stray) ∙ es)) (o .place es)

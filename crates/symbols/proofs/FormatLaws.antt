@@ -22,8 +22,7 @@ pub cells-of-zero-bytes : (n : ℕ) (ws : List ℕ)
 cells-of-zero-bytes zero ws = refl
 cells-of-zero-bytes (suc n) ws =
     let eight : 8 * suc n ≡ suc (suc (suc (suc (suc (suc (suc (suc (8 * n)))))))) = omega arith in
-    rw eight
-    (cells-of-zero-byte (replicate n 0x00 ++ ws)
+    rw eight (cells-of-zero-byte (replicate n 0x00 ++ ws)
     ∙ ap (λ (us : List ℕ). 2 ∷ 2 ∷ 2 ∷ 2 ∷ 2 ∷ 2 ∷ 2 ∷ 2 ∷ us) (cells-of-zero-bytes n ws))
 
 -- a mark A1

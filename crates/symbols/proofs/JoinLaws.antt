@@ -31,13 +31,11 @@ join-then-shift w b p h u r e f some small =
     let inner : bitOr (b * 2 ^ h % 2 ^ w) p % 2 ^ r ≡ bitOr x p =
     or-mod (b * 2 ^ h % 2 ^ w) p r
     ∙ ap₂ bitOr (ap (λ (k : ℕ). b * 2 ^ h % 2 ^ k % 2 ^ r) e ∙ low-of-low (b * 2 ^ h) u r) (mod-eq-of-lt small) in
-    ap₂ bitOr
-    (ap (λ (z : ℕ). z % 2 ^ w) more ∙ shifted-out w (b * 2 ^ h) r u f ∙ sym (add-zero (x * 2 ^ u)))
+    ap₂ bitOr (ap (λ (z : ℕ). z % 2 ^ w) more ∙ shifted-out w (b * 2 ^ h) r u f ∙ sym (add-zero (x * 2 ^ u)))
     (ap (λ (z : ℕ). bitOr z 1) (shifted-out w p r u f ∙ ap (λ (z : ℕ). z * 2 ^ u) (mod-eq-of-lt small))
     ∙ or-shifted p u 1 one)
     ∙ or-block u x p 0 1 (pow-pos u) one
-    ∙ sym
-    (ap (λ (z : ℕ). bitOr z 1)
+    ∙ sym (ap (λ (z : ℕ). bitOr z 1)
     (shifted-out w (bitOr (b * 2 ^ h % 2 ^ w) p) r u f ∙ ap (λ (z : ℕ). z * 2 ^ u) inner)
     ∙ or-shifted (bitOr x p) u 1 one)
 
@@ -75,10 +73,8 @@ module _ (m p : Reading) (u : ℕ) (some : 2 ≤ u) (few : u ≤ 4) (small : Bou
       let alone : p .held % 32 ≡ p .held = omega arith in
       let held : (m .held + (p .held + u) % 2 ^ 32) % 2 ^ 32 ≡ ((m .held + p .held) % 2 ^ 32 + u) % 2 ^ 32 =
       counted (m .held) (p .held) u in
-      rw (by, apart, alone)
-      (ap₂ (holding m)
-      (join-then-shift 32 (m .bits) (p .bits) (p .held) u (32 - u) (in-two .0) (in-two .1) (in-two .2) below)
-      held)
+      rw (by, apart, alone) (ap₂ (holding m)
+      (join-then-shift 32 (m .bits) (p .bits) (p .held) u (32 - u) (in-two .0) (in-two .1) (in-two .2) below) held)
 
 join-of-all
     : (us : List ℕ) (m p : Reading)
@@ -116,6 +112,5 @@ join-is-shift (u ∷ us) m cells some-cell few-cells =
     let few = cells .1 in
     let held = held-by-shift emptyReading u (omega arith) in
     join-of-all us m (shifted emptyReading u) (cells .2)
-    (bounded-by-shift m emptyReading u some few (omega arith) (omega arith))
-    (omega (arith, held))
+    (bounded-by-shift m emptyReading u some few (omega arith) (omega arith)) (omega (arith, held))
     ∙ ap (λ (r : Reading). shiftedAll r us) (join-of-one m u)

@@ -90,8 +90,7 @@ word-of-digits n a row tail j e eight room =
     number-shifts n cells ∙ ap (λ (k : ℕ). n * 2 ^ k + numberFrom 0 cells) sixteen in
     let small : numberFrom 0 cells < 2 ^ 16 = rw sixteen at (number-fits cells) in
     ap (λ (k : ℕ). all % 2 ^ k / 2 ^ t % 2 ^ 17) (sym room)
-    ∙ ap (λ (x : ℕ). x % 2 ^ 17)
-    (field all (j + 17) t ∙ ap (λ (x : ℕ). x / 2 ^ t % 2 ^ (j + 17)) above
+    ∙ ap (λ (x : ℕ). x % 2 ^ 17) (field all (j + 17) t ∙ ap (λ (x : ℕ). x / 2 ^ t % 2 ^ (j + 17)) above
     ∙ ap (λ (x : ℕ). x % 2 ^ (j + 17)) (high w t (number-fits tail)))
     ∙ mod-mod-pow w j 17
     ∙ mod-pow-add w 1 16

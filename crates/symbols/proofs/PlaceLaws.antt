@@ -97,8 +97,7 @@ strays-append (r ∷ rs) ss = rw (strays-append rs ss, append-assoc)
 pub strays-length : (xs : List Bit) → length xs % 8 ≡ 0 → length (straysOf (rowsOf xs)) ≡ length xs
 unfolding rowsOf straysOf rowStrays straysFrom
 strays-length =
-    by-rows (λ xs. length xs % 8 ≡ 0 → length (straysOf (rowsOf xs)) ≡ length xs)
-    (λ xs n e. rw (none-of-few xs n e))
+    by-rows (λ xs. length xs % 8 ≡ 0 → length (straysOf (rowsOf xs)) ≡ length xs) (λ xs n e. rw (none-of-few xs n e))
     (λ a b c d e f g h xs more n. let l = more (omega arith) in omega arith)
 
 -- The cells that gave the letters

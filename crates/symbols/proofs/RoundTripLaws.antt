@@ -123,9 +123,7 @@ zero-of I one gap = absurd (true≢false one)
 zero-of G one gap = absurd (true≢false gap)
 
 module _
-    (bs : List Bit)
-    (whole-bytes : isRagged (O ∷ bs) ≡ false)
-    (in-place : isStray (O ∷ bs) ≡ false)
+    (bs : List Bit) (whole-bytes : isRagged (O ∷ bs) ≡ false) (in-place : isStray (O ∷ bs) ≡ false)
     (no-gap : isGap (lastOf O bs) ≡ false)
   where
     ends : (not (eqb (length (O ∷ bs) % 8) 2) ≡ false) × (endsInOne (O ∷ bs) ≡ false)
@@ -163,8 +161,7 @@ accepted-letters :
 unfolding stripItems lastOf
 accepted-letters cs whole-bytes in-place =
     let lead = lead-is-zero cs whole-bytes in-place in
-    rw (lead .1)
-    (read-letters (lead .0) (rw (lead .1) at whole-bytes) (rw (lead .1) at in-place)
+    rw (lead .1) (read-letters (lead .0) (rw (lead .1) at whole-bytes) (rw (lead .1) at in-place)
     (rw (lead .1) at (last-is-no-gap cs)))
 
 pub write-of-read : (cs : List Cell) → stripRule cs .number ≡ 0 → Accepted cs

@@ -84,8 +84,7 @@ rowKept row =
     anywhere passed (rowStrays row) || (isByte (itemOf row) && sameBits (writtenBits (itemOf row)) row)
 
 all-rows-kept :
-    T
-    (overLetters λ a. overLetters λ b. overLetters λ c. overLetters λ d.
+    T (overLetters λ a. overLetters λ b. overLetters λ c. overLetters λ d.
     overLetters λ e. overLetters λ f. overLetters λ g. overLetters λ h.
     rowKept (a ∷ b ∷ c ∷ d ∷ e ∷ f ∷ g ∷ h ∷ []))
 unfolding overLetters rowKept sameBits sameBit itemOf anywhere rowStrays straysFrom gapInPlace numberFrom isByte

@@ -183,8 +183,7 @@ module _ (m : Reading) (cs : List Cell) (so-far : Held m cs) (room : length cs <
   place-kept h =
       let some = lowest-of-some passed (o .front) (sym (o .stray) ∙ h) in
       o .place h
-      ∙ sym
-      (source-kept cs c (lowest passed (o .front)) (omega (arith, front-length m cs o, letters-count m cs o)))
+      ∙ sym (source-kept cs c (lowest passed (o .front)) (omega (arith, front-length m cs o, letters-count m cs o)))
 
   grown : Open m₁ cs′
   unfolding shifted

@@ -81,9 +81,7 @@ tokens-of-data w s = at 128 (at 64 (at 32 (at 16 (at 8 (at 4 (at 2 (at 1 s))))))
 tokens-of-mark : {bs : List Bit} (w : ℕ) → T (isMark w) → Tokens bs → Tokens (markBits (w % 256) ++ bs)
 unfolding isMark markBits withGaps byteBits
 tokens-of-mark {bs} w m s =
-    either-of (eqb w 0x1a1) (eqb w 0x1c2) m
-    (λ e. rw (eqb→eq w 0x1a1 e) a1)
-    (λ e. rw (eqb→eq w 0x1c2 e) c2)
+    either-of (eqb w 0x1a1) (eqb w 0x1c2) m (λ e. rw (eqb→eq w 0x1a1 e) a1) (λ e. rw (eqb→eq w 0x1c2 e) c2)
   where
     a1 : Tokens (markBits 0xa1 ++ bs)
     a1 = one (zero (mark (one s)))

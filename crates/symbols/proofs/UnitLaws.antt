@@ -77,8 +77,7 @@ by-units l u h =
       | yes odd ↦ rw (eq-eqb (u % 2) 1 odd, ne-eqb (u % 16) 4 (λ e. omega arith)) (or-true (not (eqb (l % 8) 2)))
       | no even ↦
           let double : u ≡ 2 * l = omega arith in
-          rw (ne-eqb (u % 2) 1 even)
-          (or-false (not (eqb (l % 8) 2))
+          rw (ne-eqb (u % 2) 1 even) (or-false (not (eqb (l % 8) 2))
           ∙ ap not (same-test (l % 8) 2 (u % 16) 4 (four-of-sixteen l u double) (two-of-eight l u double)))
     ]
 

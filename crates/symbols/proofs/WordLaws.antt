@@ -39,8 +39,7 @@ rightWith gaps a row =
     let x = wordAfter a row in
     let tests = shownTests a row in
     let stray = not (eqb gaps 0) && not (isMarkWord x) in
-    sameBool (anywhere passed tests) stray
-    && (not stray || eqb (leadingZeros 32 gaps) (15 + 2 * lowest passed tests))
+    sameBool (anywhere passed tests) stray && (not stray || eqb (leadingZeros 32 gaps) (15 + 2 * lowest passed tests))
     && (stray || isGap (lastOf a row) || eqb (itemOf row) (candidate (x % 65536)))
 
 wordRight : Bit → List Bit → Bool
@@ -85,9 +84,7 @@ over-rows zero a f t (b ∷ row) n s = absurd (omega arith)
 over-rows (suc k) a f t [] n s = absurd (omega arith)
 over-rows (suc k) a f t (b ∷ row) n s =
     over-rows k b (λ row. f (b ∷ row))
-    (over-next a (λ b. overRows k b λ row. f (b ∷ row)) t b (left-of (follows a b) (sound b row) s))
-    row
-    (omega arith)
+    (over-next a (λ b. overRows k b λ row. f (b ∷ row)) t b (left-of (follows a b) (sound b row) s)) row (omega arith)
     (right-of (follows a b) (sound b row) s)
 
 pub record Verdict (a : Bit) (row : List Bit) : Type 0 where
@@ -159,5 +156,4 @@ unfolding rowStrays shownTests
 row-strays-end a [] n = absurd (omega arith)
 row-strays-end a (b ∷ bs) n =
     let e : length bs ≡ 7 = omega arith in
-    ap (λ (l : List Bool). isGap a ∷ l)
-    (rw e at (strays-end (numberFrom 0 (b ∷ bs)) 0 a b bs (omega arith)))
+    ap (λ (l : List Bool). isGap a ∷ l) (rw e at (strays-end (numberFrom 0 (b ∷ bs)) 0 a b bs (omega arith)))

@@ -42,8 +42,7 @@ pub byte-of-two : (field : List ℕ)
     → length field ≡ 2
     → byteRead field
     ≡ cond (isHexDigit (getD field 0 0) && isHexDigit (getD field 1 0))
-    (Value (hexDigit (getD field 0 0) * 16 + hexDigit (getD field 1 0)))
-    Malformed
+    (Value (hexDigit (getD field 0 0) * 16 + hexDigit (getD field 1 0))) Malformed
 unfolding byteRead isHexByte hexByte
 byte-of-two [] h = absurd (omega arith)
 byte-of-two (a ∷ []) h = absurd (omega arith)

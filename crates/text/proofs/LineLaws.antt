@@ -27,8 +27,7 @@ module _ (numbers : List ℕ) (i : ℕ) (h : i < length numbers) where
   pub fields-stored-next : (out : List ℕ) (end : ℕ)
       → storedAt
       (storedAt (set out end tab) (end + 1) (decimal (getD numbers i 0)))
-      (end + 1 + length (decimal (getD numbers i 0)))
-      (fieldsOf (drop (suc i) numbers))
+      (end + 1 + length (decimal (getD numbers i 0))) (fieldsOf (drop (suc i) numbers))
       ≡ storedAt out end (fieldsOf (drop i numbers))
   unfolding storedAt
   fields-stored-next out end =
@@ -54,8 +53,7 @@ module _ (word numbers : List ℕ) where
   pub line-stored : (out : List ℕ) (at : ℕ)
       → storedAt
       (storedAt (storedAt out at word) (at + length word) (fieldsOf numbers))
-      (at + length word + length (fieldsOf numbers))
-      (lineFeed ∷ [])
+      (at + length word + length (fieldsOf numbers)) (lineFeed ∷ [])
       ≡ storedAt out at (lineOf word numbers)
   unfolding lineOf
   line-stored out at =

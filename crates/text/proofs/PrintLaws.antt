@@ -37,8 +37,7 @@ pub decimal-of-more : (n : ℕ) → 10 ≤ n → decimal n ≡ decimal (n / 10) 
 unfolding decimal digitsOf
 decimal-of-more zero h = absurd (omega arith)
 decimal-of-more (suc n) h =
-    rw (le-ltb (suc n) 10 h)
-    (ap (λ (l : List ℕ). l ++ (digit (suc n % 10) ∷ []))
+    rw (le-ltb (suc n) 10 h) (ap (λ (l : List ℕ). l ++ (digit (suc n % 10) ∷ []))
     (digits-within n (suc n / 10) (suc n / 10) (omega arith) (omega arith)))
 
 pub decimal-length-of-digit : (n : ℕ) → n < 10 → length (decimal n) ≡ 1

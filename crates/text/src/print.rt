@@ -5,6 +5,7 @@ ghost use lib.ListN.{length};
 ghost use Rattle.lists.specs.Filled.{storedAt};
 ghost use Rattle.text.specs.Decimal.{decimal};
 ghost use Rattle.text.specs.Line.{fieldsOf, lineOf};
+use lists::copy;
 
 // A text as it is.
 fn append(out: &mut [u8], at: usize, text: &[u8]) -> usize
@@ -12,12 +13,8 @@ fn append(out: &mut [u8], at: usize, text: &[u8]) -> usize
     ensures { λ r. ⌜ r ≡ at + length (now (text .entry)) ⌝ }
     ensures { λ _. ⌜ now (out .exit) ≡ storedAt (now (out .entry)) at (now (text .entry)) ⌝ }
 {
-    let mut i = 0;
-    while i < text.len() {
-        out[at + i] = text[i];
-        i += 1;
-    }
-    at + i
+    copy(text, at, out);
+    at + text.len()
 }
 
 // A number as a decimal without leading zeros.

@@ -156,8 +156,7 @@ padded-more done e h =
     ∙ ap (λ (n : ℕ). (done ++ (e ∷ [])) ++ replicate n noEntry) left
 
 module _
-    {p : Profile} {ds : List ℕ} {entries : List Entry} {count start : ℕ}
-    (g : Gathered p ds entries count start)
+    {p : Profile} {ds : List ℕ} {entries : List Entry} {count start : ℕ} (g : Gathered p ds entries count start)
   where
     pub gathered-on : {next : ℕ} → Goes p ds start next [] → Gathered p ds entries count next
     gathered-on goes =

@@ -150,8 +150,7 @@ module _ (p : Profile) (ds : List ℕ) where
   same-searches zero (suc n) start a b = rw (none-past-end start (omega arith))
   same-searches (suc m) zero start a b = rw (none-past-end start (omega arith))
   same-searches (suc m) (suc n) start a b =
-      search-by (hasLock p ds start) (entriesAt p ds (lockPlace p ds start)) _ _
-      (λ e.
+      search-by (hasLock p ds start) (entriesAt p ds (lockPlace p ds start)) _ _ (λ e.
       let ahead = next-is-ahead start e in
       same-searches m n (nextStart p ds (lockPlace p ds start)) (omega arith) (omega arith))
 
@@ -186,8 +185,7 @@ module _ (p : Profile) (ds : List ℕ) where
       let some : length ds - start ≡ suc n = omega arith in
       ap (λ (m : ℕ). entriesBy p ds m start) some
       ∙ goes-on-by n _ e
-      ∙ ap (λ (rest : List Entry). entriesAt p ds k ++ rest)
-      (same-searches n _ _ (omega arith) (omega arith))
+      ∙ ap (λ (rest : List Entry). entriesAt p ds k ++ rest) (same-searches n _ _ (omega arith) (omega arith))
 
 pub tracks-go-by-locks : TracksGoByLocks
 tracks-go-by-locks p ds = record { goes-on = search-goes-on p ds; ends = search-ends p ds }

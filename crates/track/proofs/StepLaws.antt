@@ -72,8 +72,7 @@ module _ (p : Profile) (ds : List ℕ) where
     no-id-no-entry e = rw (no-id-means, add-one)
 
     module _
-        (track side sector code used : ℕ)
-        (e : Id track side sector code used ≡ idRead p (drop k ds))
+        (track side sector code used : ℕ) (e : Id track side sector code used ≡ idRead p (drop k ds))
       where
         id-used : used ≡ fieldOf p (drop k ds) 10 .used
         id-used = let same = id-means p _ _ _ _ _ _ e .1 in cc

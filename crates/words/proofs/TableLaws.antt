@@ -50,7 +50,6 @@ entry-is-word previous w not-A1 not-C2 =
     let k = previous % 2 * 256 + w % 256 in
     let bit : k / 256 % 2 ≡ previous % 2 = omega arith in
     let byte : k % 256 ≡ w % 256 = omega arith in
-    rw (ne-eqb w 0x1a1 not-A1, ne-eqb w 0x1c2 not-C2)
-    (entry-is-rule wordAt 512 k 0 (omega arith)
+    rw (ne-eqb w 0x1a1 not-A1, ne-eqb w 0x1c2 not-C2) (entry-is-rule wordAt 512 k 0 (omega arith)
     ∙ ap₂ (λ (b : ℕ) (v : ℕ). dataWord (cond (eqb b 1) I O) v) bit byte
     ∙ ap (λ (bits : List Bit). numberFrom 0 (clocked (lastBit previous) bits)) (bits-of-low-byte w))

@@ -161,13 +161,3 @@ fn read_through<const WORDS: usize>(
     let holds = u32::from(register_after(ALL_ONES, out) == 0);
     Ok(Answer { used: used as u64, holds, ..counted(bytes) })
 }
-
-/// The field reader's last step alone, for items that are ready: the items, whether the register is zero after them,
-/// and the least clearance of the used intervals.
-#[inline(never)]
-pub fn plain_rust_register(profile: Profile, used: &[u16], items: &[u16], out: &mut [u16]) -> Answer {
-    let Some(out) = out.get_mut(..items.len()) else { return refused(9, 0) };
-    out.copy_from_slice(items);
-    let holds = u32::from(register_after(ALL_ONES, items) == 0);
-    cleared(&profile, used, Answer { used: used.len() as u64, holds, ..counted(items.len() as u64) })
-}

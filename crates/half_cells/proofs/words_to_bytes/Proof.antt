@@ -53,14 +53,12 @@ returns : tie.Need-returns Inv-loop μ-loop
 returns c =
     let head = c .before .loop in
     let all : head .k ≡ length (head .words) = omega arith in
-    sym
-    (ap₂ _++_ (ap (λ (n : ℕ). take n (head .words)) all ∙ take-length (head .words))
+    sym (ap₂ _++_ (ap (λ (n : ℕ). take n (head .words)) all ∙ take-length (head .words))
     (ap (map candidate) (ap (λ (n : ℕ). drop n (head .words)) all ∙ drop-length (head .words)))
     ∙ append-nil (head .words))
     ∙ head .inv .2
 
 pub words-to-bytes-spec : {M : Type 1} → statement M
 words-to-bytes-spec =
-    tie.close
-    (tie.spec Inv-loop μ-loop loop-holds (λ c. omega arith) (λ c. omega arith) (λ c κs. search needs)
+    tie.close (tie.spec Inv-loop μ-loop loop-holds (λ c. omega arith) (λ c. omega arith) (λ c κs. search needs)
     (λ c. omega arith) (λ c. omega arith) (λ c. omega arith) loop-less loop-again same-length returns)

@@ -41,5 +41,4 @@ returns c =
 
 pub pass-over-spec : {M : Type 1} → statement M
 pass-over-spec =
-    tie.close
-    (tie.spec (λ c κs. search needs) pass-on-requires (λ c. search needs) returns)
+    tie.close (tie.spec (λ c κs. search needs) pass-on-requires (λ c. search needs) returns)

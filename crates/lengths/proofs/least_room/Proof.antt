@@ -40,7 +40,6 @@ returns c =
 
 pub least-room-spec : {M : Type 1} → statement M
 least-room-spec =
-    tie.close
-    (tie.spec (λ c κs. kept _ (c .pre) .ranges) add-three mul-four add-four (λ c κs. search needs)
+    tie.close (tie.spec (λ c κs. kept _ (c .pre) .ranges) add-three mul-four add-four (λ c κs. search needs)
     (λ c κs. search needs) add-room-in (λ c κs. search needs) add-room-in-2 (λ c κs. search needs)
     (λ c κs. search needs) (λ c κs. search needs) returns)

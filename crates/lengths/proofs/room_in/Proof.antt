@@ -6,6 +6,5 @@ use Rattle.lengths.proofs.room_in.Tie as tie
 
 pub room-in-spec : {M : Type 1} → statement M
 room-in-spec =
-    tie.close
-    (tie.spec (λ c κs. search needs) (λ c κs. search needs) (λ c κs. search needs) (λ c κs. search needs)
+    tie.close (tie.spec (λ c κs. search needs) (λ c κs. search needs) (λ c κs. search needs) (λ c κs. search needs)
     (λ c. search needs))

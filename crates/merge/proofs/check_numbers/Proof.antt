@@ -38,5 +38,4 @@ returns-3 c =
 
 pub check-numbers-spec : {M : Type 1} → statement M
 check-numbers-spec =
-    tie.close
-    (tie.spec (λ c κs. search needs) returns (λ c κs. search needs) (λ c. search needs) returns-2 returns-3)
+    tie.close (tie.spec (λ c κs. search needs) returns (λ c κs. search needs) (λ c. search needs) returns-2 returns-3)

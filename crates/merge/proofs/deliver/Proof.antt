@@ -18,10 +18,7 @@ merged-size-requires c κs =
 returns : tie.Need-returns
 returns c =
     let args = c .before .before .before .before .before .args in
-    no-room-is-refused
-    (sectorsIn (args .first .now))
-    (sectorsIn (args .second .now))
-    (args .out .now)
+    no-room-is-refused (sectorsIn (args .first .now)) (sectorsIn (args .second .now)) (args .out .now)
     (rw (c .before .merged-size .ensures) at (c .if1 .taken))
 
 write-merged-requires : tie.Need-write-merged-requires
@@ -41,10 +38,7 @@ returns-2 c =
     let first = sectorsIn (args .first .now) in
     let second = sectorsIn (args .second .now) in
     let filled =
-    room-is-filled
-    first
-    second
-    (args .out .now)
+    room-is-filled first second (args .out .now)
     (rw (sized .merged-size .ensures) at (c .before .before .before .before .if1 .left)) in
     let count = accepted-numbers first second (args .count) (start .pre .2) .1 in (
       ap₂ (λ (n m : ℕ). record { answer = accepted n; stored = m }) count (sized .merged-size .ensures) ∙ filled .0,

@@ -32,28 +32,14 @@ deliver-requires c κs =
 returns : tie.Need-returns
 unfolding checkedRule
 returns c =
-    refusal-settles
-    _
-    _
-    (c .before .refusal .given .0 .0)
-    _
-    _
-    _
+    refusal-settles _ _ (c .before .refusal .given .0 .0) _ _ _
     (sym (ap countedAnswer (c .before .refusal .given .1)) ∙ c .before .before .before .check-numbers .ensures)
 
 returns-2 : tie.Need-returns-2
 unfolding checkedRule
 returns-2 c =
     let counted = c .before .before .before .before .before .before .before in
-    acceptance-leaves
-    _
-    _
-    (counted .count .given .0 .0)
-    _
-    _
-    _
-    _
-    _
+    acceptance-leaves _ _ (counted .count .given .0 .0) _ _ _ _ _
     (sym (ap countedAnswer (counted .count .given .1)) ∙ counted .before .before .check-numbers .ensures)
     (c .before .before .deliver .ensures)
 

@@ -13,44 +13,18 @@ merge-checked-requires c κs =
 
 returns : tie.Need-returns
 returns c =
-    merge-settles
-    _
-    _
-    _
-    _
-    _
-    (refusal-settles
-    _
-    _
-    (c .before .refusal .given .0 .0)
-    _
-    _
-    _
+    merge-settles _ _ _ _ _ (refusal-settles
+    _ _ (c .before .refusal .given .0 .0) _ _ _
     (sym (ap verdictAnswer (c .before .refusal .given .1)) ∙ c .before .before .before .check-sets .ensures))
 
 returns-2 : tie.Need-returns-2
 returns-2 c =
     let told = c .before .before .before .before in
-    merge-settles
-    _
-    _
-    _
-    _
-    _
-    (acceptance-leaves
-    _
-    _
-    0
-    _
-    _
-    _
-    _
-    _
-    (sym (ap verdictAnswer (told .enum-told .given .1)) ∙ told .before .before .check-sets .ensures)
+    merge-settles _ _ _ _ _ (acceptance-leaves
+    _ _ 0 _ _ _ _ _ (sym (ap verdictAnswer (told .enum-told .given .1)) ∙ told .before .before .check-sets .ensures)
     (c .before .before .merge-checked .ensures))
 
 pub merge-sets-spec : {M : Type 1} → statement M
 merge-sets-spec =
-    tie.close
-    (tie.spec (λ c κs. search needs) (λ c. search needs) (λ c. search needs) merge-checked-requires returns
+    tie.close (tie.spec (λ c κs. search needs) (λ c. search needs) (λ c. search needs) merge-checked-requires returns
     (λ c. search needs) returns-2)

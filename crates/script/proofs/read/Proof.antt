@@ -38,8 +38,7 @@ slice-aggregate-read-profile : tie.Need-slice-aggregate-read-profile
 slice-aggregate-read-profile c =
     let found = c .before in
     let text = found .before .before .before .before .before .args .text .now in
-    sym
-    (length-take-le (found .before .find .result) text
+    sym (length-take-le (found .before .find .result) text
     (first-line-ends-in-text text (found .before .find .result) (found .before .before .if1 .left)
     (found .before .find .ensures)))
 
@@ -57,8 +56,7 @@ returns-3 c =
     let text = found .before .before .before .before .before .args .text .now in
     let faulty =
     faulty-is-no-profile-line _ (sym (c .before .before .read-profile .ensures) ∙ c .enum-told .given .1) in
-    script-refused _ _ _
-    (no-profile-is-refused text (found .before .find .result) (found .before .before .if1 .left)
+    script-refused _ _ _ (no-profile-is-refused text (found .before .find .result) (found .before .before .if1 .left)
     (found .before .find .ensures) (line-found found) faulty)
 
 returns-4 : tie.Need-returns-4
@@ -92,7 +90,6 @@ returns-5 c =
 
 pub read-spec : {M : Type 1} → statement M
 read-spec =
-    tie.close
-    (tie.spec returns (λ c κs. search needs) returns-2 slice-aggregate-read-profile (λ c κs. search needs)
+    tie.close (tie.spec returns (λ c κs. search needs) returns-2 slice-aggregate-read-profile (λ c κs. search needs)
     (λ c. search needs) (λ c. search needs) add-store-items store-items-requires (λ c. search needs)
     (λ c. search needs) returns-3 (λ c. search needs) returns-4 (λ c. search needs) returns-5)

@@ -23,6 +23,5 @@ returns-4 c =
 
 pub make-sector-spec : {M : Type 1} → statement M
 make-sector-spec =
-    tie.close
-    (tie.spec (λ c. code-above-3-settles _ _ _ _ _ _ (c .if1 .taken)) (λ c κs. search needs) returns-2
+    tie.close (tie.spec (λ c. code-above-3-settles _ _ _ _ _ _ (c .if1 .taken)) (λ c κs. search needs) returns-2
     (λ c. search needs) returns-3 (λ c κs. search needs) (λ c. search needs) returns-4)

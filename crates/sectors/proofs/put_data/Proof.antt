@@ -40,8 +40,7 @@ returns c =
 
 pub put-data-spec : {M : Type 1} → statement M
 put-data-spec =
-    tie.close
-    (tie.spec Inv-loop μ-loop (λ c. (omega arith, sym (stored-none _ _), refl)) (λ c. omega arith) cast-out
+    tie.close (tie.spec Inv-loop μ-loop (λ c. (omega arith, sym (stored-none _ _), refl)) (λ c. omega arith) cast-out
     (λ c. omega arith) (λ c. omega arith) (λ c. omega arith) (λ c. omega arith) (λ c. omega arith) loop-again
     (λ c. omega arith) (λ c. omega arith) (λ c. omega arith) (λ c. omega arith) (λ c. omega arith)
     (λ c. simp length-set (c .before .loop .inv .2)) returns)

@@ -20,9 +20,7 @@ loop-again c = (
   omega arith,
   cc
       (stored-repeats
-      (c .before .loop .k)
-      (c .before .before .args .item)
-      (c .before .before .args .at)
+      (c .before .loop .k) (c .before .before .args .item) (c .before .before .args .at)
       (c .before .before .args .out .now)),
   simp length-set (c .before .loop .inv .2),
 )

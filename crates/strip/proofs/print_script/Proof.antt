@@ -42,13 +42,11 @@ returns-2 c =
     let r = refusal .refusal .given .0 .0 in
     let rule =
     margin-refused (args .profile) r (sym (ap countedAnswer (refusal .refusal .given .1)) ∙ margin .margin .ensures) in
-    rw
-    (refused-script-text (args .profile) (args .items .now) r
+    rw (refused-script-text (args .profile) (args .items .now) r
     (profile-refuses-script (args .profile) (args .items .now) r rule)) (c .before .before .refuse .ensures)
 
 pub print-script-spec : {M : Type 1} → statement M
 print-script-spec =
-    tie.close
-    (tie.spec (λ c κs. search needs) (λ c. search needs) (λ c κs. search needs) (λ c. search needs)
+    tie.close (tie.spec (λ c κs. search needs) (λ c. search needs) (λ c κs. search needs) (λ c. search needs)
     (λ c κs. search needs) (λ c κs. search needs) (λ c. search needs) returns print-list-requires (λ c. search needs)
     returns-2 (λ c. search needs) (λ c. search needs))

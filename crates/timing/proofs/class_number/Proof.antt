@@ -19,14 +19,12 @@ unfolding classRule classOf
 returns-2 c =
     let checked = c .before .before .before in
     let interval = checked .before .before .before .args .interval in
-    ap accepted
-    (c .number .ensures
+    ap accepted (c .number .ensures
     ∙ ap (λ (s : Classed). classNumber (s .class)) (c .before .step .ensures)
     ∙ ap (λ (at : Cursor). classNumber (classIn at interval)) (c .before .before .start .ensures))
     ∙ verdict-passes _ _ _ (checked .before .before .check .ensures) (checked .enum-told .given .1)
 
 pub class-number-spec : {M : Type 1} → statement M
 class-number-spec =
-    tie.close
-    (tie.spec (λ c κs. search needs) (λ c. search needs) (λ c. search needs) (λ c κs. search needs)
+    tie.close (tie.spec (λ c κs. search needs) (λ c. search needs) (λ c. search needs) (λ c κs. search needs)
     (λ c κs. search needs) (λ c κs. search needs) returns returns-2)

@@ -21,8 +21,7 @@ module _ (start : Cursor) (ds : List ℕ) where
   pub none-met : Ascending start → 0 < length ds → Met (leastMet start 32767 32768 32767 32768) 0
   unfolding leastFrom
   none-met a some =
-      rw (clearances-here start ds 0 some)
-      (least-of-two _ _ _
+      rw (clearances-here start ds 0 some) (least-of-two _ _ _
       ∙ ap (λ (x : ℕ). least (x ∷ clearancesFrom start (drop 1 ds))) (first-met start (getD ds 0 0) a))
 
   pub one-more-met
@@ -32,8 +31,7 @@ module _ (start : Cursor) (ds : List ℕ) where
       → now ≡ min low (clearanceIn start (getD ds k 0))
       → Met now (k + 1)
   one-more-met low now k met h step =
-      rw (step, add-one k)
-      (sym (least-of-two low (clearanceIn start (getD ds k 0)) _)
+      rw (step, add-one k) (sym (least-of-two low (clearanceIn start (getD ds k 0)) _)
       ∙ ap (λ (xs : List ℕ). least (low ∷ xs)) (sym (clearances-here start ds k h))
       ∙ met)
 

@@ -74,8 +74,7 @@ returns-2 c =
     let found = c .before .before in
     let first = found .before .before in
     let entry = first .before .before .before in
-    rw (c .pass-one .ensures)
-    (behind-first-one _ _ _ (entry .pre) (first .if1 .left) _ (found .highest-one .ensures))
+    rw (c .pass-one .ensures) (behind-first-one _ _ _ (entry .pre) (first .if1 .left) _ (found .highest-one .ensures))
 
 returns-3 : tie.Need-returns-3
 returns-3 c =

@@ -147,7 +147,6 @@ returns c =
 
 pub draw-spec : {M : Type 1} → statement M
 draw-spec =
-    tie.close
-    (tie.spec Inv-loop μ-loop (λ c κs. c .before .pre .0) loop-holds highest-one-requires window-at-requires
+    tie.close (tie.spec Inv-loop μ-loop (λ c κs. c .before .pre .0) loop-holds highest-one-requires window-at-requires
     (λ c. omega (arith, small-window c)) (λ c. omega (arith, small-window c)) (λ c. small-window c) sub-out mul-out-2
     slice-write-out pass-one-requires loop-less loop-again add-t18 same-length returns)

@@ -82,7 +82,6 @@ returns-3 c =
 
 pub read-cells-spec : {M : Type 1} → statement M
 read-cells-spec =
-    tie.close
-    (tie.spec (λ c. search needs) (λ c. search needs) (λ c κs. search needs) last-place-requires
+    tie.close (tie.spec (λ c. search needs) (λ c. search needs) (λ c κs. search needs) last-place-requires
     (λ c κs. search needs) (λ c. search needs) (λ c. search needs) returns (λ c. search needs) (λ c κs. search needs)
     (λ c. search needs) slice-aggregate-words-to-bytes (λ c κs. search needs) returns-2 (λ c. search needs) returns-3)

@@ -31,6 +31,5 @@ returns c =
 
 pub read-strip-spec : {M : Type 1} → statement M
 read-strip-spec =
-    tie.close
-    (tie.spec (λ c κs. search needs) (λ c. search needs) (λ c. search needs) read-cells-requires returns
+    tie.close (tie.spec (λ c κs. search needs) (λ c. search needs) (λ c. search needs) read-cells-requires returns
     (λ c. search needs) (λ c. search needs))

@@ -31,9 +31,7 @@ returns c =
     ap (λ (d : Drawing). writing (record { pen = d .pen; previous = entry .args .second }) (d .out))
     (c .before .before .draw .ensures
     ∙ drawn-as-two (entry .args .table .now) s (entry .args .first) (entry .args .second) _ _ (high .made-word .ok)
-    (low .made-word2 .ok)
-    (high .made-word .ensures)
-    (low .made-word2 .ensures))
+    (low .made-word2 .ok) (high .made-word .ensures) (low .made-word2 .ensures))
 
 pub write-two-spec : {M : Type 1} → statement M
 write-two-spec =

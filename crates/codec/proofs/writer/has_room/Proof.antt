@@ -23,7 +23,6 @@ returns c =
 
 pub has-room-spec : {M : Type 1} → statement M
 has-room-spec =
-    tie.close
-    (tie.spec (λ c. omega (arith, listed _ (c .before .pre .0) .few-bytes))
+    tie.close (tie.spec (λ c. omega (arith, listed _ (c .before .pre .0) .few-bytes))
     (λ c. omega (arith, listed _ (c .before .pre .0) .few-bytes)) returns (λ c κs. search needs)
     (λ c. rw (c .count-cells .ensures)))

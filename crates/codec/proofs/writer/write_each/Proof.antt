@@ -93,6 +93,5 @@ returns c =
 
 pub write-each-spec : {M : Type 1} → statement M
 write-each-spec =
-    tie.close
-    (tie.spec Inv-loop μ-loop (λ c κs. search needs) (λ c κs. search needs) loop-holds (λ c. omega arith)
+    tie.close (tie.spec Inv-loop μ-loop (λ c κs. search needs) (λ c κs. search needs) loop-holds (λ c. omega arith)
     (λ c. omega arith) write-item-requires (λ c. omega arith) (λ c. omega arith) loop-again same-length returns)

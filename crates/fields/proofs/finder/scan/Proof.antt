@@ -111,8 +111,7 @@ scan-less-2 c = omega (arith, c .before .before .before .pass-run .ensures .low)
 
 pub scan-spec : {M : Type 1} → statement M
 scan-spec =
-    tie.close
-    (tie.spec Inv-loop μ-loop Inv-scan μ-scan scan-holds (λ c. omega arith) loop-holds (λ c. omega arith)
+    tie.close (tie.spec Inv-loop μ-loop Inv-scan μ-scan scan-holds (λ c. omega arith) loop-holds (λ c. omega arith)
     (λ c. omega arith) (λ c. omega arith) meets-two-requires (λ c κs. search needs) (λ c κs. search needs)
     (λ c. omega arith) loop-again (λ c. omega arith) (λ c. omega arith) scan-again pass-run-requires
     mark-ahead-requires scan-less-2 scan-again-2 returns returns-2)

@@ -64,8 +64,7 @@ scanned
 scanned c =
     let args = c .before .before .before .before .before .args in
     c .scan .ensures
-    ∙ ap₂ (λ (cursor : Cursor) (ds : List ℕ). lockFrom (classesFrom cursor ds) 0)
-    (c .before .before .start .ensures)
+    ∙ ap₂ (λ (cursor : Cursor) (ds : List ℕ). lockFrom (classesFrom cursor ds) 0) (c .before .before .start .ensures)
     (part-to-end (args .intervals .now) (args .start))
     ∙ ap (λ (cs : List Class). lockFrom cs 0) (sym (classes-from-start (args .p) _))
 
@@ -102,6 +101,5 @@ returns-3 c = place-is-counted _ _ _ _ (found (c .before))
 
 pub search-spec : {M : Type 1} → statement M
 search-spec =
-    tie.close
-    (tie.spec returns (λ c κs. search needs) (λ c. search needs) (λ c. search needs) (λ c. search needs)
+    tie.close (tie.spec returns (λ c κs. search needs) (λ c. search needs) (λ c. search needs) (λ c. search needs)
     (λ c. search needs) scan-requires (λ c. search needs) (λ c. search needs) add-t16 returns-2 returns-3)

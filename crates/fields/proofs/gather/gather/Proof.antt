@@ -23,8 +23,7 @@ slice-aggregate-check-edges : tie.Need-slice-aggregate-check-edges
 slice-aggregate-check-edges c =
     let read = c .before .before .before .before .before in
     let pre = read .before .before .before .before .pre in
-    sym
-    (length-take-le _ _ (used-is-within _ _ _ (pre .0) (pre .1 .0) (pre .1 .1) _ (read .pass-items .ensures .0)))
+    sym (length-take-le _ _ (used-is-within _ _ _ (pre .0) (pre .1 .0) (pre .1 .1) _ (read .pass-items .ensures .0)))
 
 check-edges-requires : tie.Need-check-edges-requires
 check-edges-requires c κs =
@@ -80,6 +79,5 @@ returns-2 c =
 
 pub gather-spec : {M : Type 1} → statement M
 gather-spec =
-    tie.close
-    (tie.spec (λ c κs. search needs) slice-aggregate-check-edges check-edges-requires (λ c. search needs)
+    tie.close (tie.spec (λ c κs. search needs) slice-aggregate-check-edges check-edges-requires (λ c. search needs)
     (λ c. search needs) conclude-requires (λ c. search needs) returns (λ c. search needs) returns-2)

@@ -29,11 +29,7 @@ itemsLeft n ds at = map candidate (restFrom n ds at .words)
 -- ---- one part
 
 module _
-    (n : ℕ)
-    (ds : List ℕ)
-    (at next : Progress)
-    (reaches : Reaches 256 n ds at next)
-    (small : n < 2 ^ 32)
+    (n : ℕ) (ds : List ℕ) (at next : Progress) (reaches : Reaches 256 n ds at next) (small : n < 2 ^ 32)
     (fair : Fair ds at)
   where
     abbrev words : List ℕ
@@ -74,8 +70,7 @@ module _
         → storedAt new (next .pass .reading .words) (itemsLeft n ds next)
         ≡ storedAt out (at .pass .reading .words) (itemsLeft n ds at)
     store-goes-on out new e =
-        rw items-left
-        (stored-next (map candidate words) (itemsLeft n ds next) out new _ _ e
+        rw items-left (stored-next (map candidate words) (itemsLeft n ds next) out new _ _ e
         (omega (arith, more, length-map words candidate)))
 
 abbrev Inv-loop : tie.InvT-loop
@@ -160,11 +155,7 @@ loop-less c =
     let turn = tested .before .before in
     let (left, wanted) = wants tested in
     comes-nearer _ _ _ 256 _ (c .before .before .before .before .before .before .before .before .pass-on .ensures .0)
-    (turn .before .before .before .before .before .fits .n .fits)
-    (turn .loop .inv .0)
-    (omega arith)
-    wanted
-    left
+    (turn .before .before .before .before .before .fits .n .fits) (turn .loop .inv .0) (omega arith) wanted left
 
 loop-again : tie.Need-loop-again Inv-loop μ-loop
 loop-again c =

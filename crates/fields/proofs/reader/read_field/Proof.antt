@@ -22,12 +22,7 @@ read-checked-requires c κs =
 
 returns-2 : tie.Need-returns-2
 returns-2 c =
-    profile-refuses
-    _
-    _
-    _
-    _
-    (c .before .refusal .given .0 .0)
+    profile-refuses _ _ _ _ (c .before .refusal .given .0 .0)
     (sym (ap verdictAnswer (c .before .refusal .given .1)) ∙ c .before .before .before .check .ensures)
 
 returns-3 : tie.Need-returns-3
@@ -37,8 +32,7 @@ returns-3 c =
     let args = verdict .before .before .before .args in
     let settles =
     checked-settles (args .p) (args .intervals .now) (args .n) (args .out .now)
-    (verdict-accepts _ _ (verdict .check .ensures) (tested .before .enum-told .given .1))
-    (tested .if1 .left) in
+    (verdict-accepts _ _ (verdict .check .ensures) (tested .before .enum-told .given .1)) (tested .if1 .left) in
     (c .before .before .read-checked .ensures .0 ∙ settles .0, c .before .before .read-checked .ensures .1 ∙ settles .1)
 
 pub read-field-spec : {M : Type 1} → statement M

@@ -40,8 +40,7 @@ count-byte-requires c κs =
     let head = turn .before .loop in
     let entry = turn .before .before .before in
     small-on-the-way (entry .args .start) (head .tally) (now (entry .args .bytes)) (head .k) (turn .loop-test .taken)
-    (head .inv .1)
-    (entry .pre)
+    (head .inv .1) (entry .pre)
 
 loop-again : tie.Need-loop-again Inv-loop μ-loop
 loop-again c =

@@ -61,8 +61,7 @@ count-item-requires c κs =
     let head = turn .before .loop in
     let entry = turn .before .before .before .before in
     next-fits (now (entry .args .items)) (head .k) (head .part .tally) (head .part .check) (turn .loop-test .taken)
-    (head .inv .1)
-    (entry .pre)
+    (head .inv .1) (entry .pre)
 
 loop-again : tie.Need-loop-again Inv-loop μ-loop
 loop-again c =
@@ -85,6 +84,5 @@ returns c =
 
 pub count-each-spec : {M : Type 1} → statement M
 count-each-spec =
-    tie.close
-    (tie.spec Inv-loop μ-loop (λ c κs. search needs) loop-holds (λ c. omega arith) (λ c. omega arith)
+    tie.close (tie.spec Inv-loop μ-loop (λ c κs. search needs) loop-holds (λ c. omega arith) (λ c. omega arith)
     count-item-requires (λ c. omega arith) (λ c. omega arith) loop-again returns)

@@ -46,10 +46,8 @@ count-byte-requires c κs =
     let tested = c .before .before in
     let entry = tested .before .before in
     let start = entry .args .start in
-    rw (c .high .ensures)
-    (high-fits (start .tally) (start .check) (entry .args .item)
-    (sym (tested .is-check .ensures) ∙ c .before .if1 .taken)
-    (entry .pre))
+    rw (c .high .ensures) (high-fits (start .tally) (start .check) (entry .args .item)
+    (sym (tested .is-check .ensures) ∙ c .before .if1 .taken) (entry .pre))
 
 count-byte-requires-2 : tie.Need-count-byte-requires-2
 count-byte-requires-2 c κs =
@@ -59,8 +57,7 @@ count-byte-requires-2 c κs =
     let start = entry .args .start in
     rw (c .low .ensures, c .before .count-byte .ensures, high .high .ensures)
     (low-fits (start .tally) (start .check) (entry .args .item)
-    (sym (tested .is-check .ensures) ∙ high .before .if1 .taken)
-    (entry .pre))
+    (sym (tested .is-check .ensures) ∙ high .before .if1 .taken) (entry .pre))
 
 returns : tie.Need-returns
 returns c =
@@ -73,8 +70,7 @@ returns c =
           ∙ ap₂ talliedByte
           (c .before .before .count-byte .ensures ∙ ap (talliedByte (args .start .tally)) (high .high .ensures))
           (c .before .low .ensures)
-          ∙ sym
-          (of-check (args .start .tally) (args .start .check) (args .item)
+          ∙ sym (of-check (args .start .tally) (args .start .check) (args .item)
           (sym (tested .is-check .ensures) ∙ high .before .if1 .taken)),
     )
 
@@ -92,13 +88,11 @@ returns-2 c =
     let args = checked .before .args in (
       checked .after-item .ensures,
       c .count-byte3 .ensures
-          ∙ sym
-          (of-byte (args .start .tally) (args .start .check) (args .item)
+          ∙ sym (of-byte (args .start .tally) (args .start .check) (args .item)
           (sym (tested .is-check .ensures) ∙ c .before .if1 .left)),
     )
 
 pub count-item-spec : {M : Type 1} → statement M
 count-item-spec =
-    tie.close
-    (tie.spec (λ c κs. search needs) (λ c κs. search needs) (λ c κs. search needs) count-byte-requires
+    tie.close (tie.spec (λ c κs. search needs) (λ c κs. search needs) (λ c κs. search needs) count-byte-requires
     (λ c κs. search needs) count-byte-requires-2 returns count-byte-requires-3 returns-2)

@@ -36,5 +36,4 @@ returns-2 c = c .count-each .ensures
 
 pub count-items-spec : {M : Type 1} → statement M
 count-items-spec =
-    tie.close
-    (tie.spec count-bytes-requires returns (λ c κs. search needs) returns-2)
+    tie.close (tie.spec count-bytes-requires returns (λ c κs. search needs) returns-2)

@@ -19,6 +19,5 @@ returns c =
 
 pub make-image-spec : {M : Type 1} → statement M
 make-image-spec =
-    tie.close
-    (tie.spec (λ c κs. search needs) (λ c. search needs) (λ c. search needs) make-words-requires returns
+    tie.close (tie.spec (λ c κs. search needs) (λ c. search needs) (λ c. search needs) make-words-requires returns
     (λ c. search needs) (λ c. search needs))

@@ -62,8 +62,7 @@ unfolding imageFrom
 returns c =
     let head = c .before .loop in
     let all : head .k ≡ length (head .bytes) = omega arith in
-    sym
-    (ap₂ _++_ (ap (λ (n : ℕ). take n (head .bytes)) all ∙ take-length (head .bytes))
+    sym (ap₂ _++_ (ap (λ (n : ℕ). take n (head .bytes)) all ∙ take-length (head .bytes))
     (ap (imageFrom (lastBit (head .previous)))
     (ap (λ (n : ℕ). drop n (head .bytes)) all ∙ drop-length (head .bytes)))
     ∙ append-nil (head .bytes))

@@ -93,6 +93,5 @@ returns-2 c =
 
 pub find-unruly-spec : {M : Type 1} → statement M
 find-unruly-spec =
-    tie.close
-    (tie.spec Inv-loop μ-loop (λ c κs. search needs) loop-holds (λ c. omega arith) (λ c. omega arith)
+    tie.close (tie.spec Inv-loop μ-loop (λ c κs. search needs) loop-holds (λ c. omega arith) (λ c. omega arith)
     (λ c κs. search needs) word-of-requires (λ c. omega arith) (λ c. omega arith) loop-again returns returns-2)

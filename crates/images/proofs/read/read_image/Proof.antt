@@ -19,6 +19,5 @@ returns c =
 
 pub read-image-spec : {M : Type 1} → statement M
 read-image-spec =
-    tie.close
-    (tie.spec (λ c κs. search needs) (λ c. search needs) (λ c. search needs) read-words-requires returns
+    tie.close (tie.spec (λ c κs. search needs) (λ c. search needs) (λ c. search needs) read-words-requires returns
     (λ c. search needs) (λ c. search needs))

@@ -40,8 +40,7 @@ module _ (words old : List ℕ) (ruly : wordsRule words .number ≡ 0) where
         stores
             ∙ ap (λ (ws : List ℕ). filled ws old)
             (sym (bytes-are-candidates O words refl (words-of-accepted words ruly .1)))
-            ∙ sym
-            (acceptance-fills-the-buffer (readImageRule words (length old)) (bytesIn words) old
+            ∙ sym (acceptance-fills-the-buffer (readImageRule words (length old)) (bytesIn words) old
             (sym (ap (λ (a : Answer). a .number) rule))),
       )
 

@@ -7,15 +7,13 @@ use mathlib.Core.List.{List, map}
 use native.Mathlib.Omega.{arith}
 use lib.ListN.{length, take, drop, length-drop, length-map, take-append-drop}
 use lib.Seq.{length-take-le, take-all}
-use Rattle.lists.specs.Filled.{storedAt}
 use Rattle.lists.specs.Place.{everywhere}
 use Rattle.lists.proofs.StoreLaws.{stored-next}
 use Rattle.half_cells.specs.Word.{fits}
 use Rattle.symbols.specs.machine.Step.{AllCells}
 use Rattle.symbols.specs.declared.Reading.{Reading}
-use Rattle.intervals.specs.machine.Pass.{Passed, after, passFrom}
+use Rattle.intervals.specs.machine.Pass.{after, passFrom}
 use Rattle.intervals.specs.machine.Fours.{alone, foursFrom}
-use Rattle.intervals.specs.declared.Pass.{Pass}
 use Rattle.intervals.proofs.PassLaws.{pass-in-parts, pass-counts}
 use Rattle.intervals.proofs.FoursLaws.{by-fours, cells-take}
 use borrow.Author.Needs.{needs}
@@ -39,47 +37,27 @@ module _ (us : List ℕ) (n : ℕ) (size : 4 * n ≤ length us) where
   over-count : length over ≡ length us - 4 * n
   over-count = ap length over-is ∙ length-drop (4 * n) us
 
-  module _
-      (most from to : ℕ)
-      (m reading : Reading)
-      (words : List ℕ)
-      (pre : AllCells us × (m .held ≤ 16) × (m .words + n < most))
-      (small : most < 2 ^ 32)
-      (same-end : reading ≡ foursFrom n m front .reading)
-      (same-words : words ≡ foursFrom n m front .words)
-      (fit : everywhere fits words ≡ true)
-    where
-      abbrev first : Passed
-      first = record { end = record { reading = reading; used = from + 4 * n }; words = map alone words }
-
-      first-is : passFrom most from m front ≡ first
-      first-is =
-          by-fours n front most from m (cells-take (4 * n) us (pre .0)) front-count (pre .1) (pre .2) small
-          (rw same-words at fit)
-          ∙ rw (front-count, ← same-end, ← same-words)
-
-      words-more : reading .words ≡ m .words + length words
-      words-more =
-          let counts = pass-counts most from m front small .words in
-          (rw first-is at counts) ∙ omega (arith, length-map words alone)
-
-      in-parts : passFrom most from m us ≡ after (map alone words) (passFrom most (from + 4 * n) reading over)
-      in-parts =
-          ap (passFrom most from m) (sym (take-append-drop (4 * n) us))
-          ∙ pass-in-parts most from m front (drop (4 * n) us)
-          ∙ rw (first-is, over-is)
-
-      clean
-          : (old stored new : List ℕ) (r : Pass)
-          → stored ≡ storedAt old to (map alone words)
-          → r ≡ passFrom most (from + 4 * n) reading over .end
-          → new ≡ storedAt stored (to + length words) (passFrom most (from + 4 * n) reading over .words)
-          → (r ≡ passFrom most from m us .end) × (new ≡ storedAt old to (passFrom most from m us .words))
-      clean old stored new r store end next =
-          rw in-parts (
-            end,
-            next ∙ stored-next (map alone words) _ old stored to _ store (omega (arith, length-map words alone)),
-          )
+  -- a pass over words that fit has these, and goes on with what is over
+  clean
+      : (most from : ℕ) (m reading : Reading) (words : List ℕ)
+      → AllCells us × (m .held ≤ 16) × (m .words + n < most)
+      → most < 2 ^ 32
+      → reading ≡ foursFrom n m front .reading
+      → words ≡ foursFrom n m front .words
+      → everywhere fits words ≡ true
+      → (reading .words ≡ m .words + length words)
+      × (passFrom most from m us ≡ after (map alone words) (passFrom most (from + 4 * n) reading over))
+  clean most from m reading words pre small same-end same-words fit =
+      let first : passFrom most from m front
+      ≡ record { end = record { reading = reading; used = from + 4 * n }; words = map alone words } =
+      by-fours n front most from m (cells-take (4 * n) us (pre .0)) front-count (pre .1) (pre .2) small
+      (rw same-words at fit)
+      ∙ rw (front-count, ← same-end, ← same-words) in (
+        rw first at (pass-counts most from m front small .words) ∙ omega (arith, length-map words alone),
+        ap (passFrom most from m) (sym (take-append-drop (4 * n) us))
+            ∙ pass-in-parts most from m front (drop (4 * n) us)
+            ∙ rw (first, over-is),
+      )
 
 -- as many words as were made whole
 count-is
@@ -92,14 +70,20 @@ count-is c =
 -- where they all fit
 fitting
     : (c : tie.Then1)
-    → let shifted = c .before .before .before .before .before in
-    let start = shifted .before .before .before .before .before .before in
-    let n = length (start .args .words .now) in
-    let words = take (shifted .shift-fours .result .count) (shifted .shift-fours .last .1 .1 .0) in
-    (words ≡ foursFrom n (start .args .m) (take (4 * n) (start .args .units .now)) .words)
-    × (everywhere fits words ≡ true)
+    → let fours = c .before .before .before .before .before .shift-fours in
+    let start = c .before .before .before .before .before .before .before .before .before .before .before in
+    let words = take (fours .result .count) (fours .last .1 .1 .0) in
+    let us = start .args .units .now in
+    let from = start .args .from + 4 * length (start .args .words .now) in
+    (fours .result .reading .words ≡ start .args .m .words + length words)
+    × (passFrom (start .args .most) (start .args .from) (start .args .m) us
+    ≡ after (map alone words)
+    (passFrom (start .args .most) from (fours .result .reading) (over us (length (start .args .words .now)) (start .pre .1 .0))))
 fitting c =
-    (c .before .before .before .before .before .shift-fours .ensures .1 .1, sym (c .before .all-fit .ensures) ∙ c .if1 .taken)
+    let fours = c .before .before .before .before .before .shift-fours in
+    let start = c .before .before .before .before .before .before .before .before .before .before .before in
+    clean _ _ (start .pre .1 .0) _ _ _ _ _ (start .pre .0) (start .fits .most .fits) (fours .ensures .0)
+    (fours .ensures .1 .1) (sym (c .before .all-fit .ensures) ∙ c .if1 .taken)
 
 shift-fours-requires : tie.Need-shift-fours-requires
 shift-fours-requires c κs =
@@ -112,29 +96,17 @@ store-requires c κs =
     let shifted = c .before .before .before .before .before .before .before in
     let start = shifted .before .before .before .before .before .before in
     let few = shifted .shift-fours .ensures .1 .0 in
-    omega (arith, count-is shifted, start .pre .1 .0, start .pre .1 .1 .1)
+    omega (arith, count-is shifted, few, start .pre .0 .1, start .pre .1 .0, start .pre .1 .1 .1)
 
 shift-in-requires : tie.Need-shift-in-requires
 shift-in-requires c κs =
     let told = c .before .before .before .before .before .before .before .before in
     let shifted = told .before .before .before .before .before in
     let start = shifted .before .before .before .before .before .before in
-    let fit = fitting told in
     let few = shifted .shift-fours .ensures .1 .0 in
     let size = start .pre .1 .0 in
-    let more =
-    words-more (start .args .units .now) (length (start .args .words .now)) size (start .args .most) (start .args .from)
-    (start .args .to)
-    (start .args .m)
-    (shifted .shift-fours .result .reading)
-    _
-    (start .pre .0)
-    (start .fits .most .fits)
-    (shifted .shift-fours .ensures .0)
-    (fit .0)
-    (fit .1) in
     let over = over-count (start .args .units .now) (length (start .args .words .now)) size in (
-      omega (arith, more, count-is shifted, few, start .pre .0 .2),
+      omega (arith, fitting told .0, count-is shifted, few, start .pre .0 .2),
       (omega (arith, over, size, start .pre .1 .1 .0), omega (arith, over, size, few, start .pre .1 .1 .1)),
     )
 
@@ -142,27 +114,13 @@ returns : tie.Need-returns
 returns c =
     let told = c .before .before .before .before .before .before .before .before .before .before .before in
     let shifted = told .before .before .before .before .before in
-    let start = shifted .before .before .before .before .before .before in
-    let fit = fitting told in
-    let rest = c .before .before .shift-in .ensures in
-    clean (start .args .units .now) (length (start .args .words .now)) (start .pre .1 .0) (start .args .most)
-    (start .args .from)
-    (start .args .to)
-    (start .args .m)
-    (shifted .shift-fours .result .reading)
-    _
-    (start .pre .0)
-    (start .fits .most .fits)
-    (shifted .shift-fours .ensures .0)
-    (fit .0)
-    (fit .1)
-    _
-    _
-    _
-    _
-    (c .before .before .before .before .before .before .before .before .store .ensures)
-    (rest .0)
-    (rw (count-is shifted) (rest .1))
+    let to = shifted .before .before .before .before .before .before .args .to in
+    let words = take (shifted .shift-fours .result .count) (shifted .shift-fours .last .1 .1 .0) in
+    let next : to + shifted .shift-fours .result .count ≡ to + length (map alone words) =
+    omega (arith, length-map words alone, count-is shifted) in
+    let (end, output) = c .before .before .shift-in .ensures in
+    let stored = c .before .before .before .before .before .before .before .before .store .ensures in
+    rw (fitting told .1) (end, output ∙ stored-next _ _ _ _ to _ stored next)
 
 pub shift-block-spec : {M : Type 1} → statement M
 shift-block-spec =

@@ -24,25 +24,15 @@ closed-turn
     → let turn = c .before .before .before .before .before .before .before .before .before .before .before in
     let args = turn .before .before .before .args in
     Shifting (args .most) (args .from) (args .to) (args .start) (args .units .now) (args .out .now)
-    (c .before .before .before .put .last .0)
-    (c .close .result)
-    (turn .loop .store-at + 1)
-    (turn .loop .k + 1)
+    (c .before .before .before .put .last .0) (c .close .result) (turn .loop .store-at + 1) (turn .loop .k + 1)
 closed-turn c =
     let tested = c .before .before .before .before .before .before in
     let turn = tested .before .before .before .before .before in
     let args = turn .before .before .before in
     turn-closes _ _ _ _ _ _ (turn .loop .inv .0) (turn .loop .inv .1) (args .fits .most .fits)
-    (tested .before .before .before .before .loop-test .taken)
-    _
-    _
-    _
-    _
-    (tested .before .before .shift .ensures)
-    (sym (tested .before .is-whole .ensures) ∙ tested .if1 .taken)
-    (c .before .before .before .before .word .ensures)
-    (c .before .before .before .put .ensures)
-    (c .close .ensures)
+    (tested .before .before .before .before .loop-test .taken) _ _ _ _ (tested .before .before .shift .ensures)
+    (sym (tested .before .is-whole .ensures) ∙ tested .if1 .taken) (c .before .before .before .before .word .ensures)
+    (c .before .before .before .put .ensures) (c .close .ensures)
 
 loop-holds : tie.Need-loop-holds Inv-loop μ-loop
 loop-holds c = (begins _ _ _ _ _ _, c .before .before .pre .0)
@@ -90,9 +80,7 @@ loop-again-2 c =
     let turn = c .before .before .before .before .before in
     let args = turn .before .before .before in
     turn-stays-open _ _ _ _ _ _ (turn .loop .inv .0) (turn .loop .inv .1) (args .fits .most .fits)
-    (c .before .before .before .before .loop-test .taken)
-    _
-    (c .before .before .shift .ensures)
+    (c .before .before .before .before .loop-test .taken) _ (c .before .before .shift .ensures)
     (sym (c .before .is-whole .ensures) ∙ c .if1 .left)
 
 add-t25 : tie.Need-add-t25 Inv-loop μ-loop

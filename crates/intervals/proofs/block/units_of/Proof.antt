@@ -75,6 +75,5 @@ returns c =
 
 pub units-of-spec : {M : Type 1} → statement M
 units-of-spec =
-    tie.close
-    (tie.spec Inv-loop μ-loop loop-holds (λ c. search needs) (λ c. search needs) (λ c κs. search needs)
+    tie.close (tie.spec Inv-loop μ-loop loop-holds (λ c. search needs) (λ c. search needs) (λ c κs. search needs)
     slice-write-units (λ c κs. search needs) (λ c. search needs) (λ c. search needs) loop-again same-length returns)

@@ -66,6 +66,5 @@ returns c =
 
 pub all-cells-spec : {M : Type 1} → statement M
 all-cells-spec =
-    tie.close
-    (tie.spec Inv-loop μ-loop loop-holds (λ c. search needs) (λ c. search needs) meets-cell-requires
+    tie.close (tie.spec Inv-loop μ-loop loop-holds (λ c. search needs) (λ c. search needs) meets-cell-requires
     (λ c κs. search needs) (λ c. search needs) (λ c. search needs) loop-again returns)

@@ -78,7 +78,6 @@ returns-3 c =
 
 pub find-outside-spec : {M : Type 1} → statement M
 find-outside-spec =
-    tie.close
-    (tie.spec Inv-loop μ-loop loop-holds (λ c. search needs) (λ c. search needs) (λ c κs. search needs)
+    tie.close (tie.spec Inv-loop μ-loop loop-holds (λ c. search needs) (λ c. search needs) (λ c κs. search needs)
     (λ c κs. search needs) cast-t11 returns (λ c κs. search needs) cast-t13 returns-2 (λ c. search needs)
     (λ c. search needs) loop-again returns-3)

@@ -44,8 +44,7 @@ loop-again c =
     let cells = inside .before .before .before .before .pre in
     rw (c .ease .ensures)
     (goes-on _ _ _ (inside .before .loop .inv) (rw (inside .before .loop .inv .size) at (inside .loop-test .taken)) _ _ _ cells
-    (rw (c .before .before .before .before .four-cells .ensures) at (join .ensures))
-    (stored .ensures)
+    (rw (c .before .before .before .before .four-cells .ensures) at (join .ensures)) (stored .ensures)
     (told .ensures))
 
 same-length : tie.Need-same-length Inv-loop μ-loop

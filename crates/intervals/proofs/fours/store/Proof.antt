@@ -59,8 +59,7 @@ returns-2 c =
     let turn = c .before in
     let args = turn .before .before .before .before .args in
     let none : drop (turn .loop .k) (args .words .now) ≡ [] = drop-of-length-le (args .words .now) (c .loop-test .left) in
-    sym
-    (ap (λ (l : List ℕ). storedAt (turn .loop .out) (args .at + turn .loop .k) (map alone l)) none
+    sym (ap (λ (l : List ℕ). storedAt (turn .loop .out) (args .at + turn .loop .k) (map alone l)) none
     ∙ stored-none (turn .loop .out) (args .at + turn .loop .k))
     ∙ turn .loop .inv .2
 

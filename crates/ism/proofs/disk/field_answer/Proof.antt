@@ -35,6 +35,5 @@ returns-2 c =
 
 pub field-answer-spec : {M : Type 1} → statement M
 field-answer-spec =
-    tie.close
-    (tie.spec (λ c. search needs) (λ c. search needs) (λ c. search needs) (λ c κs. search needs)
+    tie.close (tie.spec (λ c. search needs) (λ c. search needs) (λ c. search needs) (λ c κs. search needs)
     (λ c κs. search needs) returns returns-2)

@@ -22,8 +22,7 @@ answered
     → let read = c .before .before .before in
     let start = read .before .before .before .before .before .args in
     c .field-answer .result
-    ≡ fieldAnswerOf
-    (fieldReading (read .before .before .profile .result) (now (start .intervals)) (start .bytes)
+    ≡ fieldAnswerOf (fieldReading (read .before .before .profile .result) (now (start .intervals)) (start .bytes)
     (length (now (start .out))))
 answered c = c .field-answer .ensures ∙ ap fieldAnswerOf (c .before .before .before .read-field .ensures .0)
 
@@ -86,8 +85,7 @@ returns-2 c =
     let intervals = profiled .before .before .before .args .intervals .now in
     let same = answered-for field in (
       c .with-clearance .ensures
-          ∙ ap₂ withClearance
-          (c .before .least .ensures
+          ∙ ap₂ withClearance (c .before .least .ensures
           ∙ ap₂ (λ (q : Profile) (k : ℕ). leastClearance q (take k intervals)) (profiled .profile .ensures)
           (ap (λ (a : IsmAnswer). a .used) same))
           same,

@@ -106,8 +106,7 @@ ended
     (countedAnswer (c .match .found) ≡ indexRule (args .p) (args .intervals .now))
     × (c .match .entries ≡ map indexEntryOf (indexEntries (args .p) (args .intervals .now)))
 ended c =
-    ⊎-elim
-    (λ w.
+    ⊎-elim (λ w.
     let index = profile-refuses _ _ _ _ (c .before .check .ensures) (w .1 .given .1) in
     (ap countedAnswer (w .6) ∙ index .0, w .3 ∙ ap (map indexEntryOf) (index .1)))
     (⊎-elim

@@ -34,12 +34,8 @@ returns c =
     let first = second .before .before .before .before in
     let bytes : tie.After-low = first .before .before .before in
     let tested = bytes .before .before in
-    two-stores-are-check-bytes _ _ _ _ _ _ _ _
-    (sym (tested .before .is-check .ensures) ∙ tested .if1 .taken)
-    (bytes .before .high .ensures)
-    (bytes .low .ensures)
-    (first .put .ensures)
-    (second .put2 .ensures)
+    two-stores-are-check-bytes _ _ _ _ _ _ _ _ (sym (tested .before .is-check .ensures) ∙ tested .if1 .taken)
+    (bytes .before .high .ensures) (bytes .low .ensures) (first .put .ensures) (second .put2 .ensures)
 
 returns-2 : tie.Need-returns-2
 returns-2 c =
@@ -49,13 +45,11 @@ returns-2 c =
 returns-3 : tie.Need-returns-3
 returns-3 c =
     let tested = c .before .before .before .before in
-    one-store-is-byte _ _ _ _ _
-    (sym (tested .before .is-check .ensures) ∙ tested .if1 .left)
+    one-store-is-byte _ _ _ _ _ (sym (tested .before .is-check .ensures) ∙ tested .if1 .left)
     (c .before .before .put3 .ensures)
 
 pub put-item-spec : {M : Type 1} → statement M
 put-item-spec =
-    tie.close
-    (tie.spec (λ c κs. search needs) (λ c κs. search needs) (λ c κs. search needs) (λ c κs. search needs)
+    tie.close (tie.spec (λ c κs. search needs) (λ c κs. search needs) (λ c κs. search needs) (λ c κs. search needs)
     (λ c. search needs) (λ c κs. search needs) (λ c κs. search needs) (λ c. search needs) returns returns-2
     (λ c. search needs) returns-3)

@@ -21,7 +21,7 @@ returns c =
     let own : writtenFrom (start .start) items ≡ items =
     written-from-of-no-check (start .start) items (one-byte-each-is-no-check items (sym counted ∙ tested .if1 .taken)) in (
       c .after-bytes .ensures ∙ ap (afterBytes (start .start)) (sym own),
-      (counted, c .before .before .before .put-all .ensures ∙ ap (storedAt (now (start .out)) 0) (sym own)),
+      (counted, c .before .before .before .store .ensures ∙ ap (storedAt (now (start .out)) 0) (sym own)),
     )
 
 returns-2 : tie.Need-returns-2

@@ -102,7 +102,6 @@ returns c =
 
 pub write-each-spec : {M : Type 1} → statement M
 write-each-spec =
-    tie.close
-    (tie.spec Inv-loop μ-loop (λ c. (zero-le, zero-add _, refl, refl)) (λ c. omega arith)
+    tie.close (tie.spec Inv-loop μ-loop (λ c. (zero-le, zero-add _, refl, refl)) (λ c. omega arith)
     (λ c. c .before .loop-test .taken) (λ c κs. search needs) (λ c κs. search needs) (λ c κs. search needs) add-at
     (λ c. omega arith) (λ c. falls _ _ (turn-of c .loop-test .taken)) loop-again same-length returns)

@@ -55,6 +55,5 @@ returns c =
 
 pub length-between-spec : {M : Type 1} → statement M
 length-between-spec =
-    tie.close
-    (tie.spec mul-t8 add-t9 (λ c κs. search needs) (λ c κs. search needs) in-half-clocks-requires
+    tie.close (tie.spec mul-t8 add-t9 (λ c κs. search needs) (λ c κs. search needs) in-half-clocks-requires
     in-half-clocks-requires-2 shifted-requires returns)

@@ -46,8 +46,7 @@ module _ (p : Profile) (old : List ℕ) where
       let short : length (lengthTable p) ≤ k = rw size h in
       let fits : length (lengthTable p) ≤ length old = omega (arith, size) in
       let none : length old ≤ length (lengthTable p) = omega (arith, size) in
-      rw take-all
-      (stored-at-front-fills (lengthTable p) old fits
+      rw take-all (stored-at-front-fills (lengthTable p) old fits
       ∙ ap (λ (l : List ℕ). lengthTable p ++ l) (drop-of-length-le old none)
       ∙ append-nil (lengthTable p))
 
@@ -72,7 +71,6 @@ returns c =
 
 pub length-table-spec : {M : Type 1} → statement M
 length-table-spec =
-    tie.close
-    (tie.spec Inv-loop μ-loop (λ c. (omega arith, sym (stored-none _ 0))) (λ c. search needs)
+    tie.close (tie.spec Inv-loop μ-loop (λ c. (omega arith, sym (stored-none _ 0))) (λ c. search needs)
     (λ c κs. (c .before .before .pre, omega arith)) (λ c. search needs) (λ c. search needs) (λ c. search needs)
     (λ c. search needs) (λ c. search needs) loop-again returns)

@@ -66,8 +66,7 @@ loop-again c =
       omega (arith, c .taken-size .ensures, short),
       nowhere-above _ n inside (turn .before .loop .inv .2),
       ap
-          (λ (k : ℕ). size + k + length rest)
-          (c .taken-size .ensures)
+          (λ (k : ℕ). size + k + length rest) (c .taken-size .ensures)
           ∙ sizes-add _ _ _ _ (pre .0) (pre .1) n inside size
           ∙ turn .before .loop .inv .3,
     )

@@ -36,8 +36,7 @@ returns-5 : tie.Need-returns-5
 returns-5 c =
     let tests = c .before .before .before .before in
     c .copies-disagree .ensures
-    ∙ sym
-    (ap₂ atOdds
+    ∙ sym (ap₂ atOdds
     (place-shows-one _ _ (c .before .before .if3 .left) (tests .if1 .left))
     (place-shows-one _ _ (c .before .if4 .left) (c .before .before .before .if2 .left))
     ∙ copies-at-odds-disagree _ _)

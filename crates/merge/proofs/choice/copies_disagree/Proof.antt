@@ -29,19 +29,9 @@ returns-4 : tie.Need-returns-4
 returns-4 c =
     let sized = c .before .before .before in
     let tests = sized .before in
-    sym
-    (data-decide
-    _
-    _
-    _
-    _
-    (tests .before .before .before .before .before .if1 .left)
-    (tests .before .before .before .if2 .left)
-    _
-    (c .same-bytes .result)
-    (tests .if3 .left)
-    (sized .sector-size .ensures)
-    (c .same-bytes .ensures))
+    sym (data-decide
+    _ _ _ _ (tests .before .before .before .before .before .if1 .left) (tests .before .before .before .if2 .left) _
+    (c .same-bytes .result) (tests .if3 .left) (sized .sector-size .ensures) (c .same-bytes .ensures))
 
 pub copies-disagree-spec : {M : Type 1} → statement M
 copies-disagree-spec =

@@ -34,6 +34,5 @@ returns-2 c = like-to-the-end _ _ _ (c .before .loop .same) (c .loop-test .left)
 
 pub same-bytes-spec : {M : Type 1} → statement M
 same-bytes-spec =
-    tie.close
-    (tie.spec Inv-loop μ-loop returns loop-holds (λ c. omega arith) (λ c. omega arith) (λ c. omega arith)
+    tie.close (tie.spec Inv-loop μ-loop returns loop-holds (λ c. omega arith) (λ c. omega arith) (λ c. omega arith)
     (λ c. omega arith) loop-again returns-2)

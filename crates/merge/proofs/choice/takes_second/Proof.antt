@@ -60,6 +60,5 @@ returns-4 c =
 
 pub takes-second-spec : {M : Type 1} → statement M
 takes-second-spec =
-    tie.close
-    (tie.spec returns returns-2 (λ c. search needs) shared-slice-read-if3 returns-3 (λ c. search needs)
+    tie.close (tie.spec returns returns-2 (λ c. search needs) shared-slice-read-if3 returns-3 (λ c. search needs)
     shared-slice-read-result returns-4)

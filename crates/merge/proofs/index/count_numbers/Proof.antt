@@ -57,7 +57,6 @@ returns c = count-at-end _ _ _ (c .loop-test .left) ∙ c .before .loop .inv .2
 
 pub count-numbers-spec : {M : Type 1} → statement M
 count-numbers-spec =
-    tie.close
-    (tie.spec Inv-loop μ-loop loop-holds (λ c. search needs) (λ c. search needs) (λ c. search needs)
+    tie.close (tie.spec Inv-loop μ-loop loop-holds (λ c. search needs) (λ c. search needs) (λ c. search needs)
     (λ c. search needs) (λ c κs. search needs) (λ c. omega arith) (λ c. omega arith) (λ c. omega arith) loop-again
     returns)

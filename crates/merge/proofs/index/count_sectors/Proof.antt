@@ -28,12 +28,7 @@ loop-holds c = (omega arith, omega arith, refl)
 returns : tie.Need-returns Inv-loop μ-loop
 returns c =
     let turn = c .before .before .before .before in
-    misfit-ends-the-count
-    _
-    _
-    (turn .loop-test .taken)
-    (c .before .refusal .given .0 .0)
-    (turn .before .loop .count)
+    misfit-ends-the-count _ _ (turn .loop-test .taken) (c .before .refusal .given .0 .0) (turn .before .loop .count)
     (sym (ap countedAnswer (c .before .refusal .given .1)) ∙ c .before .before .before .sector-end .ensures)
     ∙ turn .before .loop .inv .2
 
@@ -41,12 +36,7 @@ loop-less : tie.Need-loop-less Inv-loop μ-loop
 loop-less c =
     let turn = c .before .before .before .before in
     let on =
-    sector-counts-on
-    _
-    _
-    (turn .loop-test .taken)
-    (turn .before .loop .count)
-    (c .before .end .given .0 .0)
+    sector-counts-on _ _ (turn .loop-test .taken) (turn .before .loop .count) (c .before .end .given .0 .0)
     (sym (ap countedAnswer (c .before .end .given .1)) ∙ c .before .before .before .sector-end .ensures) in
     omega arith
 
@@ -54,12 +44,7 @@ loop-again : tie.Need-loop-again Inv-loop μ-loop
 loop-again c =
     let turn = c .before .before .before .before in
     let on =
-    sector-counts-on
-    _
-    _
-    (turn .loop-test .taken)
-    (turn .before .loop .count)
-    (c .before .end .given .0 .0)
+    sector-counts-on _ _ (turn .loop-test .taken) (turn .before .loop .count) (c .before .end .given .0 .0)
     (sym (ap countedAnswer (c .before .end .given .1)) ∙ c .before .before .before .sector-end .ensures) in
     (on .ends, omega arith, on .counts ∙ turn .before .loop .inv .2)
 

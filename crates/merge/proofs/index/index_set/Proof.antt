@@ -81,14 +81,7 @@ loop-again c =
     let byte : number < 256 =
     omega (arith, c .before .before .before .before .shared-slice-known2 .given start) in
     let entered =
-    sector-indexes
-    set
-    start
-    inside
-    fits
-    index
-    size
-    (turn .before .before .before .pre .1)
+    sector-indexes set start inside fits index size (turn .before .before .before .pre .1)
     (turn .before .loop .inv .3)
     byte in
     rw (end, c .before .before .entry .ensures) (
@@ -100,16 +93,11 @@ loop-again c =
 
 returns : tie.Need-returns Inv-loop μ-loop
 returns c =
-    end-indexes
-    (c .before .before .before .args .set .now)
-    (c .before .loop .index)
-    (c .before .loop .start)
-    (c .loop-test .left)
-    (c .before .loop .inv .3)
+    end-indexes (c .before .before .before .args .set .now) (c .before .loop .index) (c .before .loop .start)
+    (c .loop-test .left) (c .before .loop .inv .3)
 
 pub index-set-spec : {M : Type 1} → statement M
 index-set-spec =
-    tie.close
-    (tie.spec Inv-loop μ-loop loop-holds (λ c. search needs) (λ c. search needs) cast-number mul-entry
+    tie.close (tie.spec Inv-loop μ-loop loop-holds (λ c. search needs) (λ c. search needs) cast-number mul-entry
     element-copy-out-entry cast-entry (λ c κs. search needs) mul-index element-write-index (λ c. search needs)
     shared-slice-read-sector-size (λ c κs. search needs) add-start-2 loop-less loop-again returns)

@@ -28,10 +28,8 @@ returns-2 c =
     let there = c .before .before .if1 .left in
     let within = start .pre .0 there (start .pre .1) in
     ap (λ (n : ℕ). 3 + n) (c .sector-size .ensures)
-    ∙ sym
-    (ap length (bytes-of-entry _ _ there (start .pre .1)) ∙ sector-bytes-length _ _ within)
+    ∙ sym (ap length (bytes-of-entry _ _ there (start .pre .1)) ∙ sector-bytes-length _ _ within)
 
 pub entry-size-spec : {M : Type 1} → statement M
 entry-size-spec =
-    tie.close
-    (tie.spec returns shared-slice-read-sector-size (λ c κs. search needs) add-result returns-2)
+    tie.close (tie.spec returns shared-slice-read-sector-size (λ c κs. search needs) add-result returns-2)

@@ -22,7 +22,7 @@ copy-requires c κs =
     simp length-set (omega (arith, few, sized .sector-size .ensures))
 
 same-length : tie.Need-same-length
-same-length c = simp length-set at (c .before .before .copy .kept .1 .0)
+same-length c = simp length-set at (c .before .before .copy .kept .1 .1 .0)
 
 returns : tie.Need-returns
 returns c =
@@ -32,14 +32,8 @@ returns c =
     let size = sized .sector-size .ensures in (
       omega (arith, size, sector-bytes-length (args .set .now) (args .code) (start .pre .1)),
       c .before .before .copy .ensures
-          ∙ sector-stored
-          (args .set .now)
-          (args .code)
-          (sized .sector-size .result)
-          size
-          (args .out .now)
-          (args .start)
-          (c .before .before .before .before .before .sum-byte .result)
+          ∙ sector-stored (args .set .now) (args .code) (sized .sector-size .result) size (args .out .now)
+          (args .start) (c .before .before .before .before .before .sum-byte .result)
           (c .before .before .before .before .before .sum-byte .ensures),
     )
 

@@ -51,6 +51,5 @@ returns-2 c =
 
 pub put-taken-spec : {M : Type 1} → statement M
 put-taken-spec =
-    tie.close
-    (tie.spec (λ c κs. search needs) put-entry-requires (λ c. search needs) returns put-entry-requires-2
+    tie.close (tie.spec (λ c κs. search needs) put-entry-requires (λ c. search needs) returns put-entry-requires-2
     (λ c. search needs) returns-2)

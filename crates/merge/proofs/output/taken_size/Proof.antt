@@ -18,8 +18,7 @@ entry-size-requires c κs =
 returns : tie.Need-returns
 returns c =
     c .entry-size .ensures
-    ∙ sym
-    (ap (λ (h : Held). length (setBytes (asList h)))
+    ∙ sym (ap (λ (h : Held). length (setBytes (asList h)))
     (second-is-taken _ _ (sym (c .before .before .takes-second .ensures) ∙ c .before .if1 .taken)))
 
 entry-size-requires-2 : tie.Need-entry-size-requires-2
@@ -30,11 +29,9 @@ entry-size-requires-2 c κs =
 returns-2 : tie.Need-returns-2
 returns-2 c =
     c .entry-size2 .ensures
-    ∙ sym
-    (ap (λ (h : Held). length (setBytes (asList h)))
+    ∙ sym (ap (λ (h : Held). length (setBytes (asList h)))
     (first-is-taken _ _ (sym (c .before .before .takes-second .ensures) ∙ c .before .if1 .left)))
 
 pub taken-size-spec : {M : Type 1} → statement M
 taken-size-spec =
-    tie.close
-    (tie.spec (λ c κs. search needs) entry-size-requires returns entry-size-requires-2 returns-2)
+    tie.close (tie.spec (λ c κs. search needs) entry-size-requires returns entry-size-requires-2 returns-2)

@@ -45,8 +45,7 @@ returns-4 c =
 
 pub add-spec : {M : Type 1} → statement M
 add-spec =
-    tie.close
-    (tie.spec (λ c. search needs) (λ c. search needs) returns returns-2 (λ c. search needs) returns-3
+    tie.close (tie.spec (λ c. search needs) (λ c. search needs) returns returns-2 (λ c. search needs) returns-3
     (λ c. search needs) (λ c. search needs) add-t20 (λ c. search needs) (λ c. search needs) (λ c κs. search needs)
     (λ c. search needs) (λ c. search needs) (λ c κs. search needs) (λ c. search needs) (λ c. search needs) add-t41
     returns-4)

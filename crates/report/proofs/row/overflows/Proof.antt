@@ -10,8 +10,7 @@ use Rattle.report.proofs.row.overflows.Tie as tie
 
 returns : tie.Need-returns
 returns c =
-    sym
-    (fits-if-first-is-empty _ _ (c .if1 .taken) (c .before .before .exceed .ensures .second-fits)
+    sym (fits-if-first-is-empty _ _ (c .if1 .taken) (c .before .before .exceed .ensures .second-fits)
     (c .before .exceed2 .ensures .second-fits))
 
 returns-2 : tie.Need-returns-2

@@ -38,9 +38,7 @@ next : (c : tie.After-find Inv-loop μ-loop)
     fieldsAfter (drop at line) ≡ take (end - (at + 1)) (drop (at + 1) line) ∷ fieldsAfter (drop end line)
 next c =
     fields-next (c .before .before .before .before .before .before .args .line .now) (c .before .before .loop .at)
-    (c .find .result)
-    (c .before .loop-test .taken)
-    (c .find .ensures)
+    (c .find .result) (c .before .loop-test .taken) (c .find .ensures)
 
 returns : tie.Need-returns Inv-loop μ-loop
 returns c = faulty-read _ _ _ _ _ (no-bytes-at-the-end _ _ (c .if1 .taken))
@@ -72,8 +70,7 @@ returns-2 c =
     let start = at .before .before .before in
     let args = start .before .args in
     let no-byte = malformed-is-no-byte _ (sym (c .before .before .parse-byte .ensures) ∙ c .enum-told .given .1) in
-    faulty-read _ _ _ _ _
-    (bytes-from-tab (args .line .now) (args .from) (at .before .if1 .left)
+    faulty-read _ _ _ _ _ (bytes-from-tab (args .line .now) (args .from) (at .before .if1 .left)
     ∙ sym (at .loop .inv .2)
     ∙ ap (everywhere isHexByte) (next found)
     ∙ bytes-of-no-byte _ _ no-byte)
@@ -117,8 +114,7 @@ returns-3 : tie.Need-returns-3 Inv-loop μ-loop
 returns-3 c =
     let at = c .before in
     let args = at .before .before .before .before .args in
-    items-read _ _ _ _ _ _
-    (bytes-from-tab (args .line .now) (args .from) (at .before .if1 .left)
+    items-read _ _ _ _ _ _ (bytes-from-tab (args .line .now) (args .from) (at .before .if1 .left)
     ∙ sym (at .loop .inv .2)
     ∙ bytes-at-the-end (args .line .now) (at .loop .at) (c .loop-test .left))
     (nothing-is-left _ _ _ _ _

@@ -41,15 +41,13 @@ returns c =
     ∙ c .before .before .before .before .if1 .taken in
     let line = c .before .before .before .before .before .before .before .before .before .args .line .now in
     let put = c .before .before .put in
-    rw (crc-is-a-check line crc)
-    (items-read _ _ _ _ _ _ (crc-is-an-item-line line crc)
+    rw (crc-is-a-check line crc) (items-read _ _ _ _ _ _ (crc-is-an-item-line line crc)
     record { size = put .ensures .0; output = put .ensures .1 })
 
 slice-aggregate-same-2 : tie.Need-slice-aggregate-same-2
 slice-aggregate-same-2 c =
     let line = c .before .before .before .before .before .before .before .args .line .now in
-    sym
-    (length-take-le (c .before .find .result) line
+    sym (length-take-le (c .before .find .result) line
     (word-ends-in-line line (c .before .find .result) (c .before .find .ensures)))
 
 returns-2 : tie.Need-returns-2
@@ -57,8 +55,7 @@ returns-2 c =
     let found = c .before .before .before .before .before .before .before .before in
     let line = found .before .before .before .before .before .before .args .line .now in
     let is-data =
-    rw (the-word found) at
-    (sym (c .before .before .before .before .before .same2 .ensures)
+    rw (the-word found) at (sym (c .before .before .before .before .before .same2 .ensures)
     ∙ c .before .before .before .before .if2 .taken) in
     rw (
       data-takes-bytes line (no-crc found) is-data,
@@ -80,8 +77,7 @@ returns-3 c =
     let found = no .before .before .before .before in
     let line = found .before .before .before .before .before .before .args .line .now in
     let is-mark =
-    rw (the-word found) at
-    (sym (c .before .before .before .before .before .same3 .ensures)
+    rw (the-word found) at (sym (c .before .before .before .before .before .same3 .ensures)
     ∙ c .before .before .before .before .if3 .taken) in
     rw (
       mark-takes-bytes line (no-crc found) (no-data no) is-mark,
@@ -100,8 +96,7 @@ returns-4 c =
 
 pub read-item-line-spec : {M : Type 1} → statement M
 read-item-line-spec =
-    tie.close
-    (tie.spec (λ c. search needs) (λ c κs. search needs) (λ c κs. search needs) (λ c. search needs) returns
+    tie.close (tie.spec (λ c. search needs) (λ c κs. search needs) (λ c κs. search needs) (λ c. search needs) returns
     (λ c κs. search needs) slice-aggregate-same-2 (λ c. search needs) (λ c κs. search needs) (λ c κs. search needs)
     (λ c. search needs) returns-2 slice-aggregate-same-4 (λ c. search needs) (λ c κs. search needs)
     (λ c κs. search needs) (λ c. search needs) returns-3 returns-4)

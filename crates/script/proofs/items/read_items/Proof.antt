@@ -53,8 +53,7 @@ next : (c : tie.Else1 Inv-loop μ-loop)
 next c =
     let at = c .before .before .before in
     lines-next (at .before .before .before .args .text .now) (at .loop .at) (c .before .find .result) (at .loop .inv .0)
-    (c .before .find .ensures)
-    (line-found c)
+    (c .before .find .ensures) (line-found c)
 
 loop-holds : tie.Need-loop-holds Inv-loop μ-loop
 loop-holds c = (omega arith, refl, omega arith, omega arith, refl, all-is-left _ _ _)
@@ -71,8 +70,7 @@ returns c =
     (c .if1 .taken) in
     let some : 0 < length (drop (at .loop .at) text) =
     omega (arith, length-drop (at .loop .at) text, c .before .before .loop-test .taken) in
-    lines-refused _ _ _ _
-    (sym (at .loop .inv .4)
+    lines-refused _ _ _ _ (sym (at .loop .inv .4)
     ∙ ap (garbledFrom (at .loop .line)) rest
     ∙ garbled-rest (at .loop .line) (drop (at .loop .at) text) some)
 
@@ -106,8 +104,7 @@ returns-2 c =
     let faulty =
     sym (c .before .before .before .before .read-item-line .ensures .verdict)
     ∙ ap isRead (c .enum-told .given .1) in
-    lines-refused _ _ _ _
-    (sym (at .loop .inv .4)
+    lines-refused _ _ _ _ (sym (at .loop .inv .4)
     ∙ ap (garbledFrom (at .loop .line)) (next found)
     ∙ garbled-at-faulty _ _ (at .loop .line) faulty)
 
@@ -160,7 +157,6 @@ returns-3 c =
 
 pub read-items-spec : {M : Type 1} → statement M
 read-items-spec =
-    tie.close
-    (tie.spec Inv-loop μ-loop loop-holds find-requires (λ c. omega arith) returns sub-read-item-line
+    tie.close (tie.spec Inv-loop μ-loop loop-holds find-requires (λ c. omega arith) returns sub-read-item-line
     part-read-item-line-start part-read-item-line-end read-item-line-requires (λ c. search needs) same-length-2
     returns-2 (λ c. search needs) add-at add-line loop-less loop-again (λ c. omega arith) returns-3)

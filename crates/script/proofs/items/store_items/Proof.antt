@@ -13,9 +13,7 @@ returns c =
     let count = read .before .before .before .count in
     let first = read .before .before .before .before .before .before .read-items in
     more-lines-than-room _ _ _ _ (sym (ap countedAnswer (count .given .1)) ∙ first .ensures .answer)
-    (read .read-items2 .ensures .output)
-    _ (read .read-items2 .kept .1 .1 .0)
-    (c .if1 .taken)
+    (read .read-items2 .ensures .output) _ (read .read-items2 .kept .1 .1 .0) (c .if1 .taken)
 
 returns-2 : tie.Need-returns-2
 returns-2 c =
@@ -28,12 +26,9 @@ returns-3 c =
     let count = read .before .before .before .count in
     let first = read .before .before .before .before .before .before .read-items in
     room-for-all-lines _ _ _ _ (sym (ap countedAnswer (count .given .1)) ∙ first .ensures .answer)
-    (read .read-items2 .ensures .output)
-    _ (read .read-items2 .kept .1 .1 .0)
-    (c .if1 .left)
+    (read .read-items2 .ensures .output) _ (read .read-items2 .kept .1 .1 .0) (c .if1 .left)
 
 pub store-items-spec : {M : Type 1} → statement M
 store-items-spec =
-    tie.close
-    (tie.spec (λ c. search needs) (λ c κs. search needs) (λ c. search needs) (λ c. search needs)
+    tie.close (tie.spec (λ c. search needs) (λ c κs. search needs) (λ c. search needs) (λ c. search needs)
     (λ c κs. search needs) (λ c. search needs) returns returns-2 (λ c. search needs) returns-3)

@@ -24,8 +24,7 @@ Inv-loop line from numbers₀ at₀ k₀ numbers at k =
     (length numbers ≡ length numbers₀)
     × (k ≤ length numbers)
     × (fitting k (length numbers₀) (fieldsAfter (drop at line))
-    ≡
-    (eqb (length (fieldsAfter (drop from line))) (length numbers₀) && everywhere isDecimal
+    ≡ (eqb (length (fieldsAfter (drop from line))) (length numbers₀) && everywhere isDecimal
     (fieldsAfter (drop from line))))
     × (take k numbers ++ map valueOf (fieldsAfter (drop at line)) ≡ map valueOf (fieldsAfter (drop from line)))
 
@@ -40,9 +39,7 @@ next : (c : tie.After-find Inv-loop μ-loop)
     fieldsAfter (drop at line) ≡ take (end - (at + 1)) (drop (at + 1) line) ∷ fieldsAfter (drop end line)
 next c =
     fields-next (c .before .before .before .before .before .before .args .line .now)
-    (c .before .before .before .loop .at) (c .find .result)
-    (c .before .before .loop-test .taken)
-    (c .find .ensures)
+    (c .before .before .before .loop .at) (c .find .result) (c .before .before .loop-test .taken) (c .find .ensures)
 
 -- and a place for it is left
 place-left : (c : tie.Else1 Inv-loop μ-loop) → c .before .before .loop .k < length (c .before .before .loop .numbers)
@@ -56,8 +53,7 @@ returns c =
     let at = c .before .before in
     let args = at .before .before .before .args in
     let first = fields-next (args .line .now) (at .loop .at) _ (c .before .loop-test .taken) refl in
-    no-numbers-read _ _ _
-    (sym (at .loop .inv .2)
+    no-numbers-read _ _ _ (sym (at .loop .inv .2)
     ∙ ap (fitting (at .loop .k) (length (args .numbers .now))) first
     ∙ fitting-without-place (at .loop .k) _ _ _ (omega (arith, at .loop .inv .0, c .if1 .taken)))
 
@@ -73,9 +69,7 @@ part-parse-decimal-start c = omega (arith, c .find .ensures)
 part-parse-decimal-end : tie.Need-part-parse-decimal-end Inv-loop μ-loop
 part-parse-decimal-end c =
     field-ends-in-line (c .before .before .before .before .before .before .args .line .now)
-    (c .before .before .before .loop .at) (c .find .result)
-    (c .before .before .loop-test .taken)
-    (c .find .ensures)
+    (c .before .before .before .loop .at) (c .find .result) (c .before .before .loop-test .taken) (c .find .ensures)
 
 parse-decimal-requires : tie.Need-parse-decimal-requires Inv-loop μ-loop
 parse-decimal-requires c κs = tt
@@ -87,8 +81,7 @@ returns-2 c =
     let args = at .before .before .before .args in
     let no-decimal =
     malformed-is-no-decimal _ (sym (c .before .before .parse-decimal .ensures) ∙ c .enum-told .given .1) in
-    no-numbers-read _ _ _
-    (sym (at .loop .inv .2)
+    no-numbers-read _ _ _ (sym (at .loop .inv .2)
     ∙ ap (fitting (at .loop .k) (length (args .numbers .now))) (next found)
     ∙ fitting-at-malformed _ _ _ _ no-decimal)
 
@@ -124,8 +117,7 @@ returns-3 c =
     let at = c .before in
     let args = at .before .before .before .args in
     let none = fields-at-the-end (args .line .now) (at .loop .at) (c .loop-test .left) in
-    all-numbers-read _ _ _ _
-    (sym (ap (fitting (at .loop .k) (length (args .numbers .now))) none) ∙ at .loop .inv .2)
+    all-numbers-read _ _ _ _ (sym (ap (fitting (at .loop .k) (length (args .numbers .now))) none) ∙ at .loop .inv .2)
     (at .loop .inv .0)
     (ap (λ (fields : List (List ℕ)). take (at .loop .k) (at .loop .numbers) ++ map valueOf fields) (sym none)
     ∙ at .loop .inv .3)

@@ -22,8 +22,7 @@ the-word c = word-is-a-part (c .before .before .args .line .now) (c .find .resul
 slice-aggregate-same : tie.Need-slice-aggregate-same
 slice-aggregate-same c =
     let line = c .before .before .before .args .line .now in
-    sym
-    (length-take-le (c .before .find .result) line
+    sym (length-take-le (c .before .find .result) line
     (word-ends-in-line line (c .before .find .result) (c .before .find .ensures)))
 
 returns : tie.Need-returns
@@ -36,8 +35,7 @@ returns c =
     rw (the-word found) at (sym (read .before .before .before .same .ensures) ∙ read .before .before .if1 .taken) in
     let arguments = arguments-after-word line (found .find .result) (found .find .ensures) in
     let nine = rw arguments at (sym (read .read-numbers .ensures .verdict) ∙ c .before .before .if2 .taken) in
-    ap Given
-    (c .from-numbers .ensures
+    ap Given (c .from-numbers .ensures
     ∙ ap fromNumbers
     (read .read-numbers .ensures .numbers (c .before .before .if2 .taken) ∙ ap (map valueOf) arguments))
     ∙ sym (profile-is-read line word nine)
@@ -61,6 +59,5 @@ returns-3 c =
 
 pub read-profile-spec : {M : Type 1} → statement M
 read-profile-spec =
-    tie.close
-    (tie.spec (λ c κs. search needs) slice-aggregate-same (λ c. search needs) (λ c κs. search needs)
+    tie.close (tie.spec (λ c κs. search needs) slice-aggregate-same (λ c. search needs) (λ c κs. search needs)
     (λ c. search needs) (λ c κs. search needs) (λ c κs. search needs) returns returns-2 returns-3)

@@ -43,6 +43,5 @@ returns c =
 
 pub refuse-spec : {M : Type 1} → statement M
 refuse-spec =
-    tie.close
-    (tie.spec (λ c κs. search needs) (λ c. search needs) (λ c κs. search needs) (λ c. search needs)
+    tie.close (tie.spec (λ c κs. search needs) (λ c. search needs) (λ c κs. search needs) (λ c. search needs)
     (λ c. search needs) (λ c. search needs) append-line-requires (λ c. search needs) returns)

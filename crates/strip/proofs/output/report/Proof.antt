@@ -15,10 +15,8 @@ use Rattle.strip.proofs.output.report.Tie as tie
 -- the output has room for the three parts
 room : (c : tie.After-shared-slice-known)
     → let args = c .before .args in
-    length (lineOf (ascii "margin") (args .margin ∷ []))
-    + length (streamText (args .profile) (args .stream .now))
-    + length (lineOf (ascii "end") (length (args .stream .now) ∷ []))
-    ≤ length (args .out .now)
+    length (lineOf (ascii "margin") (args .margin ∷ [])) + length (streamText (args .profile) (args .stream .now))
+    + length (lineOf (ascii "end") (length (args .stream .now) ∷ [])) ≤ length (args .out .now)
 room c =
     let args = c .before .args in
     omega (

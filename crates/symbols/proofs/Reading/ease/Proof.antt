@@ -32,6 +32,5 @@ returns c =
 
 pub ease-spec : {M : Type 1} → statement M
 ease-spec =
-    tie.close
-    (tie.spec (λ c κs. search needs) (λ c. search needs) mul-wrapping-sub-u32 (λ c κs. search needs)
+    tie.close (tie.spec (λ c κs. search needs) (λ c. search needs) mul-wrapping-sub-u32 (λ c κs. search needs)
     (λ c κs. search needs) returns)

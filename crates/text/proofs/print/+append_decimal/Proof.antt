@@ -82,8 +82,7 @@ returns-2 t c =
 
 pub +append-decimal-spec : {M : Type 1} → statement M
 +append-decimal-spec =
-    close μ
-    (λ t.
+    close μ (λ t.
     lts.spec (asked t, reads.Post) (given t) reads.Post (cast-out t) (add-out t) (slice-write-out t) (add-result t)
     (same-length t) (returns t) (append-decimal-requires t) (cast-out-2 t) (add-out-2 t) (slice-write-out-2 t)
     (add-result-2 t) (same-length-2 t) (returns-2 t))

@@ -52,8 +52,7 @@ returns c =
 
 pub append-fields-spec : {M : Type 1} → statement M
 append-fields-spec =
-    tie.close
-    (tie.spec Inv-loop μ-loop (λ c. (omega arith, refl, refl, refl)) (λ c. omega (arith, next c))
+    tie.close (tie.spec Inv-loop μ-loop (λ c. (omega arith, refl, refl, refl)) (λ c. omega (arith, next c))
     (λ c. omega (arith, next (c .before))) (λ c. search needs) (λ c. omega arith)
     (λ c κs. simp length-set (omega (arith, next (c .before .before)))) (λ c. omega arith) (λ c. omega arith) loop-again
     (λ c. c .before .loop .inv .1) returns)

@@ -42,6 +42,5 @@ returns c =
 
 pub append-line-spec : {M : Type 1} → statement M
 append-line-spec =
-    tie.close
-    (tie.spec (λ c κs. omega (arith, room (c .before .before .before .before))) append-fields-requires
+    tie.close (tie.spec (λ c κs. omega (arith, room (c .before .before .before .before))) append-fields-requires
     (λ c. search needs) append-requires-2 (λ c. search needs) returns)

@@ -9,7 +9,6 @@ use Rattle.text.proofs.read.no_leading_zero.Tie as tie
 
 pub no-leading-zero-spec : {M : Type 1} → statement M
 no-leading-zero-spec =
-    tie.close
-    (tie.spec (λ c. sym (no-leading-zero-of-none _ (c .if1 .taken)))
+    tie.close (tie.spec (λ c. sym (no-leading-zero-of-none _ (c .if1 .taken)))
     (λ c. sym (no-leading-zero-of-one _ (c .if2 .taken))) (λ c. search needs)
     (λ c. sym (no-leading-zero-of-more _ (omega arith))))

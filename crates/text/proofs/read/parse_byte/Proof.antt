@@ -42,6 +42,5 @@ returns-4 c =
 
 pub parse-byte-spec : {M : Type 1} → statement M
 parse-byte-spec =
-    tie.close
-    (tie.spec (λ c. sym (byte-of-other-length _ (c .if1 .taken))) (λ c. search needs) (λ c κs. search needs)
+    tie.close (tie.spec (λ c. sym (byte-of-other-length _ (c .if1 .taken))) (λ c. search needs) (λ c κs. search needs)
     (λ c. search needs) (λ c κs. search needs) returns-2 returns-3 (λ c. search needs) (λ c. search needs) returns-4)

@@ -38,8 +38,7 @@ returns-2 c =
 
 returns-3 : tie.Need-returns-3 Inv-loop μ-loop
 returns-3 c =
-    sym
-    (next-digit _ _ _ (c .before .before .before .before .loop-test .taken)
+    sym (next-digit _ _ _ (c .before .before .before .before .loop-test .taken)
     (c .before .before .before .before .before .loop .inv .2)
     ∙ digits-at-digit _ _ _ (c .before .before .if1 .left) (c .before .if2 .left)
     ∙ digits-too-large _ _ (c .if3 .taken))

@@ -44,7 +44,6 @@ returns-3 c =
 
 pub same-spec : {M : Type 1} → statement M
 same-spec =
-    tie.close
-    (tie.spec Inv-loop μ-loop (λ c. sym (same-of-other-length _ _ (c .if1 .taken)))
+    tie.close (tie.spec Inv-loop μ-loop (λ c. sym (same-of-other-length _ _ (c .if1 .taken)))
     (λ c. (omega arith, c .if1 .left, refl)) (λ c. omega arith) (λ c. omega arith) returns-2 (λ c. omega arith)
     (λ c. omega arith) loop-again returns-3)

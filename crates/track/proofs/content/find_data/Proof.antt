@@ -39,8 +39,7 @@ read c =
     let at-k = c .before .before .before in
     let args = at-k .before .before .before .before .args in
     c .read-data .ensures
-    ∙ ap (λ ds. dataRead (args .p) ds (args .code))
-    (part-to-end (args .intervals .now) (at-k .k .given .0 .0))
+    ∙ ap (λ ds. dataRead (args .p) ds (args .code)) (part-to-end (args .intervals .now) (at-k .k .given .0 .0))
 
 mul-read-data : tie.Need-mul-read-data
 mul-read-data c = omega (arith, within c, c .before .before .before .before .before .good)
@@ -72,7 +71,6 @@ returns-3 c =
 
 pub find-data-spec : {M : Type 1} → statement M
 find-data-spec =
-    tie.close
-    (tie.spec (λ c κs. search needs) (λ c. search needs) (λ c. search needs) mul-read-data
+    tie.close (tie.spec (λ c κs. search needs) (λ c. search needs) (λ c. search needs) mul-read-data
     (λ c. omega (arith, within c)) (λ c. omega (arith, within c)) (λ c. search needs) (λ c κs. search needs)
     (λ c. search needs) (λ c. search needs) add-t20 returns returns-2 returns-3)

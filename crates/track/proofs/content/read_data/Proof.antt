@@ -39,5 +39,4 @@ returns c =
 
 pub read-data-spec : {M : Type 1} → statement M
 read-data-spec =
-    tie.close
-    (tie.spec (λ c κs. search needs) add-n (λ c. search needs) read-opened-requires returns)
+    tie.close (tie.spec (λ c κs. search needs) add-n (λ c. search needs) read-opened-requires returns)

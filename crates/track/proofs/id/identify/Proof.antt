@@ -17,5 +17,4 @@ returns-2 c =
 
 pub identify-spec : {M : Type 1} → statement M
 identify-spec =
-    tie.close
-    (tie.spec (λ c κs. search needs) (λ c κs. (c .before .before .before .pre, cc)) returns returns-2)
+    tie.close (tie.spec (λ c κs. search needs) (λ c κs. (c .before .before .before .pre, cc)) returns returns-2)

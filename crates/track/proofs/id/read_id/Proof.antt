@@ -35,8 +35,7 @@ returns-3 c =
     let known = c .before .before .used .given in
     let read = c .before .before .before .before .before in
     let args = read .before .before .before .args in
-    unsound-is-no-id _ _ _
-    (subst (FieldReads (args .p) (args .intervals .now) 10 (known .0 .0)) (c .if1 .left)
+    unsound-is-no-id _ _ _ (subst (FieldReads (args .p) (args .intervals .now) 10 (known .0 .0)) (c .if1 .left)
     (opened-reads _ _ 10 _ _ _ (sym (known .1) ∙ read .read-opened .ensures .0)))
 
 pub read-id-spec : {M : Type 1} → statement M

@@ -11,5 +11,4 @@ returns c = refl
 
 pub opens-with-spec : {M : Type 1} → statement M
 opens-with-spec =
-    tie.close
-    (tie.spec (λ c. search needs) (λ c. search needs) (λ c. search needs) (λ c. search needs) returns)
+    tie.close (tie.spec (λ c. search needs) (λ c. search needs) (λ c. search needs) (λ c. search needs) returns)

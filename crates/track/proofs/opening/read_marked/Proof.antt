@@ -34,8 +34,7 @@ field
     let values = c .before .before .before .used .given .0 in
     FieldReads (args .p) (args .intervals .now) (args .n) (values .1 .0) (values .1 .1 .0)
 field c =
-    accepted-field _ _ _ _ _ _
-    (sym (ap fieldAnswer (c .before .before .before .used .given .1))
+    accepted-field _ _ _ _ _ _ (sym (ap fieldAnswer (c .before .before .before .used .given .1))
     ∙ read (c .before .before .before .before .before .before .before))
 
 -- with these first items
@@ -49,9 +48,7 @@ items c =
     let at-read = c .before .before .before .before .before .before .before in
     let begin = at-read .before .before .before .before in
     items-in-place (begin .args .p) (begin .args .intervals .now) (begin .args .n) (begin .args .items .now) _
-    (begin .pre .1 .1)
-    (at-read .read-in-place .ensures .1)
-    (field c .does)
+    (begin .pre .1 .1) (at-read .read-in-place .ensures .1) (field c .does)
 
 -- of which kind it is
 kind
@@ -62,8 +59,7 @@ kind c =
     let at-read = c .before .before .before .before .before .before .before in
     let begin = at-read .before .before .before .before in
     opens-by-kind _ _ _ _ _ _ (field c)
-    ∙ sym
-    (c .opens-with .ensures
+    ∙ sym (c .opens-with .ensures
     ∙ ap (opensWith (begin .args .kind)) (items c)
     ∙ opens-by-front (begin .args .kind) (length (begin .args .items .now)) _ (begin .pre .1 .0))
 
@@ -88,6 +84,5 @@ returns-3 c =
 
 pub read-marked-spec : {M : Type 1} → statement M
 read-marked-spec =
-    tie.close
-    (tie.spec (λ c κs. search needs) (λ c. search needs) (λ c. search needs) (λ c κs. search needs)
+    tie.close (tie.spec (λ c κs. search needs) (λ c. search needs) (λ c. search needs) (λ c κs. search needs)
     (λ c. search needs) returns (λ c. search needs) returns-2 (λ c. search needs) returns-3)

@@ -39,11 +39,7 @@ chosen-between true low high h = (omega arith, h)
 chosen-between false low high h = (h, omega arith)
 
 module _
-    {start : Cursor}
-    {ds : List ℕ}
-    {first : ℕ}
-    {cursor : Cursor}
-    {next : ℕ}
+    {start : Cursor} {ds : List ℕ} {first : ℕ} {cursor : Cursor} {next : ℕ}
     (searched : Searched start ds first cursor next)
   where
     abbrev cs : List Class
@@ -107,9 +103,7 @@ module _
           let here = no-lock-without-mark cs next (ap markAhead (searched .run .stands) ∙ none) in
           let after : (i : ℕ) → next < i → i < next + 64 → lockAt cs i ≡ false =
           λ i low high.
-          ⊎-elim
-          (λ last. no-lock-past-end cs i (omega arith))
-          (λ more.
+          ⊎-elim (λ last. no-lock-past-end cs i (omega arith)) (λ more.
           broken-run-has-no-lock cs i (omega arith) next low (omega arith)
           (broken-here (searched .run) (omega arith) (ends (omega arith))))
           (eq-zero-or-pos (length ds - suc next)) in
@@ -117,7 +111,6 @@ module _
             run = record { twos = λ j low high. absurd (omega arith); stands = searched .run .stands };
             same =
                 same-here
-                ∙ search-goes-on cs next (next + 64) (omega arith)
-                (λ i low high.
+                ∙ search-goes-on cs next (next + 64) (omega arith) (λ i low high.
                 ⊎-elim (λ e. ap (lockAt cs) (sym e) ∙ here) (λ past. after i past high) (eq-or-lt-of-le low));
           }

@@ -118,8 +118,7 @@ module _ (xs : List Cell) (n : ℕ) (some : 0 < n) (few : n ≤ 1030) where
       let small = cells-are-few in
       let same = ap length (over .cells) in
       ap (map candidate) (over .gathers)
-      ∙ sym
-      (items-ran freshReading [] (over .more) reads-fresh (omega arith)
+      ∙ sym (items-ran freshReading [] (over .more) reads-fresh (omega arith)
       (ap (λ (l : List Cell). isStray (readBits l)) (sym (over .cells)) ∙ in-place))
       ∙ ap (λ (l : List Cell). itemsRead (readBits l)) (sym (over .cells))
       ∙ sym (field-items-of-cells cs n stop)
@@ -144,14 +143,8 @@ refuses cs n r old new holds e = (e, (λ zero. absurd (eqb-false (numberOf r) 0 
 -- ---- a field of intervals, each taken as a cell
 
 module _
-    (p : Profile)
-    (ds : List ℕ)
-    (n : ℕ)
-    (accepts : profileRule p .number ≡ 0)
-    (some : 0 < n)
-    (few : n ≤ 1030)
-    (r : Pass)
-    (read : r ≡ passed n (unitsFrom (atStart p) ds) .end)
+    (p : Profile) (ds : List ℕ) (n : ℕ) (accepts : profileRule p .number ≡ 0) (some : 0 < n) (few : n ≤ 1030)
+    (r : Pass) (read : r ≡ passed n (unitsFrom (atStart p) ds) .end)
   where
     abbrev xs : List Cell
     xs = nearCells (atStart p) ds
@@ -164,11 +157,8 @@ module _
 
     near : NearField (classesOf p ds) xs 0 (bitsWanted n) O
     near =
-        near-field
-        (rw (classes-from-start p ds) (classes-are-near (atStart p) ds (accepted-ascends p accepts)))
-        0
-        (bitsWanted n)
-        O
+        near-field (rw (classes-from-start p ds) (classes-are-near (atStart p) ds (accepted-ascends p accepts))) 0
+        (bitsWanted n) O
 
     pub used-is-small : r .used ≤ 10000
     used-is-small = rw same-end-of-pass (used-of-cells xs n some few .1)

@@ -18,19 +18,22 @@ use borrow.Author.Needs.{needs}
 use Rattle.intervals.proofs.block.Progress.pass_on.Statement.{statement}
 use Rattle.intervals.proofs.block.Progress.pass_on.Tie as tie
 
--- up to the part's end
-module _ (ds : List ℕ) (from count n : ℕ) (within : from ≤ length ds) (e : n ≡ min count (length ds - from)) where
-  upTo-count : length (take (from + n) ds) ≡ from + n
-  upTo-count = length-take-le (from + n) ds (omega arith)
-
-  part-is : drop from (take (from + n) ds) ≡ take count (drop from ds)
-  part-is =
-      let same : n ≡ length (take count (drop from ds)) =
-      omega (arith, length-take count (drop from ds), length-drop from ds) in
+-- the list up to the part's end
+upTo
+    : (ds : List ℕ) (from count n : ℕ)
+    → from ≤ length ds
+    → n ≡ min count (length ds - from)
+    → (length (take (from + n) ds) ≡ from + n) × (drop from (take (from + n) ds) ≡ take count (drop from ds))
+upTo ds from count n within e =
+    let part = take count (drop from ds) in
+    let same : n ≡ length part = omega (arith, length-take count (drop from ds), length-drop from ds) in (
+      length-take-le (from + n) ds (omega arith),
       ap (drop from) (take-add from n ds)
-      ∙ ap (λ (k : ℕ). drop k (take from ds ++ take n (drop from ds))) (sym (length-take-le from ds within))
-      ∙ drop-append-seam (take from ds) (take n (drop from ds))
-      ∙ ap (λ (k : ℕ). take k (drop from ds)) same ∙ take-taken count (drop from ds)
+          ∙ ap (λ (k : ℕ). drop k (take from ds ++ take n (drop from ds))) (sym (length-take-le from ds within))
+          ∙ drop-append-seam (take from ds) (take n (drop from ds))
+          ∙ ap (λ (k : ℕ). take k (drop from ds)) same
+          ∙ take-taken count (drop from ds),
+    )
 
 abbrev Inv-loop : tie.InvT-loop
 Inv-loop intervals count most out₀ first end at₀ out at =
@@ -50,23 +53,17 @@ abbrev μ-loop : tie.MeasureT-loop
 -- what a turn has found: the pass goes on
 wants
     : (c : tie.Then1 Inv-loop μ-loop)
-    → let turn = c .before .before in
-    let cut = turn .before .before in
-    let start = cut .before .before .before .before in
-    let end = start .args .self .pass .used + cut .at-most .result in
-    (length (take end (start .args .intervals .now)) ≡ end)
-    × (turn .loop .at .pass .used < end)
-    × (turn .loop .at .pass .reading .words < start .args .most)
+    → let at = c .before .before .loop .at in
+    let cut = c .before .before .before .before in
+    let args = cut .before .before .before .before .args in
+    let end = args .self .pass .used + cut .at-most .result in
+    (length (take end (args .intervals .now)) ≡ end) × (at .pass .used < end) × (at .pass .reading .words < args .most)
 wants c =
-    let turn = c .before .before in
-    let cut = turn .before .before in
+    let cut = c .before .before .before .before in
     let start = cut .before .before .before .before in
-    let long =
-    upTo-count (start .args .intervals .now) (start .args .self .pass .used) (start .args .count) (cut .at-most .result)
-    (start .pre .0)
-    (cut .at-most .ensures) in
+    let long = upTo (start .args .intervals .now) _ _ (cut .at-most .result) (start .pre .0) (cut .at-most .ensures) .0 in
     let part = take (start .args .self .pass .used + cut .at-most .result) (start .args .intervals .now) in
-    let both = rest-wants (start .args .most) part (turn .loop .at)
+    let both = rest-wants (start .args .most) part (c .before .before .loop .at)
     (rw long (sym (c .before .goes-on .ensures) ∙ c .if1 .taken)) in
     (long, rw long at (both .0), both .1)
 
@@ -80,19 +77,11 @@ loop-holds c =
     let start = c .before .before .before .before .before in
     let words = start .args .self .pass .reading .words in
     let none : words - words ≡ 0 = omega arith in
-    let long =
-    upTo-count (start .args .intervals .now) (start .args .self .pass .used) (start .args .count) _ (start .pre .0)
-    (c .before .at-most .ensures) in (
-      record { within = omega (arith, long); room = start .pre .1 },
-      omega arith,
-      refl,
-      refl,
-      rw none refl,
-      λ _. refl,
-    )
+    let long = upTo (start .args .intervals .now) _ _ _ (start .pre .0) (c .before .at-most .ensures) .0 in
+    (record { within = omega (arith, long); room = start .pre .1 }, omega arith, refl, refl, rw none refl, λ _. refl)
 
 sub-done : tie.Need-sub-done Inv-loop μ-loop
-sub-done c = c .before .before .before .loop .inv .1
+sub-done c = omega (arith, c .before .before .before .loop .inv .1)
 
 slice-aggregate-next-block : tie.Need-slice-aggregate-next-block Inv-loop μ-loop
 slice-aggregate-next-block c = sym (wants (c .before .before) .0)
@@ -114,13 +103,8 @@ loop-less c =
     let part = take (start .args .self .pass .used + cut .at-most .result) (start .args .intervals .now) in
     let (long, left, wanted) = wants told in
     rw long at
-    (comes-nearer (start .args .most) part (turn .loop .at) 64 _
-    (c .before .before .next-block .ensures .0)
-    (start .fits .most .fits)
-    (turn .loop .inv .0)
-    (omega arith)
-    wanted
-    (rw long left))
+    (comes-nearer (start .args .most) part (turn .loop .at) 64 _ (c .before .before .next-block .ensures .0)
+    (start .fits .most .fits) (turn .loop .inv .0) (omega arith) wanted (rw long left))
 
 loop-again : tie.Need-loop-again Inv-loop μ-loop
 loop-again c =
@@ -155,18 +139,14 @@ returns c =
     let args = start .args in
     let at = turn .loop .at in
     let words = at .pass .reading .words - args .self .pass .reading .words in
-    let from = args .self .pass .used in
-    let part = take (from + cut .at-most .result) (args .intervals .now) in
-    let long = upTo-count (args .intervals .now) from (args .count) _ (start .pre .0) (cut .at-most .ensures) in
-    let same = part-is (args .intervals .now) from (args .count) _ (start .pre .0) (cut .at-most .ensures) in
+    let part = take (args .self .pass .used + cut .at-most .result) (args .intervals .now) in
+    let (long, same) = upTo (args .intervals .now) _ (args .count) _ (start .pre .0) (cut .at-most .ensures) in
     let left = rw (← long) at (sym (c .before .goes-on .ensures) ∙ c .if1 .left) in
-    let stops = rest-stops (args .most) part at left in
+    let stops = sym (rest-stops (args .most) part at left) in
     let (fair, low, kept, end, stored, cursor) = turn .loop .inv in (
       record {
         pass =
-            ap (λ (q : Passed). q .end) (sym stops)
-            ∙ end
-            ∙ ap (λ (l : List ℕ). passOn (args .most) (args .self) l .end) same;
+            ap (λ (q : Passed). q .end) stops ∙ end ∙ ap (λ (l : List ℕ). passOn (args .most) (args .self) l .end) same;
         cursor =
             λ h.
             sym (cursor-after-none (at .cursor))
@@ -176,7 +156,7 @@ returns c =
             ∙ ap (cursorAfter (args .self .cursor)) same;
       },
       sym (stored-none _ words)
-          ∙ ap (λ (q : Passed). storedAt (turn .loop .out) words (q .words)) (sym stops)
+          ∙ ap (λ (q : Passed). storedAt (turn .loop .out) words (q .words)) stops
           ∙ stored
           ∙ ap (λ (l : List ℕ). storedAt (args .out .now) 0 (passOn (args .most) (args .self) l .words)) same,
     )

@@ -59,8 +59,7 @@ module _ (most from to : ℕ) (start : Reading) (us old : List ℕ) where
         : length us ≤ k
         → (record { reading = m; used = from + k } ≡ whole .end) × (out ≡ storedAt old to (whole .words))
     turn-ends h =
-        ends
-        (ap (passFrom most (from + k) m) (drop-of-length-le us {i = k} h) ∙ pass-ends most (from + k) m)
+        ends (ap (passFrom most (from + k) m) (drop-of-length-le us {i = k} h) ∙ pass-ends most (from + k) m)
 
     module _ (few : m .words < most) (small : most < 2 ^ 32) (inside : k < length us) where
       abbrev u : ℕ
@@ -99,8 +98,7 @@ module _ (most from to : ℕ) (start : Reading) (us old : List ℕ) where
           let step = step-stays-open m u (from + k) (ap isWhole (sym shift) ∙ part) in
           let none = ap length (step .1) in (
             taken next out place (shift ∙ sym (step .0))
-                (sym (stored-none out place) ∙ ap (storedAt out place) (sym (step .1)))
-                (omega arith)
+                (sym (stored-none out place) ∙ ap (storedAt out place) (sym (step .1))) (omega arith)
                 (omega arith),
             rw shift few,
           )
@@ -117,9 +115,7 @@ module _ (most from to : ℕ) (start : Reading) (us old : List ℕ) where
           let step = step-closes m u (from + k) (ap isWhole (sym shift) ∙ is-whole) in
           let one = ap length (step .1) in
           taken closing stored (place + 1)
-          (close ∙ ap (λ (r : Reading). closed r ((from + k) % 2 ^ 32)) shift ∙ sym (step .0))
-          (store
+          (close ∙ ap (λ (r : Reading). closed r ((from + k) % 2 ^ 32)) shift ∙ sym (step .0)) (store
           ∙ sym (stored-one out place word)
           ∙ ap (storedAt out place) (ap (λ (w : ℕ). w ∷ []) (code ∙ ap codeWord shift) ∙ sym (step .1)))
-          (omega arith)
-          (omega arith)
+          (omega arith) (omega arith)

@@ -98,8 +98,7 @@ module _ (n : ℕ) (start : Reading) (us : List ℕ) where
           let e : now ≡ next =
           apart
           ∙ join-is-shift (take 4 (drop (4 * i) us)) m
-          (cells-take 4 (drop (4 * i) us) (cells-drop (4 * i) us (cells .0)))
-          (omega (arith, size))
+          (cells-take 4 (drop (4 * i) us) (cells-drop (4 * i) us (cells .0))) (omega (arith, size))
           (omega (arith, size)) in
           let few = so-far .few in
           let room = so-far .size in

@@ -123,8 +123,7 @@ module _
       where
         row : (c : Class) → rowOf (g .seen c) ≡ rowOf (has start ds c)
         row c =
-            ap rowOf
-            (sym (append-nil (g .seen c))
+            ap rowOf (sym (append-nil (g .seen c))
             ∙ ap (λ (l : List ℕ). g .seen c ++ l) (sym (rw (drop-of-length-le ds h, classes-none cursor)))
             ∙ g .whole c)
 

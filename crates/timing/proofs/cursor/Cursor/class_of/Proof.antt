@@ -18,6 +18,5 @@ returns-5 c = sym (from-rpt-is-wide _ _ (omega arith) (omega arith) (omega arith
 
 pub class-of-spec : {M : Type 1} → statement M
 class-of-spec =
-    tie.close
-    (tie.spec (λ c. sym (below-min-is-narrow _ _ (omega arith)))
+    tie.close (tie.spec (λ c. sym (below-min-is-narrow _ _ (omega arith)))
     (λ c. sym (below-b23-is-two _ _ (omega arith) (omega arith))) returns-3 returns-4 returns-5)

@@ -1,4 +1,4 @@
--- Why `gather::store` stores the items that have room: after k turns it has stored the first k. Rests on no axiom.
+-- Why `lists::store` stores the numbers that have room: after k turns it has stored the first k. Rests on no axiom.
 use Prim.Native.Nat.{ℕ, _+_, _-_, _≤_}
 use mathlib.Core.Path.{_≡_, refl, sym, ap, _∙_}
 use native.Mathlib.Decide.{decLt}
@@ -6,18 +6,18 @@ use native.Mathlib.Nat.{add-zero}
 use native.Mathlib.Numerals.{add-one}
 use native.Mathlib.Omega.{arith}
 use lib.ListN.{length, drop, length-set, drop-of-length-le}
 use Rattle.lists.specs.Filled.{storedAt}
 use Rattle.lists.proofs.StoreLaws.{stored-none, stored-past-end, stored-rest}
 use borrow.Author.Needs.{needs}
-use Rattle.fields.proofs.gather.store.Statement.{statement}
-use Rattle.fields.proofs.gather.store.Tie as tie
+use Rattle.lists.proofs.store.Statement.{statement}
+use Rattle.lists.proofs.store.Tie as tie
 
 abbrev Inv-loop : tie.InvT-loop
-Inv-loop items at out₀ count k₀ out k =
-    (k ≤ count) × (length out ≡ length out₀) × (storedAt out (at + k) (drop k items) ≡ storedAt out₀ at items)
+Inv-loop numbers at out₀ count k₀ out k =
+    (k ≤ count) × (length out ≡ length out₀) × (storedAt out (at + k) (drop k numbers) ≡ storedAt out₀ at numbers)
 
 abbrev μ-loop : tie.MeasureT-loop
-μ-loop items at out₀ count k₀ out k = count - k
+μ-loop numbers at out₀ count k₀ out k = count - k
 
 returns : tie.Need-returns Inv-loop μ-loop
 returns c = sym (stored-past-end _ _ _ (c .if1 .taken))
@@ -47,7 +47,7 @@ loop-again c =
       omega (arith, c .before .loop-test .taken),
       length-set {A = ℕ} (turn .loop .out) _ _ ∙ turn .loop .inv .1,
       rw add-one
-          (stored-rest (turn .loop .out) (args .items .now) (args .at) (turn .loop .k) 0 more ∙ turn .loop .inv .2),
+          (stored-rest (turn .loop .out) (args .numbers .now) (args .at) (turn .loop .k) 0 more ∙ turn .loop .inv .2),
     )
 
 returns-2 : tie.Need-returns-2 Inv-loop μ-loop
@@ -57,13 +57,13 @@ returns-2 c =
     let k = turn .loop .k in
     let (within, same, rest) = turn .loop .inv in
     let few = turn .before .at-most .ensures in
-    elim (decLt k (length (args .items .now))) [
+    elim (decLt k (length (args .numbers .now))) [
       | yes h ↦
-          sym (stored-past-end _ (args .at + k) (drop k (args .items .now)) (omega (arith, few, same, c .loop-test .left)))
+          sym (stored-past-end _ (args .at + k) (drop k (args .numbers .now)) (omega (arith, few, same, c .loop-test .left)))
           ∙ rest
       | no h ↦
           sym
-          (ap (storedAt (turn .loop .out) (args .at + k)) (drop-of-length-le (args .items .now) {i = k} (omega arith))
+          (ap (storedAt (turn .loop .out) (args .at + k)) (drop-of-length-le (args .numbers .now) {i = k} (omega arith))
           ∙ stored-none _ _)
           ∙ rest
     ]
