@@ -17,13 +17,13 @@ use Rattle.refusal.proofs.AnswerLaws.{first-refusal-passes, refuse-if-passes, r
 use Rattle.refusal.proofs.AnswerLaws.{acceptance-fills-the-buffer}
 use Rattle.timing.specs.Profile.{profileRule}
 use Rattle.timing.specs.Class.{atStart, classesOf}
-use Rattle.timing.specs.Edges.{unitsFrom}
+use Rattle.timing.specs.machine.Edges.{unitsFrom}
 use Rattle.timing.specs.declared.Profile.{Profile}
 use Rattle.timing.proofs.ClassLaws.{classes-from-start, classes-length}
 use Rattle.timing.proofs.EdgeLaws.{accepted-ascends}
 use Rattle.symbols.specs.Reading.{readBits}
 use Rattle.symbols.specs.Strip.{isRagged, isStray, bytesRead, strayPlace, stripRule, stripItems}
-use Rattle.half_cells.specs.Candidate.{candidate}
+use Rattle.half_cells.specs.machine.Candidate.{candidate}
 use Rattle.symbols.specs.machine.Step.{freshReading, ran, ranWords, stripAnswer}
 use Rattle.symbols.specs.declared.Cell.{Cell}
 use Rattle.symbols.proofs.RoundTripLaws.{write-of-read}

@@ -17,7 +17,7 @@ use Rattle.timing.specs.Class.{classNumber}
 use Rattle.timing.specs.declared.Class.{Class}
 use Rattle.timing.specs.declared.Class.the-variants.{Narrow, Two, Three, Four}
 use Rattle.fields.specs.Lock.{beginsWith, lockPatterns, markAhead, lockFrom}
-use Rattle.fields.specs.Scan.{Twos}
+use Rattle.fields.specs.machine.Scan.{Twos}
 use Rattle.fields.proofs.FinderLaws.{lock-stands, broken-run-is-passed, longer-run-is-passed}
 use Rattle.fields.proofs.FinderLaws.{first-64-are-passed, search-ends-in-lock}
 

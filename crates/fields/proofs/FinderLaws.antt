@@ -14,7 +14,7 @@ use Rattle.refusal.specs.Answer.{accepted, refused}
 use Rattle.timing.specs.declared.Class.{Class}
 use Rattle.timing.specs.declared.Class.the-variants.{Narrow, Two}
 use Rattle.fields.specs.Lock.{markAhead, lockAt, firstLock, lockFrom}
-use Rattle.fields.specs.Scan.{Twos}
+use Rattle.fields.specs.machine.Scan.{Twos}
 use Rattle.fields.proofs.LockLaws.{run-ahead, run-broken, no-mark-of-none, two-begins-no-mark}
 
 module _ (cs : List Class) (k : ℕ) where

@@ -28,7 +28,7 @@ use Rattle.intervals.proofs.CellLaws.{ReadAs, as-short, as-medium, as-long, by-
 use Rattle.fields.specs.Field.{wantedAfter, bitsWanted, cellsTaken, fieldCells, fieldItems}
 use Rattle.fields.specs.FieldRule.{fieldRule}
 use Rattle.fields.specs.Lock.{beginsWith}
-use Rattle.fields.specs.Marks.{threeMarks}
+use Rattle.fields.specs.machine.Marks.{threeMarks}
 use Rattle.fields.proofs.TakenLaws.{taken-one-more}
 use Rattle.fields.proofs.FieldLaws.{field-items-of-cells, field-stray-of-cells}
 use Rattle.fields.proofs.RuleLaws.{gather-stops-nowhere, gather-meets-no-stray}

@@ -15,7 +15,7 @@ use Rattle.timing.specs.declared.Class.{Class}
 use Rattle.timing.specs.declared.Class.the-variants.{Narrow, Two, Three, Four, Wide}
 use Rattle.timing.specs.declared.cursor.Cursor.{Cursor}
 use Rattle.timing.proofs.ClassLaws.{classes-here}
-use Rattle.fields.specs.Scan.{RunTo}
+use Rattle.fields.specs.machine.Scan.{RunTo}
 
 is-two : (c : Class) → isTwo c ≡ true → c ≡ Two
 is-two Narrow e = absurd (true≢false (sym e))

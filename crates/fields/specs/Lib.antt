@@ -1,7 +1,5 @@
 pub mod Lock
-pub mod Scan
 pub mod Field
 pub mod FieldRule
 pub mod Claims
-pub mod End
-pub mod Marks
+pub mod machine

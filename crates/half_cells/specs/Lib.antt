@@ -1,4 +1,1 @@
--- The byte of a word
-pub mod Candidate
--- A word of half cells
-pub mod Word
+pub mod machine

@@ -3,8 +3,8 @@
 ghost use Prim.Native.Nat.{_<_};
 ghost use mathlib.Core.Path.{_≡_};
 ghost use mathlib.Core.List.{map};
-ghost use Rattle.half_cells.specs.Candidate.{dataBits, candidate};
-ghost use Rattle.half_cells.specs.Word.{missing, isMarkWord, fits, cellsSince, firstOfCells};
+ghost use Rattle.half_cells.specs.machine.Candidate.{dataBits, candidate};
+ghost use Rattle.half_cells.specs.machine.Word.{missing, isMarkWord, fits, cellsSince, firstOfCells};
 
 const MARK_A1: u16 = 0x1a1;
 

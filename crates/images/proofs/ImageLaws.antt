@@ -15,7 +15,7 @@ use Rattle.symbols.specs.Bits.{Bit, O}
 use Rattle.symbols.specs.Bytes.{isGap}
 use Rattle.words.specs.Words.{wordOf, lastBit}
 use Rattle.images.specs.Image.{imageFrom, imageOf, hasWord, isUnruly, byteOf, unrulyFrom, bytesFrom}
-use Rattle.half_cells.specs.Candidate.{candidate}
+use Rattle.half_cells.specs.machine.Candidate.{candidate}
 use Rattle.images.proofs.WordLaws.{word-is-kept, last-bit-is-data}
 use Rattle.images.proofs.ReadLaws.{candidate-is-byte, ruly-where-candidate-has, candidate-has-where-ruly}
 use Rattle.images.proofs.ReadLaws.{unruly-where-candidate-lacks}

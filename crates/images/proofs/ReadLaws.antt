@@ -19,7 +19,7 @@ use Rattle.symbols.specs.Bits.{Bit}
 use Rattle.symbols.specs.Bytes.{isGap}
 use Rattle.words.specs.Words.{wordOf}
 use Rattle.images.specs.Image.{allBytes, hasWord, isUnruly, byteOf}
-use Rattle.half_cells.specs.Candidate.{fours, dataBits, candidate}
+use Rattle.half_cells.specs.machine.Candidate.{fours, dataBits, candidate}
 use Rattle.images.proofs.WordLaws.{word-is-kept}
 
 -- ---- every byte is among them, and nothing else

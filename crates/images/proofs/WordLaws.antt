@@ -13,7 +13,7 @@ use Rattle.symbols.proofs.CellLaws.{follows, sound}
 use Rattle.symbols.proofs.HalfCells.{clockAfter, dataOf, cellsAfter}
 use Rattle.words.specs.Words.{clockBit, clocked, dataWord, markWord, wordOf, lastBit}
 use Rattle.images.specs.Distances.{halfCells}
-use Rattle.half_cells.specs.Candidate.{dataBits, candidate}
+use Rattle.half_cells.specs.machine.Candidate.{dataBits, candidate}
 use Rattle.images.specs.machine.TopBits.{topBits}
 
 -- ---- the test

@@ -8,7 +8,7 @@ ghost use Rattle.lists.specs.Filled.{filled};
 ghost use Rattle.refusal.specs.Answer.{verdictAnswer, countedAnswer};
 ghost use Rattle.images.specs.Image.{unrulyIn};
 ghost use Rattle.images.specs.Rules.{wordsRule, readImageRule, readImageOutput};
-ghost use Rattle.half_cells.specs.Candidate.{candidate};
+ghost use Rattle.half_cells.specs.machine.Candidate.{candidate};
 use half_cells::byte_of;
 use half_cells::words_to_bytes;
 use lists::store;

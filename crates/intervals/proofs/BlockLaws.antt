@@ -11,7 +11,7 @@ use lib.ListN.{length, take, drop, length-take, length-drop, take-append-drop, d
 use lib.Seq.{drop-drop}
 use Rattle.lists.proofs.BoolLaws.{both, second-fails}
 use Rattle.timing.specs.Class.{atStart, cursorAfter}
-use Rattle.timing.specs.Edges.{unitsFrom}
+use Rattle.timing.specs.machine.Edges.{unitsFrom}
 use Rattle.timing.specs.declared.Profile.{Profile}
 use Rattle.timing.proofs.UnitsLaws.{units-none, units-count, units-append, cursor-after-append}
 use Rattle.symbols.specs.machine.Step.{freshReading}

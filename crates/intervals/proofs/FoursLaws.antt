@@ -16,10 +16,10 @@ use Rattle.lists.specs.Place.{everywhere}
 use Rattle.lists.proofs.BoolLaws.{both}
 use Rattle.lists.proofs.PlaceLaws.{everywhere-of-append}
 use Rattle.timing.specs.Class.{cursorPast}
-use Rattle.timing.specs.Edges.{unitsFrom}
+use Rattle.timing.specs.machine.Edges.{unitsFrom}
 use Rattle.timing.specs.declared.cursor.Cursor.{Cursor}
 use Rattle.timing.proofs.UnitsLaws.{units-in-range}
-use Rattle.half_cells.specs.Word.{missing, isMarkWord, misfits, fits}
+use Rattle.half_cells.specs.machine.Word.{missing, isMarkWord, misfits, fits}
 use Rattle.symbols.specs.machine.Step.{AllCells, shiftedAll, shifted, isWhole, wordOf, codeWord, closed, eased, steppedBy, wordBy}
 use Rattle.symbols.specs.declared.Reading.{Reading}
 use Rattle.symbols.proofs.WholeLaws.{step-stays-open, step-closes}

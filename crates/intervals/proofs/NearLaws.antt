@@ -8,7 +8,7 @@ use native.Mathlib.Omega.{arith}
 use Rattle.lists.specs.Place.{everywhere}
 use Rattle.refusal.specs.Answer.{accepted, refused}
 use Rattle.timing.specs.Class.{classIn, isCell, classNumber, cursorPast, classesFrom, Ascending}
-use Rattle.timing.specs.Edges.{unitsIn, unitsFrom}
+use Rattle.timing.specs.machine.Edges.{unitsIn, unitsFrom}
 use Rattle.timing.specs.declared.Class.{Class}
 use Rattle.timing.specs.declared.Class.the-variants.{Narrow, Two, Three, Four, Wide}
 use Rattle.timing.specs.declared.cursor.Cursor.{Cursor}

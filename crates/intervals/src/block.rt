@@ -6,7 +6,7 @@ ghost use lib.Dec.{ltb};
 ghost use lib.ListN.{length};
 ghost use Rattle.lists.specs.Filled.{storedAt};
 ghost use Rattle.timing.specs.Class.{cursorAfter};
-ghost use Rattle.timing.specs.Edges.{unitsFrom};
+ghost use Rattle.timing.specs.machine.Edges.{unitsFrom};
 ghost use Rattle.symbols.specs.machine.Step.{AllCells};
 ghost use Rattle.intervals.specs.machine.Pass.{passFrom};
 ghost use Rattle.intervals.specs.machine.Blocks.{atFirst, passOn, wordsOf, Reaches};

@@ -6,7 +6,7 @@ ghost use mathlib.Core.List.{map};
 ghost use lib.ListN.{length, take, drop};
 ghost use Rattle.lists.specs.Filled.{storedAt};
 ghost use Rattle.lists.specs.Place.{everywhere};
-ghost use Rattle.half_cells.specs.Word.{fits};
+ghost use Rattle.half_cells.specs.machine.Word.{fits};
 ghost use Rattle.symbols.specs.machine.Step.{AllCells, shiftedAll, emptyReading};
 ghost use Rattle.intervals.specs.machine.Fours.{alone, foursFrom};
 use half_cells::fits;

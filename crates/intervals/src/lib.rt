@@ -3,7 +3,7 @@ ghost use Prim.Native.Nat.{_-_, _^_, _≤_};
 ghost use mathlib.Core.Path.{_≡_};
 ghost use Rattle.lists.specs.Filled.{storedAt};
 ghost use Rattle.timing.specs.Class.{atStart};
-ghost use Rattle.timing.specs.Edges.{unitsFrom};
+ghost use Rattle.timing.specs.machine.Edges.{unitsFrom};
 ghost use Rattle.intervals.specs.machine.Pass.{passed};
 use block::Progress;
 use symbols::Reading;

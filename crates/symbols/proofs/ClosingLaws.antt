@@ -15,8 +15,8 @@ use Rattle.symbols.specs.Bits.{Bit, O, lastOf}
 use Rattle.symbols.specs.Bytes.{numberFrom, isGap, itemOf, rowStrays, rowsOf, straysOf, itemsRead}
 use Rattle.symbols.specs.Reading.{readBits, sources}
 use Rattle.symbols.specs.Strip.{isStray}
-use Rattle.half_cells.specs.Candidate.{candidate}
-use Rattle.half_cells.specs.Word.{missing, misfits, cellsSince, firstOfCells}
+use Rattle.half_cells.specs.machine.Candidate.{candidate}
+use Rattle.half_cells.specs.machine.Word.{missing, misfits, cellsSince, firstOfCells}
 use Rattle.symbols.specs.machine.Step.{surplus, wordOf, codeWord, closed}
 use Rattle.symbols.specs.declared.Cell.{Cell}
 use Rattle.symbols.specs.declared.Reading.{Reading}

@@ -9,7 +9,7 @@ use native.Mathlib.Omega.{arith}
 use borrow.Author.Tests.{lt-leb, le-leb}
 use lib.Bits.{bitOr, or-shifted}
 use lib.Pow.{pow-pos, pow-lt, shl-shr, shr-shr, high, low, mod-pow-add}
-use Rattle.half_cells.specs.Word.{misfits}
+use Rattle.half_cells.specs.machine.Word.{misfits}
 use Rattle.symbols.specs.machine.Step.{shifted, surplus, wordOf, closed, eased}
 use Rattle.symbols.specs.declared.Reading.{Reading}
 

@@ -17,7 +17,7 @@ use Rattle.symbols.specs.Bits.{Bit, I, lastOf}
 use Rattle.symbols.specs.Bytes.{numberFrom, rowsOf, straysOf, itemsRead, straysRead}
 use Rattle.symbols.specs.Reading.{units, given, lastAfter, readFrom, readBits, sources}
 use Rattle.symbols.specs.Strip.{isStray}
-use Rattle.half_cells.specs.Candidate.{candidate}
+use Rattle.half_cells.specs.machine.Candidate.{candidate}
 use Rattle.symbols.specs.machine.Step.{freshReading, shifted, codeWord, closed, steppedBy, stepped}
 use Rattle.symbols.specs.machine.Step.{wordBy, wordClosed}
 use Rattle.symbols.specs.declared.Cell.{Cell}

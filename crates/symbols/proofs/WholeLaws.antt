@@ -8,7 +8,7 @@ use native.Mathlib.Omega.{arith}
 use native.Mathlib.Decide.{decLt}
 use borrow.Author.Tests.{lt-leb, le-leb}
 use lib.ListN.{length}
-use Rattle.half_cells.specs.Word.{firstOfCells}
+use Rattle.half_cells.specs.machine.Word.{firstOfCells}
 use Rattle.symbols.specs.machine.Step.{shifted, isWhole, codeWord, closed, steppedBy, wordBy}
 use Rattle.symbols.specs.declared.Reading.{Reading}
 

@@ -12,8 +12,8 @@ use lib.ListN.{length, take}
 use Rattle.lists.specs.Place.{anywhere, lowest, passed}
 use Rattle.symbols.specs.Bits.{Bit, O, I, G, lastOf}
 use Rattle.symbols.specs.Bytes.{digit, numberFrom, isGap, gapInPlace, straysFrom, rowStrays, itemOf}
-use Rattle.half_cells.specs.Candidate.{dataBits, candidate}
-use Rattle.half_cells.specs.Word.{missing, isMarkWord, misfits}
+use Rattle.half_cells.specs.machine.Candidate.{dataBits, candidate}
+use Rattle.half_cells.specs.machine.Word.{missing, isMarkWord, misfits}
 use Rattle.symbols.proofs.TestLaws.{and-false, holds, implied, left-of, right-of}
 use Rattle.symbols.proofs.RowLaws.{overLetters, over-letters}
 use Rattle.symbols.proofs.CellLaws.{follows, sound}

@@ -10,7 +10,7 @@ use lib.Dec.{leb}
 use lib.ListN.{length, drop, getD}
 use lib.Seq.{drop-cons}
 use Rattle.timing.specs.Class.{classIn, isCell, classNumber, cursorPast, cursorAfter, Ascending}
-use Rattle.timing.specs.Edges.{unitsIn, unitsFrom}
+use Rattle.timing.specs.machine.Edges.{unitsIn, unitsFrom}
 use Rattle.timing.specs.declared.cursor.Cursor.{Cursor}
 use Rattle.timing.proofs.EdgeLaws.{by-edges}
 

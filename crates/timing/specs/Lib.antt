@@ -1,4 +1,4 @@
 pub mod Numbers
 pub mod Profile
 pub mod Class
-pub mod Edges
+pub mod machine

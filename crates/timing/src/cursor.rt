@@ -1,7 +1,7 @@
 // The one way to class intervals: a cursor that goes over a list from its first interval on.
 ghost use mathlib.Core.Path.{_≡_};
 ghost use Rattle.timing.specs.Class.{atStart, classIn, isCell, isTwo, cursorPast, classed, Ascending};
-ghost use Rattle.timing.specs.Edges.{unitsIn};
+ghost use Rattle.timing.specs.machine.Edges.{unitsIn};
 use crate::Class;
 use crate::HalfClocks;
 use crate::Profile;

@@ -18,7 +18,7 @@ use Rattle.timing.specs.declared.Profile.{Profile}
 use Rattle.fields.specs.Field.{fieldItems}
 use Rattle.fields.specs.FieldRule.{GathersItems, fieldTurnedAway, fieldRule, fieldReading}
 use Rattle.fields.specs.Lock.{beginsWith}
-use Rattle.fields.specs.Marks.{threeMarks}
+use Rattle.fields.specs.machine.Marks.{threeMarks}
 use Rattle.fields.proofs.FieldLaws.{field-items-count}
 use Rattle.fields.proofs.RuleLaws.{gather-stops-nowhere}
 use Rattle.fields.proofs.ReaderLaws.{gather-accepts, output-is-items}

@@ -2,7 +2,7 @@
 use mathlib.Core.Path.{refl}
 use borrow.Author.Tests.{ne-eqb}
 use borrow.Author.Needs.{needs}
-use Rattle.half_cells.specs.Candidate.{candidate}
+use Rattle.half_cells.specs.machine.Candidate.{candidate}
 use Rattle.half_cells.proofs.byte_of.Statement.{statement}
 use Rattle.half_cells.proofs.byte_of.Tie as tie
 

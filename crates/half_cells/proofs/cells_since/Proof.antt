@@ -7,7 +7,7 @@ use lib.Bits.{bitAnd, and-mask}
 use lib.Count.{ones, leading-le}
 use lib.Pow.{pow-pos, shl-exact}
 use borrow.Author.Needs.{needs}
-use Rattle.half_cells.specs.Word.{cellsSince}
+use Rattle.half_cells.specs.machine.Word.{cellsSince}
 use Rattle.half_cells.proofs.cells_since.Statement.{statement}
 use Rattle.half_cells.proofs.cells_since.Tie as tie
 

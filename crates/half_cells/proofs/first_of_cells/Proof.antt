@@ -3,7 +3,7 @@ use Prim.Native.Nat.{ℕ, _+_, _-_, _%_, _^_, _<_}
 use mathlib.Core.Path.{_≡_}
 use native.Mathlib.Omega.{arith}
 use borrow.Author.Needs.{needs}
-use Rattle.half_cells.specs.Word.{firstOfCells}
+use Rattle.half_cells.specs.machine.Word.{firstOfCells}
 use Rattle.half_cells.proofs.first_of_cells.Statement.{statement}
 use Rattle.half_cells.proofs.first_of_cells.Tie as tie
 

@@ -1,6 +1,6 @@
 -- `word::missing` is `missing` itself.
 use mathlib.Core.Path.{refl}
-use Rattle.half_cells.specs.Word.{missing}
+use Rattle.half_cells.specs.machine.Word.{missing}
 use Rattle.half_cells.proofs.missing.Statement.{statement}
 use Rattle.half_cells.proofs.missing.Tie as tie
 

@@ -8,7 +8,7 @@ use native.Mathlib.Numerals.{add-one}
 use borrow.Author.Needs.{needs}
 use lib.ListN.{length, getD, set, take, drop, length-set}
 use lib.Seq.{drop-cons, take-suc-set, drop-set-lt, take-length, drop-length}
-use Rattle.half_cells.specs.Candidate.{candidate}
+use Rattle.half_cells.specs.machine.Candidate.{candidate}
 use Rattle.half_cells.proofs.words_to_bytes.Statement.{statement}
 use Rattle.half_cells.proofs.words_to_bytes.Tie as tie
 

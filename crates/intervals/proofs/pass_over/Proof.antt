@@ -6,7 +6,7 @@ use lib.ListN.{length}
 use lib.Seq.{take-length}
 use Rattle.lists.specs.Filled.{storedAt}
 use Rattle.timing.specs.Class.{atStart}
-use Rattle.timing.specs.Edges.{unitsFrom}
+use Rattle.timing.specs.machine.Edges.{unitsFrom}
 use Rattle.timing.specs.declared.Profile.{Profile}
 use Rattle.intervals.specs.machine.Pass.{Passed, passed}
 use Rattle.intervals.specs.machine.Blocks.{atFirst, passOn, nextOf, wordsOf}

@@ -5,7 +5,7 @@ use mathlib.Core.Path.{_≡_}
 use mathlib.Core.List.{List}
 use lib.ListN.{take, drop}
 use Rattle.timing.specs.Class.{atStart, cursorAfter}
-use Rattle.timing.specs.Edges.{unitsFrom}
+use Rattle.timing.specs.machine.Edges.{unitsFrom}
 use Rattle.timing.specs.declared.Profile.{Profile}
 use Rattle.symbols.specs.machine.Step.{freshReading}
 use Rattle.intervals.specs.machine.Pass.{Passed, passFrom}

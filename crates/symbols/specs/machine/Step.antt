@@ -11,7 +11,7 @@ use lib.Dec.{eqb, leb, ltb}
 use Rattle.lists.specs.Filled.{ifGiven}
 use Rattle.refusal.specs.Answer.{Answer, accepted, refuseIf}
 use Rattle.symbols.specs.Reading.{units}
-use Rattle.half_cells.specs.Word.{missing, misfits, cellsSince, firstOfCells}
+use Rattle.half_cells.specs.machine.Word.{missing, misfits, cellsSince, firstOfCells}
 use Rattle.symbols.specs.declared.Cell.{Cell}
 use Rattle.symbols.specs.declared.Reading.{Reading}
 

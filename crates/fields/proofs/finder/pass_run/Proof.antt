@@ -8,7 +8,7 @@ use lib.ListN.{length}
 use Rattle.timing.specs.Class.{Ascending}
 use Rattle.timing.specs.declared.cursor.Cursor.{Cursor}
 use Rattle.timing.proofs.EdgeLaws.{ascending-past}
-use Rattle.fields.specs.Scan.{RunTo}
+use Rattle.fields.specs.machine.Scan.{RunTo}
 use Rattle.fields.proofs.RunLaws.{run-goes-on}
 use Rattle.fields.proofs.finder.pass_run.Statement.{statement}
 use Rattle.fields.proofs.finder.pass_run.Tie as tie

@@ -1,7 +1,7 @@
 -- Why `fields::finder::three_marks_ahead` answers `beginsWith threeMarks`: it tries that pattern from the first interval
 -- on. Rests on no axiom.
 use Rattle.timing.specs.Class.{classesOf}
-use Rattle.fields.specs.Marks.{threeMarks}
+use Rattle.fields.specs.machine.Marks.{threeMarks}
 use borrow.Author.Needs.{needs}
 use Rattle.fields.proofs.finder.three_marks_ahead.Statement.{statement}
 use Rattle.fields.proofs.finder.three_marks_ahead.Tie as tie

@@ -3,7 +3,7 @@ use mathlib.Core.Path.{sym, ap, _∙_}
 use borrow.Author.Tests.{lt-ltb, le-ltb}
 use borrow.Author.Needs.{needs}
 use Rattle.refusal.specs.Answer.{refused}
-use Rattle.fields.specs.End.{endRule}
+use Rattle.fields.specs.machine.End.{endRule}
 use Rattle.fields.proofs.gather.conclude.Statement.{statement}
 use Rattle.fields.proofs.gather.conclude.Tie as tie
 

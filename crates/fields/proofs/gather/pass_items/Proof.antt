@@ -11,7 +11,7 @@ use Rattle.lists.proofs.StoreLaws.{stored-none, stored-next, stored-length, fro
 use Rattle.items.specs.Written.{afterBytes}
 use Rattle.items.specs.declared.Check.{Check}
 use Rattle.items.proofs.CheckLaws.{after-bytes-of-append}
-use Rattle.half_cells.specs.Candidate.{candidate}
+use Rattle.half_cells.specs.machine.Candidate.{candidate}
 use Rattle.symbols.specs.machine.Step.{freshReading}
 use Rattle.intervals.specs.machine.Pass.{Passed}
 use Rattle.intervals.specs.machine.Blocks.{atFirst, restFrom, wordsOf, Reaches}

@@ -14,7 +14,7 @@ use lib.Seq.{drop-cons}
 use Rattle.lists.specs.Place.{lowest, passed}
 use Rattle.words.specs.Words.{wordOf, lastBit}
 use Rattle.images.specs.Image.{unrulyFrom, unrulyIn}
-use Rattle.half_cells.specs.Candidate.{candidate}
+use Rattle.half_cells.specs.machine.Candidate.{candidate}
 use Rattle.images.proofs.WordLaws.{last-bit-is-data}
 use Rattle.images.proofs.ImageLaws.{lowest-after-ruly, lowest-is-unruly}
 use Rattle.images.proofs.read.find_unruly.Statement.{statement}

@@ -10,7 +10,7 @@ use Rattle.refusal.proofs.AnswerLaws.{acceptance-fills-the-buffer}
 use Rattle.symbols.specs.Bits.{O}
 use Rattle.images.specs.Image.{unrulyIn, bytesIn}
 use Rattle.images.specs.Rules.{wordsRule, readImageRule, readImageOutput}
-use Rattle.half_cells.specs.Candidate.{candidate}
+use Rattle.half_cells.specs.machine.Candidate.{candidate}
 use Rattle.images.proofs.ImageLaws.{bytes-are-candidates}
 use Rattle.images.proofs.RuleLaws.{accepted-with-room, refused-without-room, rule-of-read, words-of-accepted}
 use borrow.Author.Needs.{needs}

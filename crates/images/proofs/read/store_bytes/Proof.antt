@@ -5,7 +5,7 @@ use native.Mathlib.Omega.{arith}
 use lib.ListN.{length-map}
 use lib.Seq.{length-take-le}
 use Rattle.lists.proofs.StoreLaws.{stored-at-front-fills, mapped-at-front}
-use Rattle.half_cells.specs.Candidate.{candidate}
+use Rattle.half_cells.specs.machine.Candidate.{candidate}
 use borrow.Author.Needs.{needs}
 use Rattle.images.proofs.read.store_bytes.Statement.{statement}
 use Rattle.images.proofs.read.store_bytes.Tie as tie

@@ -9,7 +9,7 @@ use lib.ListN.{length, take, drop, length-drop, length-map, take-append-drop}
 use lib.Seq.{length-take-le, take-all}
 use Rattle.lists.specs.Place.{everywhere}
 use Rattle.lists.proofs.StoreLaws.{stored-next}
-use Rattle.half_cells.specs.Word.{fits}
+use Rattle.half_cells.specs.machine.Word.{fits}
 use Rattle.symbols.specs.machine.Step.{AllCells}
 use Rattle.symbols.specs.declared.Reading.{Reading}
 use Rattle.intervals.specs.machine.Pass.{after, passFrom}

@@ -8,7 +8,7 @@ use lib.ListN.{length, drop, length-set, drop-of-length-le}
 use Rattle.lists.specs.Filled.{storedAt}
 use Rattle.lists.proofs.StoreLaws.{stored-none, stored-one, stored-next, stored-over-all}
 use Rattle.timing.specs.Class.{cursorAfter}
-use Rattle.timing.specs.Edges.{unitsFrom}
+use Rattle.timing.specs.machine.Edges.{unitsFrom}
 use Rattle.timing.proofs.UnitsLaws.{units-none, units-count, units-here, cursor-here, cursor-after-none}
 use borrow.Author.Needs.{needs}
 use Rattle.intervals.proofs.block.units_of.Statement.{statement}

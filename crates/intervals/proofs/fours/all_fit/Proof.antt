@@ -8,7 +8,7 @@ use native.Mathlib.Omega.{arith}
 use lib.ListN.{length, drop, drop-of-length-le}
 use lib.Seq.{drop-cons}
 use Rattle.lists.specs.Place.{everywhere}
-use Rattle.half_cells.specs.Word.{fits}
+use Rattle.half_cells.specs.machine.Word.{fits}
 use borrow.Author.Needs.{needs}
 use Rattle.intervals.proofs.fours.all_fit.Statement.{statement}
 use Rattle.intervals.proofs.fours.all_fit.Tie as tie

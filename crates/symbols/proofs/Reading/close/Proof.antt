@@ -3,7 +3,7 @@
 use borrow.Author.Tests.{eq-eqb, ne-eqb}
 use mathlib.Core.Path.{sym, _∙_}
 use borrow.Author.Needs.{needs}
-use Rattle.half_cells.specs.Word.{misfits}
+use Rattle.half_cells.specs.machine.Word.{misfits}
 use Rattle.symbols.specs.machine.Step.{surplus, wordOf, closed}
 use Rattle.symbols.proofs.Reading.close.Statement.{statement}
 use Rattle.symbols.proofs.Reading.close.Tie as tie

@@ -14,7 +14,7 @@ use Rattle.timing.specs.declared.Class.{Class}
 use Rattle.timing.specs.declared.cursor.Cursor.{Cursor}
 use Rattle.timing.proofs.ClassLaws.{classes-count}
 use Rattle.fields.specs.Lock.{markAhead, lockAt, lockFrom}
-use Rattle.fields.specs.Scan.{RunTo, PassesRun}
+use Rattle.fields.specs.machine.Scan.{RunTo, PassesRun}
 use Rattle.fields.proofs.FinderLaws.{lock-stands, broken-run-has-no-lock, no-lock-without-mark}
 use Rattle.fields.proofs.FinderLaws.{no-lock-past-end, search-goes-on, broken-run-is-passed}
 use Rattle.fields.proofs.FinderLaws.{longer-run-is-passed, first-64-are-passed}

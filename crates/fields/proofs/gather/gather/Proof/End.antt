@@ -16,7 +16,7 @@ use Rattle.refusal.proofs.AnswerLaws.{refusal-decides, first-refusal-passes, fi
 use Rattle.refusal.proofs.AnswerLaws.{refuse-if-accepts, number-is-not-zero}
 use Rattle.timing.specs.Profile.{profileRule}
 use Rattle.timing.specs.Class.{atStart, classesOf}
-use Rattle.timing.specs.Edges.{unitsFrom}
+use Rattle.timing.specs.machine.Edges.{unitsFrom}
 use Rattle.timing.specs.declared.Profile.{Profile}
 use Rattle.timing.specs.declared.Class.{Class}
 use Rattle.timing.proofs.ClassLaws.{classes-from-start}
@@ -26,7 +26,7 @@ use Rattle.symbols.specs.Bits.{O}
 use Rattle.symbols.specs.Bytes.{itemsRead}
 use Rattle.symbols.specs.Reading.{units, readFrom, readBits}
 use Rattle.symbols.specs.Strip.{isStray}
-use Rattle.half_cells.specs.Candidate.{candidate}
+use Rattle.half_cells.specs.machine.Candidate.{candidate}
 use Rattle.symbols.specs.machine.Step.{freshReading, strayNow, placeNow}
 use Rattle.symbols.specs.declared.Cell.{Cell}
 use Rattle.symbols.specs.declared.Reading.{Reading}
@@ -41,7 +41,7 @@ use Rattle.intervals.proofs.CellLaws.{classOfCell, cellOfUnits}
 use Rattle.intervals.proofs.NearLaws.{nearCells, units-of-near-cells, classes-are-near}
 use Rattle.fields.specs.Field.{bitsWanted, fieldStop, fieldCells, fieldUsed, fieldItems, fieldStray, fieldStrayPlace}
 use Rattle.fields.specs.FieldRule.{gatherRule, GathersItems, TellsSum}
-use Rattle.fields.specs.End.{endRule}
+use Rattle.fields.specs.machine.End.{endRule}
 use Rattle.fields.proofs.AgreeLaws.{same-items, same-gather}
 use Rattle.fields.proofs.FieldLaws.{field-bits-enough, field-items-of-cells, field-stray-of-cells}
 use Rattle.fields.proofs.FieldLaws.{field-place-of-cells}

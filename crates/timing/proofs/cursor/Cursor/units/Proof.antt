@@ -5,7 +5,7 @@ use mathlib.Core.Bool.{Bool, true, false}
 use native.Mathlib.Omega.{arith}
 use mir.Val.{boolByte}
 use lib.Dec.{leb}
-use Rattle.timing.specs.Edges.{unitsIn}
+use Rattle.timing.specs.machine.Edges.{unitsIn}
 use borrow.Author.Needs.{needs}
 use Rattle.timing.proofs.cursor.Cursor.units.Statement.{statement}
 use Rattle.timing.proofs.cursor.Cursor.units.Tie as tie

@@ -1,0 +1,7 @@
+-- Machines, not meaning.
+-- What the finder has passed over
+pub mod Scan
+-- How the pass over a field ends
+pub mod End
+-- What a sector's field begins with
+pub mod Marks
