@@ -96,7 +96,7 @@ store-requires c κs =
     let shifted = c .before .before .before .before .before .before .before in
     let start = shifted .before .before .before .before .before .before in
     let few = shifted .shift-fours .ensures .1 .0 in
-    omega (arith, count-is shifted, few, start .pre .0 .1, start .pre .1 .0, start .pre .1 .1 .1)
+    omega (arith, count-is shifted, few, start .pre .1 .0, start .pre .1 .1 .0, start .pre .1 .1 .1)
 
 shift-in-requires : tie.Need-shift-in-requires
 shift-in-requires c κs =
