@@ -17,9 +17,8 @@ use Rattle.timing.proofs.UnitsLaws.{units-none, units-count, units-append, curs
 use Rattle.symbols.specs.machine.Step.{freshReading}
 use Rattle.intervals.specs.machine.Pass.{Passed, ended, after, passFrom, passed}
 use Rattle.intervals.specs.machine.Blocks.{atFirst, passOn, restFrom, nextOf, wordsOf, Reaches}
-use Rattle.intervals.specs.declared.Pass.{Pass}
 use Rattle.intervals.specs.declared.block.Progress.{Progress}
-use Rattle.intervals.proofs.FoursLaws.{units-are-cells, held-by-pass, half-cells}
+use Rattle.intervals.proofs.FoursLaws.{units-are-cells}
 use Rattle.intervals.proofs.PassLaws.{pass-ends, pass-is-full, pass-in-parts, Counts, pass-counts}
 
 -- ---- as many as are taken of a list
@@ -63,30 +62,22 @@ module _ (most : ℕ) (ds : List ℕ) (at : Progress) where
 
   -- ---- where the pass ends
 
-  pub rest-is-full : most ≤ words → restFrom most ds at ≡ ended (at .pass .reading) used
-  unfolding restFrom
-  rest-is-full h = pass-is-full most used (at .pass .reading) _ h
-
-  rest-ends : length ds ≤ used → restFrom most ds at ≡ ended (at .pass .reading) used
-  unfolding restFrom
-  rest-ends h =
-      ap (passFrom most used (at .pass .reading))
-      (ap (unitsFrom (at .cursor)) (drop-of-length-le ds {i = used} h) ∙ units-none (at .cursor))
-      ∙ pass-ends most used (at .pass .reading)
-
-  pub rest-stops
-      : (ltb used (length ds) && ltb words most) ≡ false → restFrom most ds at ≡ ended (at .pass .reading) used
-  rest-stops e =
-      elim (decLt used (length ds)) [
-        | yes h ↦ rest-is-full (ltb-false _ _ (second-fails _ _ e (lt-ltb used (length ds) h)))
-        | no h ↦ rest-ends (omega arith)
-      ]
-
   pub nothing-left : (ltb used (length ds) && ltb words most) ≡ false → words < most → length ds ≤ used
   nothing-left e wanted =
       elim (decLt used (length ds)) [
         | yes h ↦ absurd (omega (arith, ltb-false words most (second-fails _ _ e (lt-ltb used (length ds) h))))
         | no h ↦ omega arith
+      ]
+
+  pub rest-stops
+      : (ltb used (length ds) && ltb words most) ≡ false → restFrom most ds at ≡ ended (at .pass .reading) used
+  unfolding restFrom
+  rest-stops e =
+      elim (decLt words most) [
+        | yes h ↦
+            rw (drop-of-length-le ds {i = used} (nothing-left e h), units-none (at .cursor))
+            (pass-ends most used (at .pass .reading))
+        | no h ↦ pass-is-full most used (at .pass .reading) _ (omega arith)
       ]
 
   -- ---- one part
@@ -105,69 +96,52 @@ module _ (most : ℕ) (ds : List ℕ) (at : Progress) where
       first = passOn most at part
 
       part-count : length us ≡ min count (length ds - used)
-      part-count = units-count (at .cursor) part ∙ length-take count (drop used ds) ∙ ap (min count) (length-drop used ds)
+      part-count = simp (units-count, length-take, length-drop)
 
       counts : Counts most used (at .pass .reading) us first
-      counts = pass-counts most used (at .pass .reading) us small
+      counts = pass-counts most used (at .pass .reading) us small (units-are-cells _ _) (fair .room)
 
       -- where bytes are wanted still, all of the part was used
       over : next .pass .reading .words < most → drop count (drop used ds) ≡ drop (next .pass .used) ds
       over h =
-          sym (drop-taken count (drop used ds))
-          ∙ drop-drop (length part) used ds
-          ∙ ap (λ (k : ℕ). drop k ds) (sym
-          (ap (λ (p : Pass). p .used) (reaches .pass)
-          ∙ counts .all-used (rw (reaches .pass) at h)
-          ∙ ap (λ (k : ℕ). used + k) (units-count (at .cursor) part)))
-
-      in-parts
-          : restFrom most ds at
-          ≡ after (first .words) (passFrom most (next .pass .used) (next .pass .reading)
-          (unitsFrom (cursorAfter (at .cursor) part) (drop count (drop used ds))))
-      unfolding restFrom
-      in-parts =
-          ap (λ (l : List ℕ). passFrom most used (at .pass .reading) (unitsFrom (at .cursor) l))
-          (sym (take-append-drop count (drop used ds)))
-          ∙ ap (passFrom most used (at .pass .reading)) (units-append (at .cursor) part (drop count (drop used ds)))
-          ∙ pass-in-parts most used (at .pass .reading) us _
-          ∙ rw (reaches .pass)
+          rw (
+            reaches .pass,
+            counts .all-used (rw (reaches .pass) at h),
+            units-count,
+            ← drop-taken count (drop used ds),
+            drop-drop,
+          )
 
       pub rest-goes-on : restFrom most ds at ≡ after (wordsOf count most ds at) (restFrom most ds next)
       unfolding wordsOf restFrom
       rest-goes-on =
-          in-parts
-          ∙ ap (after (first .words)) (elim (decLt (next .pass .reading .words) most) [
+          ap (passOn most at) (sym (take-append-drop count (drop used ds)))
+          ∙ ap (passFrom most used (at .pass .reading)) (units-append (at .cursor) part (drop count (drop used ds)))
+          ∙ pass-in-parts most used (at .pass .reading) us _
+          ∙ ap (after (first .words)) (rw (← reaches .pass) (elim (decLt (next .pass .reading .words) most) [
             | yes h ↦ rw (reaches .cursor h, over h)
-            | no h ↦ pass-is-full most _ _ _ (omega arith) ∙ sym (pass-is-full most _ _ _ (omega arith))
-          ])
+            | no h ↦ let full : most ≤ next .pass .reading .words = omega arith in simp pass-is-full
+          ]))
 
       pub cursor-goes-on
           : next .pass .reading .words < most
           → cursorAfter (next .cursor) (drop (next .pass .used) ds) ≡ cursorAfter (at .cursor) (drop used ds)
-      cursor-goes-on h =
-          rw (reaches .cursor h, ← over h) (sym (cursor-after-append (at .cursor) part (drop count (drop used ds)))
-          ∙ ap (cursorAfter (at .cursor)) (take-append-drop count (drop used ds)))
+      cursor-goes-on h = rw (reaches .cursor h, ← over h, ← cursor-after-append, take-append-drop)
 
       pub words-more : next .pass .reading .words ≡ words + length (wordsOf count most ds at)
       unfolding wordsOf
-      words-more = ap (λ (p : Pass). p .reading .words) (reaches .pass) ∙ counts .words
+      words-more = rw (reaches .pass) (counts .words)
 
       -- a word has sixteen half cells, and a cell four at most
       pub words-fit : 16 * length (wordsOf count most ds at) ≤ 16 + 4 * count
       unfolding wordsOf
-      words-fit =
-          omega (
-            arith,
-            half-cells us most used (at .pass .reading) (units-are-cells _ _) (fair .room),
-            fair .room,
-            part-count,
-          )
+      words-fit = omega (arith, counts .half-cells, fair .room, part-count)
 
       pub fair-after : Fair ds next
       fair-after =
           rw (reaches .pass) (record {
             within = omega (arith, counts .most-used, part-count, fair .within);
-            room = held-by-pass us most used (at .pass .reading) (units-are-cells _ _) (fair .room);
+            room = counts .room;
           })
 
       -- fewer bytes are wanted, or fewer intervals left

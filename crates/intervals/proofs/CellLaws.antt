@@ -1,18 +1,20 @@
 -- A class is narrow, or read as a cell, or wide: what holds in each of these cases holds of every class. Rests on no
 -- axiom.
-use Prim.Native.Nat.{ℕ, _≤_}
-use mathlib.Core.Path.{_≡_, refl}
+use Prim.Native.Nat.{ℕ, suc, _≤_}
+use mathlib.Core.Path.{_≡_, refl, sym, ap, _∙_}
 use mathlib.Core.Bool.{true, cond, false≢true}
+use mathlib.Core.List.{List, [], _∷_}
 use native.Mathlib.Decide.{decLt}
 use native.Mathlib.Omega.{arith}
 use lib.Dec.{eqb}
+use lib.ListN.{getD}
 use Rattle.timing.specs.Class.{isCell, classNumber}
 use Rattle.timing.specs.declared.Class.{Class}
 use Rattle.timing.specs.declared.Class.the-variants.{Narrow, Two, Three, Four, Wide}
 use Rattle.symbols.specs.Reading.{units}
 use Rattle.symbols.specs.declared.Cell.{Cell}
 use Rattle.symbols.specs.declared.Cell.the-variants.{Short, Medium, Long}
-use Rattle.intervals.specs.Cells.{byClass}
+use Rattle.intervals.specs.Cells.{byClass, edgeRuleFrom, cellsOfClasses}
 
 -- a class that is read as a cell
 pub data ReadAs : Class → Cell → Type 0 where
@@ -70,3 +72,44 @@ cell-is-read-as Two h = as-short
 cell-is-read-as Three h = as-medium
 cell-is-read-as Four h = as-long
 cell-is-read-as Wide h = absurd (false≢true h)
+
+-- ---- the first of some classes
+
+-- it is read as a cell
+pub read-first
+    : {c : Class} {x : Cell} (k : ℕ) (cs : List Class)
+    → ReadAs c x
+    → (edgeRuleFrom k (c ∷ cs) ≡ edgeRuleFrom (suc k) cs)
+    × (cellsOfClasses (c ∷ cs) ≡ x ∷ cellsOfClasses cs)
+    × (classNumber c ≡ units x)
+unfolding edgeRuleFrom cellsOfClasses
+read-first k cs as-short = (refl, refl, refl)
+read-first k cs as-medium = (refl, refl, refl)
+read-first k cs as-long = (refl, refl, refl)
+
+-- or none would be accepted
+pub fair-first
+    : (k : ℕ) (c : Class) (cs : List Class)
+    → edgeRuleFrom k (c ∷ cs) .number ≡ 0
+    → (isCell c ≡ true) × (edgeRuleFrom (suc k) cs .number ≡ 0)
+unfolding edgeRuleFrom
+fair-first k Narrow cs h = absurd (omega arith)
+fair-first k Two cs h = (refl, h)
+fair-first k Three cs h = (refl, h)
+fair-first k Four cs h = (refl, h)
+fair-first k Wide cs h = absurd (omega arith)
+
+-- ---- by its number
+
+abbrev numbered : ℕ → Class
+numbered n = getD (Narrow ∷ Narrow ∷ Two ∷ Three ∷ Four ∷ []) n Wide
+
+its-number : (c : Class) → numbered (classNumber c) ≡ c
+its-number Narrow = refl
+its-number Two = refl
+its-number Three = refl
+its-number Four = refl
+its-number Wide = refl
+
+pub same-number : (c d : Class) → classNumber c ≡ classNumber d → c ≡ d
+same-number c d h = sym (its-number c) ∙ ap numbered h ∙ its-number d

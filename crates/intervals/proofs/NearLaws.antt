@@ -1,11 +1,11 @@
 -- An interval taken as a cell by the edges between the windows: where it is a cell it is that one, so that a list in which
 -- none is narrow or wide has exactly these cells. By induction on the list. Rests on no axiom.
 use Prim.Native.Nat.{ℕ, suc}
-use mathlib.Core.Path.{_≡_, refl, sym, ap, ap₂, subst, _∙_}
-use mathlib.Core.Bool.{true, false≢true}
+use mathlib.Core.Path.{_≡_, refl, ap, _∙_}
+use mathlib.Core.Bool.{true}
 use mathlib.Core.List.{List, [], _∷_, map}
-use native.Mathlib.Omega.{arith}
 use Rattle.lists.specs.Place.{everywhere}
+use Rattle.lists.proofs.BoolLaws.{both}
 use Rattle.refusal.specs.Answer.{accepted, refused}
 use Rattle.timing.specs.Class.{classIn, isCell, classNumber, cursorPast, classesFrom, Ascending}
 use Rattle.timing.specs.machine.Edges.{unitsIn, unitsFrom}
@@ -18,8 +18,8 @@ use Rattle.timing.proofs.UnitsLaws.{units-none, units-cons, units-in-range, uni
 use Rattle.symbols.specs.Reading.{units}
 use Rattle.symbols.specs.declared.Cell.{Cell}
 use Rattle.intervals.specs.Cells.{edgeRuleFrom, cellsOfClasses}
-use Rattle.intervals.proofs.CellLaws.{ReadAs, as-short, as-medium, as-long, cellOfUnits, units-of-its-cell}
-use Rattle.intervals.proofs.CellLaws.{cell-is-read-as}
+use Rattle.intervals.proofs.CellLaws.{ReadAs, cellOfUnits, units-of-its-cell}
+use Rattle.intervals.proofs.CellLaws.{cell-is-read-as, read-first, fair-first, same-number}
 
 -- the cells that intervals are taken as
 abbrev pub nearCells : Cursor → List ℕ → List Cell
@@ -30,8 +30,7 @@ units-of-near-cells c [] = rw (units-none c)
 units-of-near-cells c (d ∷ ds) =
     let range = units-in-range c d in
     rw (units-cons c d ds)
-    (ap₂ (λ (u : ℕ) (us : List ℕ). u ∷ us) (units-of-its-cell (unitsIn c d) (range .0) (range .1))
-    (units-of-near-cells (cursorPast c d) ds))
+    (cc (units-of-its-cell (unitsIn c d) (range .0) (range .1), units-of-near-cells (cursorPast c d) ds))
 
 -- classes, and cells that they are read as where they are cells
 pub data Near : List Class → List Cell → Type 0 where
@@ -42,37 +41,14 @@ pub data Near : List Class → List Cell → Type 0 where
       → Near cs xs
       → Near (c ∷ cs) (x ∷ xs)
 
-read-as-near : (c : Cursor) (d : ℕ) → Ascending c → isCell (classIn c d) ≡ true → ReadAs (classIn c d) (cellOfUnits (unitsIn c d))
-read-as-near c d up cell =
-    subst (λ (u : ℕ). ReadAs (classIn c d) (cellOfUnits u)) (sym (units-of-cell c d up cell))
-    (cell-is-read-as (classIn c d) cell)
-
 pub classes-are-near : (c : Cursor) (ds : List ℕ) → Ascending c → Near (classesFrom c ds) (nearCells c ds)
 classes-are-near c [] up = rw (classes-none c, units-none c) near-none
 classes-are-near c (d ∷ ds) up =
     rw (classes-cons c d ds, units-cons c d ds)
-    (near-more (read-as-near c d up) (classes-are-near (cursorPast c d) ds (ascending-past c d up)))
+    (near-more {c = classIn c d} {x = cellOfUnits (unitsIn c d)} (λ cell. rw (units-of-cell c d up cell) (cell-is-read-as (classIn c d) cell))
+    (classes-are-near (cursorPast c d) ds (ascending-past c d up)))
 
 -- where none is narrow or wide, they are the cells
-cell-read : {c : Class} {x : Cell} (cs : List Class) → ReadAs c x → cellsOfClasses (c ∷ cs) ≡ x ∷ cellsOfClasses cs
-unfolding cellsOfClasses
-cell-read cs as-short = refl
-cell-read cs as-medium = refl
-cell-read cs as-long = refl
-
-one-more-cell
-    : (k : ℕ) (c : Class) (x : Cell) (cs : List Class) (xs : List Cell)
-    → (isCell c ≡ true → ReadAs c x)
-    → (edgeRuleFrom (suc k) cs .number ≡ 0 → cellsOfClasses cs ≡ xs)
-    → edgeRuleFrom k (c ∷ cs) .number ≡ 0
-    → cellsOfClasses (c ∷ cs) ≡ x ∷ xs
-unfolding edgeRuleFrom
-one-more-cell k Narrow x cs xs read rest e = absurd (omega arith)
-one-more-cell k Two x cs xs read rest e = cell-read cs (read refl) ∙ ap (λ (ys : List Cell). x ∷ ys) (rest e)
-one-more-cell k Three x cs xs read rest e = cell-read cs (read refl) ∙ ap (λ (ys : List Cell). x ∷ ys) (rest e)
-one-more-cell k Four x cs xs read rest e = cell-read cs (read refl) ∙ ap (λ (ys : List Cell). x ∷ ys) (rest e)
-one-more-cell k Wide x cs xs read rest e = absurd (omega arith)
-
 pub near-are-cells
     : {cs : List Class} {xs : List Cell} (k : ℕ)
     → Near cs xs
@@ -81,35 +57,26 @@ pub near-are-cells
 unfolding cellsOfClasses
 near-are-cells k near-none e = refl
 near-are-cells k (near-more {c} {x} {cs} {xs} read near) e =
-    one-more-cell k c x cs xs read (near-are-cells (suc k) near) e
+    let (cell, rest) = fair-first k c cs e in
+    read-first k cs (read cell) .1 ∙ ap (λ (ys : List Cell). x ∷ ys) (near-are-cells (suc k) near rest)
 
 -- ---- 5 and 6
 
 pub all-cells-are-fair : (k : ℕ) (cs : List Class) → everywhere isCell cs ≡ true → edgeRuleFrom k cs ≡ accepted 0
 unfolding everywhere edgeRuleFrom
 all-cells-are-fair k [] h = refl
-all-cells-are-fair k (Narrow ∷ cs) h = absurd (false≢true h)
-all-cells-are-fair k (Two ∷ cs) h = all-cells-are-fair (suc k) cs h
-all-cells-are-fair k (Three ∷ cs) h = all-cells-are-fair (suc k) cs h
-all-cells-are-fair k (Four ∷ cs) h = all-cells-are-fair (suc k) cs h
-all-cells-are-fair k (Wide ∷ cs) h = absurd (false≢true h)
+all-cells-are-fair k (c ∷ cs) h =
+    let (cell, rest) = both (isCell c) (everywhere isCell cs) h in
+    read-first k cs (cell-is-read-as c cell) .0 ∙ all-cells-are-fair (suc k) cs rest
 
 -- the first interval of a list decides, unless it is a cell
 pub narrow-is-refused : (k : ℕ) (c : Class) (cs : List Class) → classNumber c ≡ 1 → edgeRuleFrom k (c ∷ cs) ≡ refused 5 k
 unfolding edgeRuleFrom
-narrow-is-refused k Narrow cs h = refl
-narrow-is-refused k Two cs h = absurd (omega arith)
-narrow-is-refused k Three cs h = absurd (omega arith)
-narrow-is-refused k Four cs h = absurd (omega arith)
-narrow-is-refused k Wide cs h = absurd (omega arith)
+narrow-is-refused k c cs h = rw (same-number c Narrow h)
 
 pub wide-is-refused : (k : ℕ) (c : Class) (cs : List Class) → classNumber c ≡ 5 → edgeRuleFrom k (c ∷ cs) ≡ refused 6 k
 unfolding edgeRuleFrom
-wide-is-refused k Narrow cs h = absurd (omega arith)
-wide-is-refused k Two cs h = absurd (omega arith)
-wide-is-refused k Three cs h = absurd (omega arith)
-wide-is-refused k Four cs h = absurd (omega arith)
-wide-is-refused k Wide cs h = refl
+wide-is-refused k c cs h = rw (same-number c Wide h)
 
 pub cell-is-passed
     : (k : ℕ) (c : Class) (cs : List Class)

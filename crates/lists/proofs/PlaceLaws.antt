@@ -1,14 +1,16 @@
 -- Laws of the lowest place: an element that fails the test moves it on by one, and one that passes ends the search.
 use Prim.Native.Nat.{ℕ, zero, suc, _+_, _<_, _≤_, zero-le, suc-le-suc}
 use mathlib.Core.Path.{_≡_, refl, sym, ap, _∙_}
-use mathlib.Core.Bool.{Bool, true, false, cond, _&&_, _||_, true≢false, false≢true}
+use mathlib.Core.Bool.{Bool, true, false, cond, _&&_, _||_, false≢true, or-true, or-assoc, and-assoc}
 use mathlib.Core.List.{List, [], _∷_, _++_}
+use mathlib.Mathlib.Data.Bool.Basic.{or-eq-false-eq-eq-false-and-eq-false}
 use native.Mathlib.Nat.{add-zero, not-suc-le-zero, le-of-suc-le-suc}
 use native.Mathlib.Numerals.{add-one}
 use native.Mathlib.Omega.{arith}
 use lib.ListN.{length, getD, drop, replicate, drop-of-length-le}
 use lib.Seq.{drop-cons}
 use Rattle.lists.specs.Place.{anywhere, everywhere, lowest}
+use Rattle.lists.proofs.BoolLaws.{both}
 
 module _ {A : Type 0} (f : A → Bool) where
   -- ---- one element more at the front
@@ -31,11 +33,11 @@ module _ {A : Type 0} (f : A → Bool) where
 
   pub nowhere-fails-at-first : (x : A) (xs : List A) → anywhere f (x ∷ xs) ≡ false → f x ≡ false
   unfolding anywhere
-  nowhere-fails-at-first x xs e =
-      (elim (f x) as (λ t. (t || anywhere f xs) ≡ false → t ≡ false) [ true ↦ λ k. k | false ↦ λ k. refl ]) e
+  nowhere-fails-at-first x xs e = or-eq-false-eq-eq-false-and-eq-false (f x) (anywhere f xs) .0 e .0
 
   pub nowhere-in-rest : (x : A) (xs : List A) → anywhere f (x ∷ xs) ≡ false → anywhere f xs ≡ false
-  nowhere-in-rest x xs e = sym (anywhere-of-failing x xs (nowhere-fails-at-first x xs e)) ∙ e
+  unfolding anywhere
+  nowhere-in-rest x xs e = or-eq-false-eq-eq-false-and-eq-false (f x) (anywhere f xs) .0 e .1
 
   pub everywhere-of-none : everywhere f [] ≡ true
   unfolding everywhere
@@ -47,11 +49,11 @@ module _ {A : Type 0} (f : A → Bool) where
 
   pub everywhere-passes-at-first : (x : A) (xs : List A) → everywhere f (x ∷ xs) ≡ true → f x ≡ true
   unfolding everywhere
-  everywhere-passes-at-first x xs e =
-      (elim (f x) as (λ t. (t && everywhere f xs) ≡ true → t ≡ true) [ true ↦ λ k. refl | false ↦ λ k. k ]) e
+  everywhere-passes-at-first x xs e = both (f x) (everywhere f xs) e .0
 
   pub everywhere-in-rest : (x : A) (xs : List A) → everywhere f (x ∷ xs) ≡ true → everywhere f xs ≡ true
-  everywhere-in-rest x xs e = sym (everywhere-of-passing x xs (everywhere-passes-at-first x xs e)) ∙ e
+  unfolding everywhere
+  everywhere-in-rest x xs e = both (f x) (everywhere f xs) e .1
 
   -- ---- the place, and what holds there and below it
 
@@ -86,8 +88,7 @@ module _ {A : Type 0} (f : A → Bool) where
   unfolding lowest anywhere
   lowest-of-none [] e = refl
   lowest-of-none (x ∷ xs) e =
-      (elim (f x) as (λ t. (t || anywhere f xs) ≡ false → cond t 0 (suc (lowest f xs)) ≡ suc (length xs))
-      [ true ↦ λ k. absurd (true≢false k) | false ↦ λ k. ap suc (lowest-of-none xs k) ]) e
+      lowest-of-failing x xs (nowhere-fails-at-first x xs e) ∙ ap suc (lowest-of-none xs (nowhere-in-rest x xs e))
 
   pub lowest-of-some : (xs : List A) → anywhere f xs ≡ true → lowest f xs < length xs
   unfolding lowest anywhere
@@ -97,29 +98,22 @@ module _ {A : Type 0} (f : A → Bool) where
       [ true ↦ λ k. suc-le-suc zero-le | false ↦ λ k. suc-le-suc (lowest-of-some xs k) ]) e
 
   pub anywhere-of-entry : (xs : List A) (d : A) (k : ℕ) → k < length xs → f (getD xs k d) ≡ true → anywhere f xs ≡ true
-  anywhere-of-entry xs d k h e =
-      (elim (anywhere f xs) as (λ t. anywhere f xs ≡ t → t ≡ true) [
-        | true ↦ λ p. refl
-        | false ↦ λ p.
-            let none : k < lowest f xs = rw (lowest-of-none xs p) h in
-            absurd (true≢false (sym e ∙ below-lowest-fails xs d k none))
-      ]) refl
+  unfolding anywhere
+  anywhere-of-entry [] d k h e = absurd (not-suc-le-zero h)
+  anywhere-of-entry (x ∷ xs) d zero h e = rw e
+  anywhere-of-entry (x ∷ xs) d (suc k) h e = rw (anywhere-of-entry xs d k (le-of-suc-le-suc h) e) (or-true (f x))
 
   pub anywhere-of-append : (xs ys : List A) → anywhere f (xs ++ ys) ≡ (anywhere f xs || anywhere f ys)
   unfolding anywhere
   anywhere-of-append [] ys = refl
-  anywhere-of-append (x ∷ xs) ys =
-      elim (f x) as (λ t. (t || anywhere f (xs ++ ys)) ≡ (t || anywhere f xs || anywhere f ys))
-      [ true ↦ refl | false ↦ anywhere-of-append xs ys ]
+  anywhere-of-append (x ∷ xs) ys = rw (anywhere-of-append xs ys) (sym (or-assoc (f x) _ _))
 
   -- ---- at every place
 
   pub everywhere-of-append : (xs ys : List A) → everywhere f (xs ++ ys) ≡ (everywhere f xs && everywhere f ys)
   unfolding everywhere
   everywhere-of-append [] ys = refl
-  everywhere-of-append (x ∷ xs) ys =
-      elim (f x) as (λ t. (t && everywhere f (xs ++ ys)) ≡ (t && everywhere f xs && everywhere f ys))
-      [ true ↦ everywhere-of-append xs ys | false ↦ refl ]
+  everywhere-of-append (x ∷ xs) ys = rw (everywhere-of-append xs ys) (sym (and-assoc (f x) _ _))
 
   pub everywhere-at-entry : (xs : List A) (d : A) (k : ℕ) → everywhere f xs ≡ true → k < length xs
       → f (getD xs k d) ≡ true
@@ -136,17 +130,11 @@ module _ {A : Type 0} (f : A → Bool) where
 
   pub lowest-from-passing-is-here : (xs : List A) (d : A) (k : ℕ) → k < length xs → f (getD xs k d) ≡ true
       → k + lowest f (drop k xs) ≡ k
-  lowest-from-passing-is-here xs d k h e =
-      ap (λ (l : List A). k + lowest f l) (drop-cons xs k d h)
-      ∙ ap (λ (n : ℕ). k + n) (lowest-of-passing (getD xs k d) (drop (suc k) xs) e)
-      ∙ add-zero k
+  lowest-from-passing-is-here xs d k h e = rw (drop-cons xs k d h, lowest-of-passing, add-zero)
 
   pub lowest-from-failing-is-further : (xs : List A) (d : A) (k : ℕ) → k < length xs → f (getD xs k d) ≡ false
       → k + lowest f (drop k xs) ≡ k + 1 + lowest f (drop (k + 1) xs)
-  lowest-from-failing-is-further xs d k h e =
-      ap (λ (l : List A). k + lowest f l) (drop-cons xs k d h)
-      ∙ ap (λ (n : ℕ). k + n) (lowest-of-failing (getD xs k d) (drop (suc k) xs) e)
-      ∙ rw add-one (omega arith)
+  lowest-from-failing-is-further xs d k h e = rw (drop-cons xs k d h, lowest-of-failing, add-one) (omega arith)
 
   pub lowest-from-end-is-here : (xs : List A) (k : ℕ) → length xs ≤ k → k + lowest f (drop k xs) ≡ k
   unfolding lowest

@@ -5,7 +5,7 @@ use mathlib.Core.List.{List, [], _∷_, _++_, map}
 use native.Mathlib.Nat.{add-zero, zero-add, add-suc, suc-add, le-of-lt}
 use native.Mathlib.Numerals.{add-one}
 use native.Mathlib.Omega.{arith}
-use lib.ListN.{length, set, take, drop, getD, replicate, length-replicate, length-map, take-append-drop}
+use lib.ListN.{length, set, take, drop, getD, replicate, length-replicate, replicate-append-replicate, length-map, take-append-drop}
 use lib.Seq.{sets, sets-eq, length-sets, set-out, take-suc, drop-cons, take-all, length-take-le}
 use lib.Seq.{take-append-seam, drop-append-seam}
 use Rattle.lists.specs.Filled.{filled, storedAt}
@@ -60,19 +60,12 @@ module _ {A : Type 0} where
   unfolding storedAt
   stored-rest l s at i d h = rw (add-suc at i, drop-cons s i d h)
 
-  replicate-one-more : (n : ℕ) (a : A) → replicate n a ++ (a ∷ []) ≡ replicate (n + 1) a
-  replicate-one-more zero a = refl
-  replicate-one-more (suc n) a =
-      ap (λ (r : List A). a ∷ r) (replicate-one-more n a)
-      ∙ ap (λ (k : ℕ). a ∷ replicate k a) (add-one n)
-      ∙ ap (λ (k : ℕ). replicate k a) (sym (add-one (suc n)))
-
   pub stored-repeats
       : (n : ℕ) (a : A) (i : ℕ) (l : List A)
       → set (storedAt l i (replicate n a)) (i + n) a ≡ storedAt l i (replicate (n + 1) a)
   stored-repeats n a i l =
       stored-one-more (replicate n a) l i (i + n) a (rw length-replicate)
-      ∙ ap (λ (r : List A). storedAt l i r) (replicate-one-more n a)
+      ∙ ap (storedAt l i) (replicate-append-replicate n 1 a)
 
   pub stored-copies
       : (n i : ℕ) (s l : List A) (d : A)
@@ -80,7 +73,7 @@ module _ {A : Type 0} where
       → set (storedAt l i (take n s)) (i + n) (getD s n d) ≡ storedAt l i (take (n + 1) s)
   stored-copies n i s l d h =
       stored-one-more (take n s) l i (i + n) (getD s n d) (rw (length-take-le n s (le-of-lt h)))
-      ∙ ap (λ (r : List A). storedAt l i r) (sym (take-suc s n d h) ∙ ap (λ (k : ℕ). take k s) (sym (add-one n)))
+      ∙ ap (storedAt l i) (sym (take-suc s n d h) ∙ ap (λ (k : ℕ). take k s) (sym (add-one n)))
 
   -- ---- at the front
 

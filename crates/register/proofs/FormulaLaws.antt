@@ -28,23 +28,22 @@ abbrev movedOut : ℕ → ℕ → ℕ → ℕ
 movedOut n k x = shiftedBy n (x * 2 ^ k % 2 ^ 16)
 
 spread-is-linear : Linear spread
-spread-is-linear =
-    sum-is-linear (λ (x : ℕ). bitXor (x * 2 ^ 12 % 2 ^ 16) (x * 2 ^ 5 % 2 ^ 16)) (λ (x : ℕ). x)
-    (sum-is-linear (λ (x : ℕ). x * 2 ^ 12 % 2 ^ 16) (λ (x : ℕ). x * 2 ^ 5 % 2 ^ 16) (up-is-linear 12) (up-is-linear 5))
-    unshifted-is-linear
+spread-is-linear = sum-is-linear (sum-is-linear (up-is-linear 12) (up-is-linear 5)) unshifted-is-linear
 
 folded-is-linear : Linear folded
-folded-is-linear = sum-is-linear (λ (x : ℕ). x) (λ (x : ℕ). x / 2 ^ 4) unshifted-is-linear (down-is-linear 4)
+folded-is-linear = sum-is-linear unshifted-is-linear (down-is-linear 4)
 
 folded-two-is-linear : Linear foldedTwo
 folded-two-is-linear =
-    sum-is-linear (λ (x : ℕ). bitXor (folded x) (folded x / 2 ^ 8)) (λ (x : ℕ). x / 2 ^ 11)
-    (sum-is-linear folded (λ (x : ℕ). folded x / 2 ^ 8) folded-is-linear
-    (chain-is-linear folded (λ (x : ℕ). x / 2 ^ 8) folded-is-linear (down-is-linear 8))) (down-is-linear 11)
+    sum-is-linear (sum-is-linear folded-is-linear (chain-is-linear folded-is-linear (down-is-linear 8)))
+    (down-is-linear 11)
 
 moved-out-is-linear : (n k : ℕ) → Linear (movedOut n k)
-moved-out-is-linear n k a b =
-    cc (up-is-linear k a b, shifted-by-of-xor n (a * 2 ^ k % 2 ^ 16) (b * 2 ^ k % 2 ^ 16) (omega arith) (omega arith))
+moved-out-is-linear n k =
+    record {
+      on = λ a b.
+          cc (up-is-linear k .on a b, shifted-by-of-xor n (a * 2 ^ k % 2 ^ 16) (b * 2 ^ k % 2 ^ 16) (omega arith) (omega arith));
+    }
 
 -- ---- one byte
 
@@ -52,7 +51,7 @@ byte-moved-out : (x : ℕ) → x < 2 ^ 8 → movedOut 8 8 x ≡ spread (folded x
 unfolding shiftedBy shifted
 byte-moved-out =
     linear-by-single-bits 8 (movedOut 8 8) (λ (x : ℕ). spread (folded x)) (moved-out-is-linear 8 8)
-    (chain-is-linear folded spread folded-is-linear spread-is-linear) refl
+    (chain-is-linear folded-is-linear spread-is-linear) refl
 
 fed-zero-is-byte-moved-out : (x : ℕ) → x < 256 → fed 0 x ≡ movedOut 8 8 x
 unfolding fed
@@ -75,7 +74,7 @@ two-moved-out : (x : ℕ) → x < 2 ^ 16 → movedOut 16 0 x ≡ spread (foldedT
 unfolding shiftedBy shifted
 two-moved-out =
     linear-by-single-bits 16 (movedOut 16 0) (λ (x : ℕ). spread (foldedTwo x)) (moved-out-is-linear 16 0)
-    (chain-is-linear foldedTwo spread folded-two-is-linear spread-is-linear) refl
+    (chain-is-linear folded-two-is-linear spread-is-linear) refl
 
 -- the second byte can be added eight steps before its turn, as the low byte
 fed-twice-is-sixteen-steps : (r high low : ℕ) → r < 0x10000 → high < 256 → low < 256

@@ -18,26 +18,30 @@ shifted-below-top-is-double : (r : ℕ) → r < 0x8000 → shifted r ≡ r * 2
 unfolding shifted
 shifted-below-top-is-double r h = rw (lt-ltb r 0x8000 h)
 
-shifted-from-top-is-sum : (r : ℕ) → 0x8000 ≤ r → shifted r ≡ bitXor (r * 2 % 0x10000) polynomial
-unfolding shifted
-shifted-from-top-is-sum r h = rw (le-ltb r 0x8000 h)
-
-by-top : (P : ℕ → Type 0) → ((r : ℕ) → r < 0x8000 → P r) → ((r : ℕ) → 0x8000 ≤ r → P r) → (r : ℕ) → P r
-by-top P below above r = elim (decLt r 0x8000) [ yes h ↦ below r h | no h ↦ above r (omega arith) ]
-
 pub shifted-bound : (r : ℕ) → shifted r < 0x10000
-shifted-bound =
-    by-top (λ (r : ℕ). shifted r < 0x10000) (λ r h. rw (shifted-below-top-is-double r h) (omega arith))
-    (λ r h. rw (shifted-from-top-is-sum r h) (xor-lt 16 (r * 2 % 0x10000) polynomial (omega arith) (omega arith)))
+unfolding shifted
+shifted-bound r =
+    elim (decLt r 0x8000) [
+      | yes h ↦ rw lt-ltb (omega arith)
+      | no h ↦
+          let above : 0x8000 ≤ r = omega arith in
+          rw le-ltb (xor-lt 16 (r * 2 % 0x10000) polynomial (omega arith) (omega arith))
+    ]
 
 -- both cases as one sum
 shifted-is-sum : (r : ℕ) → r < 0x10000 → shifted r ≡ bitXor (r * 2 % 0x10000) (r / 0x8000 * polynomial)
-shifted-is-sum =
-    by-top (λ (r : ℕ). r < 0x10000 → shifted r ≡ bitXor (r * 2 % 0x10000) (r / 0x8000 * polynomial)) (λ r h k.
-    let moved : r * 2 % 0x10000 ≡ r * 2 = omega arith in
-    let none : r / 0x8000 * polynomial ≡ 0 = omega arith in
-    shifted-below-top-is-double r h ∙ sym (ap₂ bitXor moved none ∙ xor-zero-r (r * 2)))
-    (λ r h k. shifted-from-top-is-sum r h ∙ ap (bitXor (r * 2 % 0x10000)) (omega arith))
+unfolding shifted
+shifted-is-sum r small =
+    elim (decLt r 0x8000) [
+      | yes h ↦
+          let moved : r * 2 % 0x10000 ≡ r * 2 = omega arith in
+          let none : r / 0x8000 * polynomial ≡ 0 = omega arith in
+          rw (lt-ltb, moved, none) (sym (xor-zero-r (r * 2)))
+      | no h ↦
+          let above : 0x8000 ≤ r = omega arith in
+          let one : r / 0x8000 * polynomial ≡ polynomial = omega arith in
+          rw (le-ltb, one)
+    ]
 
 pub shifted-of-xor : (a b : ℕ) → a < 0x10000 → b < 0x10000 → shifted (bitXor a b) ≡ bitXor (shifted a) (shifted b)
 shifted-of-xor a b ha hb =

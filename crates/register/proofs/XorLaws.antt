@@ -11,14 +11,17 @@ use lib.Bits.{bitXor, xor-shr, xor-mod, xor-comm, xor-block, xor-self, xor-zero-
 pub xor-halves : (a b : ℕ) → bitXor a b ≡ bitXor (a / 2) (b / 2) * 2 + bitXor (a % 2) (b % 2)
 xor-halves a b = sym (div-add-mod' (bitXor a b) 2) ∙ ap₂ (λ (q r : ℕ). q * 2 + r) (xor-shr a b 1) (xor-mod a b 1)
 
+-- a digit is 0 or 1
+pub by-digit : (P : ℕ → Type 0) → P 0 → P 1 → (x : ℕ) → x < 2 → P x
+by-digit P none one zero h = none
+by-digit P none one (suc zero) h = one
+by-digit P none one (suc (suc x)) h = absurd (omega arith)
+
 xor-assoc-of-digits : (x y z : ℕ) → x < 2 → y < 2 → z < 2 → bitXor (bitXor x y) z ≡ bitXor x (bitXor y z)
-xor-assoc-of-digits zero y z hx hy hz = refl
-xor-assoc-of-digits (suc zero) zero z hx hy hz = refl
-xor-assoc-of-digits (suc zero) (suc zero) zero hx hy hz = refl
-xor-assoc-of-digits (suc zero) (suc zero) (suc zero) hx hy hz = refl
-xor-assoc-of-digits (suc zero) (suc zero) (suc (suc z)) hx hy hz = absurd (omega arith)
-xor-assoc-of-digits (suc zero) (suc (suc y)) z hx hy hz = absurd (omega arith)
-xor-assoc-of-digits (suc (suc x)) y z hx hy hz = absurd (omega arith)
+xor-assoc-of-digits x y z hx hy hz =
+    by-digit (λ (x : ℕ). bitXor (bitXor x y) z ≡ bitXor x (bitXor y z)) refl
+    (by-digit (λ (y : ℕ). bitXor (bitXor 1 y) z ≡ bitXor 1 (bitXor y z)) refl
+    (by-digit (λ (z : ℕ). bitXor (bitXor 1 1) z ≡ bitXor 1 (bitXor 1 z)) refl refl z hz) y hy) x hx
 
 pub xor-assoc : (a b c : ℕ) → bitXor (bitXor a b) c ≡ bitXor a (bitXor b c)
 xor-assoc a =
@@ -44,8 +47,7 @@ xor-up k a b =
 
 -- what a digit switches on
 pub xor-switch : (p x y : ℕ) → x < 2 → y < 2 → bitXor x y * p ≡ bitXor (x * p) (y * p)
-xor-switch p zero y hx hy = cc (zero-mul p)
-xor-switch p (suc zero) zero hx hy = cc (xor-zero-r (1 * p), zero-mul p)
-xor-switch p (suc zero) (suc zero) hx hy = zero-mul p ∙ sym (xor-self (1 * p))
-xor-switch p (suc zero) (suc (suc y)) hx hy = absurd (omega arith)
-xor-switch p (suc (suc x)) y hx hy = absurd (omega arith)
+xor-switch p x y hx hy =
+    by-digit (λ (x : ℕ). bitXor x y * p ≡ bitXor (x * p) (y * p)) (cc (zero-mul p))
+    (by-digit (λ (y : ℕ). bitXor 1 y * p ≡ bitXor (1 * p) (y * p)) (cc (xor-zero-r (1 * p), zero-mul p))
+    (zero-mul p ∙ sym (xor-self (1 * p))) y hy) x hx

@@ -2,7 +2,7 @@
 -- a list: each step of the cursor gives one, so that lists and their classes are joined and cut alike. Rests on no
 -- axiom.
 use Prim.Native.Nat.{ℕ, zero, suc, _≤_, _<_}
-use mathlib.Core.Path.{_≡_, refl, sym, ap, _∙_}
+use mathlib.Core.Path.{_≡_, refl, sym, ap}
 use mathlib.Core.List.{List, [], _∷_, _++_}
 use native.Mathlib.Omega.{arith}
 use lib.ListN.{length, take, drop, getD}
@@ -77,7 +77,7 @@ pub classes-here
     → k < length ds
     → classesFrom c (drop k ds)
     ≡ classIn c (getD ds k 0) ∷ classesFrom (cursorPast c (getD ds k 0)) (drop (suc k) ds)
-classes-here c ds k h = ap (classesFrom c) (drop-cons ds k 0 h) ∙ classes-cons c (getD ds k 0) (drop (suc k) ds)
+classes-here c ds k h = rw (drop-cons ds k 0 h, classes-cons)
 
 pub classes-count : (c : Cursor) (ds : List ℕ) → length (classesFrom c ds) ≡ length ds
 unfolding classesFrom

@@ -15,8 +15,9 @@ use Rattle.timing.specs.declared.Profile.{Profile}
 use Rattle.timing.specs.declared.cursor.Cursor.{Cursor}
 use Rattle.timing.specs.declared.Class.the-variants.{Three, Four, Wide}
 use Rattle.timing.proofs.ClassLaws.{below-min-is-narrow, below-b23-is-two}
-use Rattle.timing.proofs.ClassLaws.{below-b34-is-three, below-rpt-is-four, from-rpt-is-wide}
 use Rattle.timing.proofs.ProfileLaws.{kept}
+
+ruleset tests = (lt-ltb, le-ltb, lt-leb, le-leb)
 
 above-two : (t u : Bool) → isTwo (cond t Three (cond u Four Wide)) ≡ false
 above-two true u = refl
@@ -31,54 +32,34 @@ module _ (c : Cursor) (d : ℕ) where
       × (isCell (classIn c d) ≡ true
       → 2 + boolByte (leb (c .b23 .0) d) + boolByte (leb (c .b34 .0) d) ≡ classNumber (classIn c d))
 
-  from-b34 : c .min .0 ≤ d → c .b23 .0 ≤ d → c .b34 .0 ≤ d → ByEdges
-  from-b34 h₂ h₃ h₄ =
-      elim (decLt d (c .rpt .0)) [
-        | yes below ↦
-            rw (below-rpt-is-four c d h₂ h₃ h₄ below, le-leb _ d h₂, lt-ltb d _ below, le-leb _ d h₃, le-leb _ d h₄)
-            (refl, λ q. refl)
-        | no over ↦
-            let h₅ : c .rpt .0 ≤ d = omega arith in
-            rw (from-rpt-is-wide c d h₂ h₃ h₄ h₅, le-leb _ d h₂, le-ltb d _ h₅) (refl, λ q. absurd (false≢true q))
-      ]
-
-  from-b23 : Ascending c → c .min .0 ≤ d → c .b23 .0 ≤ d → ByEdges
-  from-b23 up h₂ h₃ =
-      let four = up .four in
-      elim (decLt d (c .b34 .0)) [
-        | yes below ↦
-            rw (
-              below-b34-is-three c d h₂ h₃ below,
-              le-leb (c .min .0) d h₂,
-              lt-ltb d (c .rpt .0) (omega arith),
-              le-leb (c .b23 .0) d h₃,
-              lt-leb (c .b34 .0) d below,
-            ) (refl, λ q. refl)
-        | no over ↦ from-b34 h₂ h₃ (omega arith)
-      ]
-
-  from-min : Ascending c → c .min .0 ≤ d → ByEdges
-  from-min up h₂ =
-      let three = up .three in
-      let four = up .four in
-      elim (decLt d (c .b23 .0)) [
-        | yes below ↦
-            rw (
-              below-b23-is-two c d h₂ below,
-              le-leb (c .min .0) d h₂,
-              lt-ltb d (c .rpt .0) (omega arith),
-              lt-leb (c .b23 .0) d below,
-              lt-leb (c .b34 .0) d (omega arith),
-            ) (refl, λ q. refl)
-        | no over ↦ from-b23 up h₂ (omega arith)
-      ]
-
   pub by-edges : Ascending c → ByEdges
+  unfolding classIn
   by-edges up =
       elim (decLt d (c .min .0)) [
-        | yes below ↦
-            rw (below-min-is-narrow c d below, lt-leb (c .min .0) d below) (refl, λ q. absurd (false≢true q))
-        | no over ↦ from-min up (omega arith)
+        | yes narrow ↦ simp tests (refl, λ q. absurd (false≢true q))
+        | no over ↦
+            let two : c .min .0 ≤ d = omega arith in
+            elim (decLt d (c .b23 .0)) [
+              | yes below ↦
+                  let next : d < c .b34 .0 = omega (arith, up .three) in
+                  let last : d < c .rpt .0 = omega (arith, up .four) in
+                  simp tests (refl, λ q. refl)
+              | no over ↦
+                  let three : c .b23 .0 ≤ d = omega arith in
+                  elim (decLt d (c .b34 .0)) [
+                    | yes below ↦
+                        let last : d < c .rpt .0 = omega (arith, up .four) in
+                        simp tests (refl, λ q. refl)
+                    | no over ↦
+                        let four : c .b34 .0 ≤ d = omega arith in
+                        elim (decLt d (c .rpt .0)) [
+                          | yes below ↦ simp tests (refl, λ q. refl)
+                          | no over ↦
+                              let wide : c .rpt .0 ≤ d = omega arith in
+                              simp tests (refl, λ q. absurd (false≢true q))
+                        ]
+                  ]
+            ]
       ]
 
   from-b23-is-not-two : c .min .0 ≤ d → c .b23 .0 ≤ d → isTwo (classIn c d) ≡ false

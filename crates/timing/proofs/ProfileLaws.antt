@@ -2,12 +2,12 @@
 -- each test of the definition gave the answer that let the next be asked. Rests on no axiom.
 use Prim.Native.Nat.{ℕ, suc, _+_, _*_, _≤_, _<_}
 use mathlib.Core.Path.{_≡_, refl, ap}
-use mathlib.Core.Bool.{Bool, true, false, cond, not, _&&_, false≢true}
+use mathlib.Core.Bool.{Bool, true, false, cond, not, _&&_}
 use native.Mathlib.Omega.{arith}
 use native.Mathlib.Nat.{zero-add}
-use lib.Dec.{leb, ltb}
 use borrow.Author.Tests.{ltb-true, leb-true}
 use Rattle.lists.specs.Place.{anywhere, lowest, passed}
+use Rattle.lists.proofs.BoolLaws.{both}
 use Rattle.refusal.specs.Answer.{accepted, refused, refuseIf}
 use Rattle.timing.specs.Numbers.{ranges, numbersOf}
 use Rattle.timing.specs.Profile.{unset, swing, isTrue, profileRule, lowestUnset, InRange}
@@ -26,24 +26,11 @@ pub record Kept (p : Profile) : Type 0 where
   pub four-from : p .b34 .0 ≤ p .t1 .0 + 2 * p .t0 .0
   pub four-below : p .t1 .0 + 2 * p .t0 .0 + swing p < p .rpt .0
 
--- ---- eight tests that all held
+first-holds : (a b : Bool) → (a && b) ≡ true → a ≡ true
+first-holds a b e = both a b e .0
 
-abbrev Holds : Bool → Type 0
-Holds t = t ≡ true
-
-all-of-eight
-    : (a b c d e f g h : Bool)
-    → (a && b && c && d && e && f && g && h) ≡ true
-    → Holds a × Holds b × Holds c × Holds d × Holds e × Holds f × Holds g × Holds h
-all-of-eight true true true true true true true true q = (refl, refl, refl, refl, refl, refl, refl, refl)
-all-of-eight false b c d e f g h q = absurd (false≢true q)
-all-of-eight true false c d e f g h q = absurd (false≢true q)
-all-of-eight true true false d e f g h q = absurd (false≢true q)
-all-of-eight true true true false e f g h q = absurd (false≢true q)
-all-of-eight true true true true false f g h q = absurd (false≢true q)
-all-of-eight true true true true true false g h q = absurd (false≢true q)
-all-of-eight true true true true true true false h q = absurd (false≢true q)
-all-of-eight true true true true true true true false q = absurd (false≢true q)
+second-holds : (a b : Bool) → (a && b) ≡ true → b ≡ true
+second-holds a b e = both a b e .1
 
 -- ---- ranges
 
@@ -65,23 +52,8 @@ accepts-tests false false place e = absurd (omega arith)
 pub kept : (p : Profile) → profileRule p .number ≡ 0 → Kept p
 unfolding profileRule isTrue
 kept p e =
-    let both = accepts-tests (anywhere passed (unset p)) (isTrue p) (lowest passed (unset p)) e in
-    let held =
-    all-of-eight (leb (p .early .0) (p .normal .0)) (leb (p .normal .0) (p .late .0))
-    (leb (p .min .0 + swing p) (p .t1 .0)) (ltb (p .t1 .0) (p .b23 .0)) (leb (p .b23 .0) (p .t1 .0 + p .t0 .0))
-    (ltb (p .t1 .0 + p .t0 .0 + swing p) (p .b34 .0)) (leb (p .b34 .0) (p .t1 .0 + 2 * p .t0 .0))
-    (ltb (p .t1 .0 + 2 * p .t0 .0 + swing p) (p .rpt .0)) (both .1) in
-    record {
-      ranges = none-unset-in-range p (both .0);
-      early-first = leb-true _ _ (held .0);
-      late-last = leb-true _ _ (held .1);
-      two-from = leb-true _ _ (held .2);
-      two-below = ltb-true _ _ (held .3);
-      three-from = leb-true _ _ (held .4);
-      three-below = ltb-true _ _ (held .5);
-      four-from = leb-true _ _ (held .6);
-      four-below = ltb-true _ _ (held .7);
-    }
+    let (in-ranges, windows) = accepts-tests (anywhere passed (unset p)) (isTrue p) (lowest passed (unset p)) e in
+    search (none-unset-in-range p in-ranges, leb-true, ltb-true, first-holds, second-holds) depth 9
 
 -- a number that is out of range decides the rule; where none is, the windows do
 rule-by-place
@@ -92,13 +64,9 @@ rule-by-place
 rule-by-place true true-one place w e h = ap (refused 1) e
 rule-by-place false true-one place w e h = absurd (h e)
 
-rule-by-windows
-    : (any true-one : Bool) (place : ℕ)
-    → cond any (suc place) 0 ≡ 0
-    → cond true-one (accepted 0) (refused 2 0) ≡ refuseIf any 1 (suc place) (refuseIf (not true-one) 2 0 (accepted 0))
-rule-by-windows true true-one place e = absurd (omega arith)
-rule-by-windows false true place e = refl
-rule-by-windows false false place e = refl
+windows : (t : Bool) → cond t (accepted 0) (refused 2 0) ≡ refuseIf (not t) 2 0 (accepted 0)
+windows true = refl
+windows false = refl
 
 none-found : (any : Bool) (place : ℕ) → cond any (suc place) 0 ≡ 0 → any ≡ false
 none-found true place e = absurd (omega arith)
@@ -108,9 +76,10 @@ pub rule-of-unset : (p : Profile) (w : ℕ) → w ≡ lowestUnset p → (w ≡ 0
 unfolding profileRule lowestUnset
 rule-of-unset p w e h = rule-by-place (anywhere passed (unset p)) (isTrue p) (lowest passed (unset p)) w e h
 
-pub rule-of-windows : (p : Profile) → lowestUnset p ≡ 0 → cond (isTrue p) (accepted 0) (refused 2 0) ≡ profileRule p
+pub rule-of-windows
+    : (p : Profile) (t : Bool) → lowestUnset p ≡ 0 → t ≡ isTrue p → cond t (accepted 0) (refused 2 0) ≡ profileRule p
 unfolding profileRule lowestUnset
-rule-of-windows p e = rule-by-windows (anywhere passed (unset p)) (isTrue p) (lowest passed (unset p)) e
+rule-of-windows p t none same = rw (none-found (anywhere passed (unset p)) _ none, same) (windows (isTrue p))
 
 pub in-range : (p : Profile) → lowestUnset p ≡ 0 → InRange p
 unfolding lowestUnset

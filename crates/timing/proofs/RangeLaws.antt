@@ -2,7 +2,7 @@
 -- first number on finds the lowest that is out, since a number that is inside moves the scan on by one. Rests on no
 -- axiom.
 use Prim.Native.Nat.{ℕ, suc, _+_, _≤_, _<_}
-use mathlib.Core.Path.{_≡_, ap, ap₂, _∙_}
+use mathlib.Core.Path.{_≡_}
 use mathlib.Core.Bool.{Bool, true, false, cond}
 use mathlib.Core.List.{List, [], _∷_}
 use mathlib.Mathlib.Data.Bool.Basic.{or-eq-false-eq-eq-false-and-eq-false}
@@ -37,25 +37,17 @@ placeFrom k ts = cond (anywhere passed ts) (suc (k + lowest passed ts)) 0
 abbrev pub unsetFrom : List Range → List ℕ → ℕ → ℕ
 unsetFrom rs ns k = placeFrom k (outsideOf (drop k rs) (drop k ns))
 
-place-of-passing : (k : ℕ) (ts : List Bool) → placeFrom k (true ∷ ts) ≡ suc k
-unfolding anywhere lowest
-place-of-passing k ts = ap suc (add-zero k)
-
-place-of-failing : (k : ℕ) (ts : List Bool) → placeFrom k (false ∷ ts) ≡ placeFrom (suc k) ts
-unfolding anywhere lowest
-place-of-failing k ts = rw (add-suc, suc-add)
-
 module _ (rs : List Range) (ns : List ℕ) (d : Range) (k : ℕ) (hr : k < length rs) (hn : k < length ns) where
-  tests-from : outsideOf (drop k rs) (drop k ns)
-      ≡ outside (getD rs k d .low) (getD rs k d .high) (getD ns k 0) ∷ outsideOf (drop (suc k) rs) (drop (suc k) ns)
-  tests-from = ap₂ outsideOf (drop-cons rs k d hr) (drop-cons ns k 0 hn)
+  abbrev test : Bool
+  test = outside (getD rs k d .low) (getD rs k d .high) (getD ns k 0)
 
-  pub scan-ends-here : outside (getD rs k d .low) (getD rs k d .high) (getD ns k 0) ≡ true → unsetFrom rs ns k ≡ suc k
-  scan-ends-here e = ap (placeFrom k) tests-from ∙ rw e (place-of-passing k _)
+  pub scan-ends-here : test ≡ true → unsetFrom rs ns k ≡ suc k
+  unfolding anywhere lowest
+  scan-ends-here e = rw (drop-cons rs k d hr, drop-cons ns k 0 hn, e, add-zero)
 
-  pub scan-goes-on : outside (getD rs k d .low) (getD rs k d .high) (getD ns k 0) ≡ false
-      → unsetFrom rs ns k ≡ unsetFrom rs ns (suc k)
-  scan-goes-on e = ap (placeFrom k) tests-from ∙ rw e (place-of-failing k _)
+  pub scan-goes-on : test ≡ false → unsetFrom rs ns k ≡ unsetFrom rs ns (suc k)
+  unfolding anywhere lowest
+  scan-goes-on e = rw (drop-cons rs k d hr, drop-cons ns k 0 hn, e, add-suc, suc-add)
 
 pub scan-finds-none : (rs : List Range) (ns : List ℕ) (k : ℕ) → length rs ≤ k → unsetFrom rs ns k ≡ 0
 unfolding anywhere

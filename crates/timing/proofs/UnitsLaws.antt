@@ -1,29 +1,24 @@
 -- The units of a list's intervals, from one interval to the next, as its classes go; and that they are the class of an
 -- interval that is a cell. Rests on no axiom.
-use Prim.Native.Nat.{ℕ, suc, _+_, _≤_, _<_}
+use Prim.Native.Nat.{ℕ, suc, _≤_, _<_}
 use mathlib.Core.Path.{_≡_, refl, ap}
-use mathlib.Core.Bool.{Bool, true, false}
+use mathlib.Core.Bool.{true}
 use mathlib.Core.List.{List, [], _∷_, _++_}
 use native.Mathlib.Omega.{arith}
-use mir.Val.{boolByte}
 use lib.Dec.{leb}
 use lib.ListN.{length, drop, getD}
 use lib.Seq.{drop-cons}
+use Rattle.lists.proofs.BoolLaws.{one-at-most}
 use Rattle.timing.specs.Class.{classIn, isCell, classNumber, cursorPast, cursorAfter, Ascending}
 use Rattle.timing.specs.machine.Edges.{unitsIn, unitsFrom}
 use Rattle.timing.specs.declared.cursor.Cursor.{Cursor}
 use Rattle.timing.proofs.EdgeLaws.{by-edges}
 
-in-range : (t u : Bool) → (2 ≤ 2 + boolByte t + boolByte u) × (2 + boolByte t + boolByte u ≤ 4)
-in-range true true = (omega arith, omega arith)
-in-range true false = (omega arith, omega arith)
-in-range false true = (omega arith, omega arith)
-in-range false false = (omega arith, omega arith)
-
 module _ (c : Cursor) (d : ℕ) where
   pub units-in-range : (2 ≤ unitsIn c d) × (unitsIn c d ≤ 4)
   unfolding unitsIn
-  units-in-range = in-range (leb (c .b23 .0) d) (leb (c .b34 .0) d)
+  units-in-range =
+      (omega arith, omega (arith, one-at-most (leb (c .b23 .0) d), one-at-most (leb (c .b34 .0) d)))
 
   pub units-of-cell : Ascending c → isCell (classIn c d) ≡ true → unitsIn c d ≡ classNumber (classIn c d)
   unfolding unitsIn

@@ -12,15 +12,7 @@ use Rattle.lists.proofs.TableLaws.{entry-is-rule}
 use Rattle.items.specs.Item.{isMark}
 use Rattle.symbols.specs.Bits.{Bit, O, I, byteBits}
 use Rattle.symbols.specs.Bytes.{numberFrom}
-use Rattle.words.specs.Words.{clocked, dataWord, markWord, wordOf, lastBit, wordAt, codeWords}
-
-pub word-of-A1 : (before : Bit) (w : ℕ) → w ≡ 0x1a1 → 0x4489 ≡ wordOf before w
-unfolding wordOf isMark markWord
-word-of-A1 before w e = rw e refl
-
-pub word-of-C2 : (before : Bit) (w : ℕ) → w ≡ 0x1c2 → 0x5224 ≡ wordOf before w
-unfolding wordOf isMark markWord
-word-of-C2 before w e = rw e refl
+use Rattle.words.specs.Words.{clocked, dataWord, wordOf, lastBit, wordAt, codeWords}
 
 -- only the eight lowest bits of a number that is no mark count
 bits-of-low-byte : (w : ℕ) → byteBits (w % 256) ≡ byteBits w

@@ -20,4 +20,4 @@ returns-3 c =
     rw (ne-eqb _ 0x4489 (c .before .before .if1 .left), ne-eqb _ 0x5224 (c .before .if2 .left)) (c .data-bits .ensures)
 
 pub byte-of-spec : {M : Type 1} → statement M
-byte-of-spec = tie.close (tie.spec returns returns-2 (λ c κs. search needs) returns-3)
+byte-of-spec = tie.close (tie.spec returns returns-2 (λ c. search needs) returns-3)

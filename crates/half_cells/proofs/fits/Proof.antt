@@ -7,4 +7,4 @@ returns : tie.Need-returns
 returns c = rw (c .before .missing .ensures, c .is-mark .ensures)
 
 pub fits-spec : {M : Type 1} → statement M
-fits-spec = tie.close (tie.spec (λ c κs. search needs) (λ c κs. search needs) returns)
+fits-spec = tie.close (tie.spec (λ c. search needs) (λ c. search needs) returns)

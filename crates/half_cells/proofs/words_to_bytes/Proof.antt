@@ -1,7 +1,7 @@
 -- `word::words_to_bytes` is a fold over the words: the bytes so far and those of the words from k on are all bytes.
 -- Rests on no axiom.
 use Prim.Native.Nat.{ℕ, suc, _+_, _-_, _≤_, _<_}
-use mathlib.Core.Path.{_≡_, refl, sym, ap, ap₂, _∙_}
+use mathlib.Core.Path.{_≡_, refl, _∙_}
 use mathlib.Core.List.{List, [], _∷_, _++_, map, append-assoc, append-nil}
 use native.Mathlib.Omega.{arith}
 use native.Mathlib.Numerals.{add-one}
@@ -53,12 +53,9 @@ returns : tie.Need-returns Inv-loop μ-loop
 returns c =
     let head = c .before .loop in
     let all : head .k ≡ length (head .words) = omega arith in
-    sym (ap₂ _++_ (ap (λ (n : ℕ). take n (head .words)) all ∙ take-length (head .words))
-    (ap (map candidate) (ap (λ (n : ℕ). drop n (head .words)) all ∙ drop-length (head .words)))
-    ∙ append-nil (head .words))
-    ∙ head .inv .2
+    rw (all, take-length, drop-length, append-nil) at (head .inv .2)
 
 pub words-to-bytes-spec : {M : Type 1} → statement M
 words-to-bytes-spec =
-    tie.close (tie.spec Inv-loop μ-loop loop-holds (λ c. omega arith) (λ c. omega arith) (λ c κs. search needs)
+    tie.close (tie.spec Inv-loop μ-loop loop-holds (λ c. omega arith) (λ c. omega arith) (λ c. search needs)
     (λ c. omega arith) (λ c. omega arith) (λ c. omega arith) loop-less loop-again same-length returns)

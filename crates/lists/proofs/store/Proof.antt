@@ -1,6 +1,6 @@
 -- Why `lists::store` stores the numbers that have room: after k turns it has stored the first k. Rests on no axiom.
 use Prim.Native.Nat.{ℕ, _+_, _-_, _≤_}
-use mathlib.Core.Path.{_≡_, refl, sym, ap, _∙_}
+use mathlib.Core.Path.{_≡_, refl, sym, _∙_}
 use native.Mathlib.Decide.{decLt}
 use native.Mathlib.Nat.{add-zero}
 use native.Mathlib.Numerals.{add-one}
@@ -61,16 +61,12 @@ returns-2 c =
       | yes h ↦
           sym (stored-past-end _ (args .at + k) (drop k (args .numbers .now)) (omega (arith, few, same, c .loop-test .left)))
           ∙ rest
-      | no h ↦
-          sym
-          (ap (storedAt (turn .loop .out) (args .at + k)) (drop-of-length-le (args .numbers .now) {i = k} (omega arith))
-          ∙ stored-none _ _)
-          ∙ rest
+      | no h ↦ sym (stored-none _ _) ∙ rw (drop-of-length-le (args .numbers .now) {i = k} (omega arith)) at rest
     ]
 
 pub store-spec : {M : Type 1} → statement M
 store-spec =
     tie.close
-    (tie.spec Inv-loop μ-loop returns (λ c. search needs) (λ c κs. search needs) loop-holds (λ c. search needs)
+    (tie.spec Inv-loop μ-loop returns (λ c. search needs) (λ c. search needs) loop-holds (λ c. search needs)
     shared-slice-read-out add-out (λ c. search needs) slice-write-out (λ c. search needs) (λ c. search needs) loop-again
     (λ c. c .before .loop .inv .1) returns-2)

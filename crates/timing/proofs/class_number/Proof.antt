@@ -1,12 +1,8 @@
 -- Why `timing::class_number` answers `classRule`: a refusal of the profile decides, and an acceptance leaves the class
 -- of the first interval of a list. Rests on no axiom.
-use mathlib.Core.Path.{ap, _∙_}
-use Rattle.refusal.specs.Answer.{accepted}
 use borrow.Author.Needs.{needs}
 use Rattle.refusal.proofs.AnswerLaws.{verdict-refuses, verdict-passes}
-use Rattle.timing.specs.Class.{classIn, classNumber, classOf, classRule}
-use Rattle.timing.specs.declared.cursor.Cursor.{Cursor}
-use Rattle.timing.specs.declared.cursor.Classed.{Classed}
+use Rattle.timing.specs.Class.{classOf, classRule}
 use Rattle.timing.proofs.class_number.Statement.{statement}
 use Rattle.timing.proofs.class_number.Tie as tie
 
@@ -18,13 +14,10 @@ returns-2 : tie.Need-returns-2
 unfolding classRule classOf
 returns-2 c =
     let checked = c .before .before .before in
-    let interval = checked .before .before .before .args .interval in
-    ap accepted (c .number .ensures
-    ∙ ap (λ (s : Classed). classNumber (s .class)) (c .before .step .ensures)
-    ∙ ap (λ (at : Cursor). classNumber (classIn at interval)) (c .before .before .start .ensures))
-    ∙ verdict-passes _ _ _ (checked .before .before .check .ensures) (checked .enum-told .given .1)
+    rw (c .number .ensures, c .before .step .ensures, c .before .before .start .ensures)
+    (verdict-passes _ _ _ (checked .before .before .check .ensures) (checked .enum-told .given .1))
 
 pub class-number-spec : {M : Type 1} → statement M
 class-number-spec =
-    tie.close (tie.spec (λ c κs. search needs) (λ c. search needs) (λ c. search needs) (λ c κs. search needs)
-    (λ c κs. search needs) (λ c κs. search needs) returns returns-2)
+    tie.close (tie.spec (λ c. search needs) (λ c. search needs) (λ c. search needs) (λ c. search needs)
+    (λ c. search needs) (λ c. search needs) returns returns-2)

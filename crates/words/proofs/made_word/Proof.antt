@@ -1,20 +1,23 @@
 -- `words::made_word` answers the word of a byte: a mark's own, else the bits moved apart. Rests on no axiom.
-use mathlib.Core.Path.{_∙_}
+use mathlib.Core.Path.{refl, _∙_}
+use Rattle.items.specs.Item.{isMark}
+use Rattle.words.specs.Words.{markWord, wordOf}
 use borrow.Author.Needs.{needs}
-use Rattle.words.proofs.TableLaws.{word-of-A1, word-of-C2}
 use Rattle.words.proofs.SpreadLaws.{spread-is-word}
 use Rattle.words.proofs.made_word.Statement.{statement}
 use Rattle.words.proofs.made_word.Tie as tie
 
 returns : tie.Need-returns
-returns c = word-of-A1 _ _ (c .if1 .taken)
+unfolding wordOf isMark markWord
+returns c = rw (c .if1 .taken) refl
 
 returns-2 : tie.Need-returns-2
-returns-2 c = word-of-C2 _ _ (c .if2 .taken)
+unfolding wordOf isMark markWord
+returns-2 c = rw (c .if2 .taken) refl
 
 returns-3 : tie.Need-returns-3
 returns-3 c =
     c .spread-word .ensures ∙ spread-is-word _ _ (c .before .before .if1 .left) (c .before .if2 .left)
 
 pub made-word-spec : {M : Type 1} → statement M
-made-word-spec = tie.close (tie.spec returns returns-2 (λ c κs. search needs) returns-3)
+made-word-spec = tie.close (tie.spec returns returns-2 (λ c. search needs) returns-3)

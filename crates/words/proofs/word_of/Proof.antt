@@ -1,15 +1,20 @@
 -- `words::word_of` answers the word of a byte: a mark's own, else the table's at the previous bit and the byte. Rests
 -- on no axiom.
+use mathlib.Core.Path.{refl}
+use Rattle.items.specs.Item.{isMark}
+use Rattle.words.specs.Words.{markWord, wordOf}
 use borrow.Author.Needs.{needs}
-use Rattle.words.proofs.TableLaws.{word-of-A1, word-of-C2, entry-is-word}
+use Rattle.words.proofs.TableLaws.{entry-is-word}
 use Rattle.words.proofs.word_of.Statement.{statement}
 use Rattle.words.proofs.word_of.Tie as tie
 
 returns : tie.Need-returns
-returns c = word-of-A1 _ _ (c .if1 .taken)
+unfolding wordOf isMark markWord
+returns c = rw (c .if1 .taken) refl
 
 returns-2 : tie.Need-returns-2
-returns-2 c = word-of-C2 _ _ (c .if2 .taken)
+unfolding wordOf isMark markWord
+returns-2 c = rw (c .if2 .taken) refl
 
 returns-3 : tie.Need-returns-3
 returns-3 c =

@@ -29,4 +29,4 @@ returns c =
 
 pub pass-block-spec : {M : Type 1} → statement M
 pass-block-spec =
-    tie.close (tie.spec (λ c κs. search needs) shift-units-requires (λ c. search needs) (λ c. search needs) returns)
+    tie.close (tie.spec (λ c. search needs) shift-units-requires (λ c. search needs) (λ c. search needs) returns)

@@ -15,7 +15,7 @@ use Rattle.symbols.specs.declared.Reading.{Reading}
 use Rattle.intervals.specs.machine.Pass.{after, passFrom}
 use Rattle.intervals.specs.machine.Fours.{alone, foursFrom}
 use Rattle.intervals.proofs.PassLaws.{pass-in-parts, pass-counts}
-use Rattle.intervals.proofs.FoursLaws.{by-fours, cells-take}
+use Rattle.intervals.proofs.FoursLaws.{by-fours, cells-in-parts}
 use borrow.Author.Needs.{needs}
 use Rattle.intervals.proofs.block.shift_block.Statement.{statement}
 use Rattle.intervals.proofs.block.shift_block.Tie as tie
@@ -48,12 +48,13 @@ module _ (us : List ℕ) (n : ℕ) (size : 4 * n ≤ length us) where
       → (reading .words ≡ m .words + length words)
       × (passFrom most from m us ≡ after (map alone words) (passFrom most (from + 4 * n) reading over))
   clean most from m reading words pre small same-end same-words fit =
+      let cells = cells-in-parts (4 * n) us (pre .0) .0 in
       let first : passFrom most from m front
       ≡ record { end = record { reading = reading; used = from + 4 * n }; words = map alone words } =
-      by-fours n front most from m (cells-take (4 * n) us (pre .0)) front-count (pre .1) (pre .2) small
+      by-fours n front most from m cells front-count (pre .1) (pre .2) small
       (rw same-words at fit)
       ∙ rw (front-count, ← same-end, ← same-words) in (
-        rw first at (pass-counts most from m front small .words) ∙ omega (arith, length-map words alone),
+        rw first at (pass-counts most from m front small cells (pre .1) .words) ∙ omega (arith, length-map words alone),
         ap (passFrom most from m) (sym (take-append-drop (4 * n) us))
             ∙ pass-in-parts most from m front (drop (4 * n) us)
             ∙ rw (first, over-is),
@@ -67,29 +68,11 @@ count-is c =
     length-take-le (c .shift-fours .result .count) _
     (omega (arith, c .shift-fours .ensures .1 .0, c .shift-fours .kept .1 .1 .0))
 
--- where they all fit
-fitting
-    : (c : tie.Then1)
-    → let fours = c .before .before .before .before .before .shift-fours in
-    let start = c .before .before .before .before .before .before .before .before .before .before .before in
-    let words = take (fours .result .count) (fours .last .1 .1 .0) in
-    let us = start .args .units .now in
-    let from = start .args .from + 4 * length (start .args .words .now) in
-    (fours .result .reading .words ≡ start .args .m .words + length words)
-    × (passFrom (start .args .most) (start .args .from) (start .args .m) us
-    ≡ after (map alone words)
-    (passFrom (start .args .most) from (fours .result .reading) (over us (length (start .args .words .now)) (start .pre .1 .0))))
-fitting c =
-    let fours = c .before .before .before .before .before .shift-fours in
-    let start = c .before .before .before .before .before .before .before .before .before .before .before in
-    clean _ _ (start .pre .1 .0) _ _ _ _ _ (start .pre .0) (start .fits .most .fits) (fours .ensures .0)
-    (fours .ensures .1 .1) (sym (c .before .all-fit .ensures) ∙ c .if1 .taken)
-
 shift-fours-requires : tie.Need-shift-fours-requires
 shift-fours-requires c κs =
     let start = c .before .before .before .before .before in
     let n = length (start .args .words .now) in
-    (cells-take (4 * n) _ (start .pre .0 .0), front-count _ n (start .pre .1 .0))
+    (cells-in-parts (4 * n) _ (start .pre .0 .0) .0, front-count _ n (start .pre .1 .0))
 
 store-requires : tie.Need-store-requires
 store-requires c κs =
@@ -105,8 +88,11 @@ shift-in-requires c κs =
     let start = shifted .before .before .before .before .before .before in
     let few = shifted .shift-fours .ensures .1 .0 in
     let size = start .pre .1 .0 in
-    let over = over-count (start .args .units .now) (length (start .args .words .now)) size in (
-      omega (arith, fitting told .0, count-is shifted, few, start .pre .0 .2),
+    let over = over-count (start .args .units .now) (length (start .args .words .now)) size in
+    let (words, pass) = clean _ _ size _ (start .args .from) _ _ _ (start .pre .0) (start .fits .most .fits)
+    (shifted .shift-fours .ensures .0) (shifted .shift-fours .ensures .1 .1)
+    (sym (told .before .all-fit .ensures) ∙ told .if1 .taken) in (
+      omega (arith, words, count-is shifted, few, start .pre .0 .2),
       (omega (arith, over, size, start .pre .1 .1 .0), omega (arith, over, size, few, start .pre .1 .1 .1)),
     )
 
@@ -114,20 +100,23 @@ returns : tie.Need-returns
 returns c =
     let told = c .before .before .before .before .before .before .before .before .before .before .before in
     let shifted = told .before .before .before .before .before in
-    let to = shifted .before .before .before .before .before .before .args .to in
+    let start = shifted .before .before .before .before .before .before in
     let words = take (shifted .shift-fours .result .count) (shifted .shift-fours .last .1 .1 .0) in
-    let next : to + shifted .shift-fours .result .count ≡ to + length (map alone words) =
+    let next : start .args .to + shifted .shift-fours .result .count ≡ start .args .to + length (map alone words) =
     omega (arith, length-map words alone, count-is shifted) in
     let (end, output) = c .before .before .shift-in .ensures in
     let stored = c .before .before .before .before .before .before .before .before .store .ensures in
-    rw (fitting told .1) (end, output ∙ stored-next _ _ _ _ to _ stored next)
+    rw (clean _ _ (start .pre .1 .0) _ (start .args .from) _ _ _ (start .pre .0) (start .fits .most .fits)
+    (shifted .shift-fours .ensures .0) (shifted .shift-fours .ensures .1 .1)
+    (sym (told .before .all-fit .ensures) ∙ told .if1 .taken) .1)
+    (end, output ∙ stored-next _ _ _ _ (start .args .to) _ stored next)
 
 pub shift-block-spec : {M : Type 1} → statement M
 shift-block-spec =
     tie.close
     (tie.spec (λ c. search needs) (λ c. sym (front-count _ _ (c .before .before .before .before .pre .1 .0)))
-    shift-fours-requires (λ c. search needs) (λ c. sym (count-is (c .before .before .before))) (λ c κs. search needs)
+    shift-fours-requires (λ c. search needs) (λ c. sym (count-is (c .before .before .before))) (λ c. search needs)
     (λ c. search needs) (λ c. sym (count-is (c .before .before .before .before .before .before))) store-requires
     (λ c. search needs) (λ c. search needs) (λ c. search needs) (λ c. search needs) (λ c. search needs)
-    shift-in-requires (λ c. search needs) (λ c. search needs) returns (λ c κs. search needs) (λ c. search needs)
+    shift-in-requires (λ c. search needs) (λ c. search needs) returns (λ c. search needs) (λ c. search needs)
     (λ c. search needs) (λ c. search needs))

@@ -2,11 +2,14 @@
 -- turn to turn. Rests on no axiom.
 mod Turn
 use Prim.Native.Nat.{_+_, _-_, _<_}
-use mathlib.Core.Path.{_≡_, sym, _∙_}
+use mathlib.Core.Path.{sym, ap, _∙_}
+use native.Mathlib.Nat.{add-assoc}
 use native.Mathlib.Omega.{arith}
 use borrow.Author.Tests.{leb-true}
-use lib.ListN.{length}
-use Turn.{Shifting, begins, turn-is-full, turn-ends, turn-stays-open, turn-closes}
+use lib.ListN.{length, drop-of-length-le}
+use Rattle.intervals.specs.machine.Pass.{passFrom}
+use Rattle.intervals.proofs.PassLaws.{pass-ends, pass-is-full}
+use Turn.{Shifting, begins, ends, turn-stays-open, turn-closes}
 use borrow.Author.Needs.{needs}
 use Rattle.intervals.proofs.block.shift_in.Statement.{statement}
 use Rattle.intervals.proofs.block.shift_in.Tie as tie
@@ -27,10 +30,9 @@ closed-turn
     (c .before .before .before .put .last .0) (c .close .result) (turn .loop .store-at + 1) (turn .loop .k + 1)
 closed-turn c =
     let tested = c .before .before .before .before .before .before in
-    let turn = tested .before .before .before .before .before in
-    let args = turn .before .before .before in
-    turn-closes _ _ _ _ _ _ (turn .loop .inv .0) (turn .loop .inv .1) (args .fits .most .fits)
-    (tested .before .before .before .before .loop-test .taken) _ _ _ _ (tested .before .before .shift .ensures)
+    let inside = tested .before .before .before .before in
+    let turn = inside .before .loop .inv in
+    turn-closes _ _ _ _ _ _ (turn .0) (turn .1) (inside .loop-test .taken) _ _ _ _ (tested .before .before .shift .ensures)
     (sym (tested .before .is-whole .ensures) ∙ tested .if1 .taken) (c .before .before .before .before .word .ensures)
     (c .before .before .before .put .ensures) (c .close .ensures)
 
@@ -47,9 +49,9 @@ word-requires c κs = leb-true 17 _ (sym (c .before .before .is-whole .ensures) 
 
 add-store-at : tie.Need-add-store-at Inv-loop μ-loop
 add-store-at c =
-    let turn = c .before .before .before .before .before .before .before .before .before .before in
-    let inside = c .before .before .before .before .before .before .before .before .before .loop-test .taken in
-    omega (arith, turn .loop .inv .0 .near, turn .before .before .before .pre .1 .1)
+    let inside = c .before .before .before .before .before .before .before .before .before in
+    let start = inside .before .before .before .before in
+    omega (arith, inside .loop-test .taken, inside .before .loop .inv .0 .near, start .pre .1 .1)
 
 close-requires : tie.Need-close-requires Inv-loop μ-loop
 close-requires c κs =
@@ -57,30 +59,25 @@ close-requires c κs =
 
 add-t24 : tie.Need-add-t24 Inv-loop μ-loop
 add-t24 c =
-    let turn = c .before .before .before .before .before .before .before .before .before .before .before .before .before in
-    let within = turn .loop .inv .0 .within in
-    let inside = c .before .before .before .before .before .before .before .before .before .before .before .before .loop-test .taken in
-    omega (arith, turn .before .before .before .pre .1 .0)
+    let inside = c .before .before .before .before .before .before .before .before .before .before .before .before in
+    let start = inside .before .before .before .before in
+    omega (arith, inside .loop-test .taken, start .pre .1 .0)
 
 same-length : tie.Need-same-length Inv-loop μ-loop
 same-length c = closed-turn (c .before .before) .same-length
 
 returns : tie.Need-returns Inv-loop μ-loop
 returns c =
-    let turn = c .before .before .before .before .before .before .before .before .before .before .before .before .before in
-    let next : turn .before .before .before .args .from + (turn .loop .k + 1)
-    ≡ turn .before .before .before .args .from + turn .loop .k + 1 = omega arith in
-    rw next at (turn-is-full _ _ _ _ _ _ (closed-turn (c .before .before)) (c .if2 .taken))
+    rw (← add-assoc) at (ends _ _ _ _ _ _ (closed-turn (c .before .before)) (pass-is-full _ _ _ _ (c .if2 .taken)))
 
 loop-again : tie.Need-loop-again Inv-loop μ-loop
 loop-again c = (closed-turn (c .before .before), c .if2 .left)
 
 loop-again-2 : tie.Need-loop-again-2 Inv-loop μ-loop
 loop-again-2 c =
-    let turn = c .before .before .before .before .before in
-    let args = turn .before .before .before in
-    turn-stays-open _ _ _ _ _ _ (turn .loop .inv .0) (turn .loop .inv .1) (args .fits .most .fits)
-    (c .before .before .before .before .loop-test .taken) _ (c .before .before .shift .ensures)
+    let inside = c .before .before .before .before in
+    let turn = inside .before .loop .inv in
+    turn-stays-open _ _ _ _ _ _ (turn .0) (turn .1) (inside .loop-test .taken) _ (c .before .before .shift .ensures)
     (sym (c .before .is-whole .ensures) ∙ c .if1 .left)
 
 add-t25 : tie.Need-add-t25 Inv-loop μ-loop
@@ -92,12 +89,14 @@ same-length-2 : tie.Need-same-length-2 Inv-loop μ-loop
 same-length-2 c = c .before .loop .inv .0 .same-length
 
 returns-2 : tie.Need-returns-2 Inv-loop μ-loop
-returns-2 c = turn-ends _ _ _ _ _ _ (c .before .loop .inv .0) (c .loop-test .left)
+returns-2 c =
+    ends _ _ _ _ _ _ (c .before .loop .inv .0)
+    (ap (passFrom _ _ _) (drop-of-length-le _ {i = c .before .loop .k} (c .loop-test .left)) ∙ pass-ends _ _ _)
 
 pub shift-in-spec : {M : Type 1} → statement M
 shift-in-spec =
     tie.close
-    (tie.spec Inv-loop μ-loop loop-holds (λ c. search needs) (λ c κs. search needs) add-place (λ c. search needs)
-    (λ c κs. search needs) word-requires (λ c κs. search needs) add-store-at (λ c. search needs) close-requires
+    (tie.spec Inv-loop μ-loop loop-holds (λ c. search needs) (λ c. search needs) add-place (λ c. search needs)
+    (λ c. search needs) word-requires (λ c. search needs) add-store-at (λ c. search needs) close-requires
     add-t24 same-length returns (λ c. search needs) loop-again (λ c. search needs) loop-again-2 add-t25 same-length-2
     returns-2)

@@ -24,4 +24,4 @@ pub shift-units-spec : {M : Type 1} → statement M
 shift-units-spec =
     tie.close (tie.spec (λ c. search needs) (λ c. search needs) (λ c. search needs)
     (λ c. sym (room _ (c .before .before .before .before .before .pre .0))) shift-block-requires (λ c. search needs)
-    (λ c. search needs) (λ c κs. search needs) (λ c. search needs) (λ c. search needs))
+    (λ c. search needs) (λ c. search needs) (λ c. search needs) (λ c. search needs))

@@ -1,7 +1,7 @@
 -- Why `block::units_of` stores `unitsFrom`: what is left to store stays the same from turn to turn. Rests on no
 -- axiom.
 use Prim.Native.Nat.{ℕ, _-_, _≤_}
-use mathlib.Core.Path.{_≡_, refl, sym, ap, _∙_}
+use mathlib.Core.Path.{_≡_, refl, sym, _∙_}
 use native.Mathlib.Numerals.{add-one}
 use native.Mathlib.Omega.{arith}
 use lib.ListN.{length, drop, length-set, drop-of-length-le}
@@ -41,15 +41,11 @@ loop-again c =
     let inv = turn .loop .inv in
     let more = inside .loop-test .taken in
     let cursor = turn .loop .cursor in
-    let here = units-here cursor _ _ more in
-    rw (c .past .ensures, stored .units .ensures) (
-      omega arith,
+    rw (c .past .ensures, stored .units .ensures, add-one) (
+      more,
       length-set {A = ℕ} (turn .loop .units) (turn .loop .k) _ ∙ inv .1,
-      rw add-one (sym (cursor-here cursor _ _ more) ∙ inv .2),
-      rw add-one
-          (stored-next _ _ _ _ _ _ (sym (stored-one _ _ _)) (sym (add-one _))
-          ∙ ap (storedAt _ _) (sym here)
-          ∙ inv .3),
+      rw (cursor-here cursor _ _ more) at (inv .2),
+      stored-next _ _ _ _ _ _ (sym (stored-one _ _ _)) (sym (add-one _)) ∙ rw (units-here cursor _ _ more) at (inv .3),
     )
 
 same-length : tie.Need-same-length Inv-loop μ-loop
@@ -57,23 +53,18 @@ same-length c = c .before .loop .inv .1
 
 returns : tie.Need-returns Inv-loop μ-loop
 returns c =
-    let turn = c .before in
-    let inv = turn .loop .inv in
-    let entry = turn .before .before .before in
+    let (within, same, cursor, stored) = c .before .loop .inv in
+    let entry = c .before .before .before .before in
     let ds = entry .args .intervals .now in
-    let none = sym (drop-of-length-le ds {i = turn .loop .k} (c .loop-test .left)) in
-    let cursor = turn .loop .cursor in
+    let none = drop-of-length-le ds {i = c .before .loop .k} (c .loop-test .left) in
     let all = unitsFrom (entry .args .start) ds in
     let room : length all ≡ length (entry .args .units .now) =
     units-count (entry .args .start) ds ∙ sym (entry .pre) in (
-      sym (cursor-after-none cursor) ∙ ap (cursorAfter cursor) none ∙ inv .2,
-      sym (stored-none _ _)
-          ∙ ap (storedAt _ _) (sym (units-none cursor) ∙ ap (unitsFrom cursor) none)
-          ∙ inv .3
-          ∙ stored-over-all all (entry .args .units .now) room,
+      rw (none, cursor-after-none) at cursor,
+      sym (stored-none _ _) ∙ rw (none, units-none) at stored ∙ stored-over-all all (entry .args .units .now) room,
     )
 
 pub units-of-spec : {M : Type 1} → statement M
 units-of-spec =
-    tie.close (tie.spec Inv-loop μ-loop loop-holds (λ c. search needs) (λ c. search needs) (λ c κs. search needs)
-    slice-write-units (λ c κs. search needs) (λ c. search needs) (λ c. search needs) loop-again same-length returns)
+    tie.close (tie.spec Inv-loop μ-loop loop-holds (λ c. search needs) (λ c. search needs) (λ c. search needs)
+    slice-write-units (λ c. search needs) (λ c. search needs) (λ c. search needs) loop-again same-length returns)

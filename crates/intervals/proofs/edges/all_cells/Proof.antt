@@ -1,8 +1,8 @@
 -- Why `edges::all_cells` tells whether all are cells: what was told and what is left to tell stay the same from turn to
 -- turn. Rests on no axiom.
 use Prim.Native.Nat.{_-_, _≤_}
-use mathlib.Core.Path.{_≡_, refl, sym, ap, _∙_}
-use mathlib.Core.Bool.{Bool, true, false, _&&_}
+use mathlib.Core.Path.{_≡_, refl, sym, _∙_}
+use mathlib.Core.Bool.{_&&_, and-true, and-assoc}
 use native.Mathlib.Numerals.{add-one}
 use native.Mathlib.Omega.{arith}
 use lib.ListN.{length, drop, drop-of-length-le}
@@ -13,14 +13,6 @@ use Rattle.timing.proofs.EdgeLaws.{ascending-past}
 use borrow.Author.Needs.{needs}
 use Rattle.intervals.proofs.edges.all_cells.Statement.{statement}
 use Rattle.intervals.proofs.edges.all_cells.Tie as tie
-
-and-then : (a b c : Bool) → ((a && b) && c) ≡ (a && (b && c))
-and-then true b c = refl
-and-then false b c = refl
-
-and-true : (a : Bool) → (a && true) ≡ a
-and-true true = refl
-and-true false = refl
 
 abbrev Inv-loop : tie.InvT-loop
 Inv-loop intervals cursor₀ all₀ k₀ cursor all k =
@@ -42,29 +34,21 @@ unfolding everywhere
 loop-again c =
     let inside = c .before .before .before in
     let turn = inside .before in
-    let inv = turn .loop .inv in
-    let cursor = turn .loop .cursor in
-    let here = classes-here cursor _ _ (inside .loop-test .taken) in
+    let more = inside .loop-test .taken in
     rw (c .past .ensures, c .before .meets-cell .ensures, add-one) (
-      inside .loop-test .taken,
-      ascending-past cursor _ (inv .1),
-      and-then (turn .loop .all) _ _
-          ∙ ap (λ (t : Bool). turn .loop .all && t) (sym (ap (everywhere isCell) here))
-          ∙ inv .2,
+      more,
+      ascending-past _ _ (turn .loop .inv .1),
+      and-assoc (turn .loop .all) _ _ ∙ rw classes-here at (turn .loop .inv .2),
     )
 
 returns : tie.Need-returns Inv-loop μ-loop
 unfolding everywhere
 returns c =
     let turn = c .before in
-    let cursor = turn .loop .cursor in
-    let ds = turn .before .before .args .intervals .now in
-    let none = ap (classesFrom cursor) (drop-of-length-le ds {i = turn .loop .k} (c .loop-test .left)) ∙ classes-none cursor in
-    sym (and-true (turn .loop .all))
-    ∙ ap (λ (t : Bool). turn .loop .all && t) (sym (ap (everywhere isCell) none))
-    ∙ turn .loop .inv .2
+    let none = drop-of-length-le (turn .before .before .args .intervals .now) {i = turn .loop .k} (c .loop-test .left) in
+    sym (and-true (turn .loop .all)) ∙ rw (none, classes-none) at (turn .loop .inv .2)
 
 pub all-cells-spec : {M : Type 1} → statement M
 all-cells-spec =
     tie.close (tie.spec Inv-loop μ-loop loop-holds (λ c. search needs) (λ c. search needs) meets-cell-requires
-    (λ c κs. search needs) (λ c. search needs) (λ c. search needs) loop-again returns)
+    (λ c. search needs) (λ c. search needs) (λ c. search needs) loop-again returns)

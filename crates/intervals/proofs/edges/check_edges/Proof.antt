@@ -1,9 +1,7 @@
 -- Why `edges::check_edges` answers `edgeRule`: where all are cells nothing is refused, and else the first that is none is
 -- looked for. Rests on no axiom.
-use mathlib.Core.Path.{sym, ap, _∙_}
+use mathlib.Core.Path.{sym, _∙_}
 use borrow.Author.Needs.{needs}
-use Rattle.timing.specs.Class.{classesFrom}
-use Rattle.timing.specs.declared.cursor.Cursor.{Cursor}
 use Rattle.timing.proofs.ClassLaws.{classes-from-start}
 use Rattle.timing.proofs.EdgeLaws.{accepted-ascends}
 use Rattle.intervals.specs.Cells.{edgeRule}
@@ -17,20 +15,13 @@ all-cells-requires c κs = rw (c .start .ensures) (accepted-ascends _ (c .before
 returns : tie.Need-returns
 unfolding edgeRule
 returns c =
-    let told = c .before in
-    let args = told .before .before .before .args in
-    sym (all-cells-are-fair 0 _ (sym (told .all-cells .ensures) ∙ c .if1 .taken))
-    ∙ ap (λ (start : Cursor). edgeRule (classesFrom start (args .intervals .now))) (told .before .start .ensures)
-    ∙ ap edgeRule (sym (classes-from-start (args .p) (args .intervals .now)))
+    rw (classes-from-start, ← c .before .before .start .ensures)
+    (sym (all-cells-are-fair 0 _ (sym (c .before .all-cells .ensures) ∙ c .if1 .taken)))
 
 returns-2 : tie.Need-returns-2
-returns-2 c =
-    let args = c .before .before .before .before .before .before .args in
-    c .find-outside .ensures
-    ∙ ap (λ (start : Cursor). edgeRule (classesFrom start (args .intervals .now))) (c .before .start2 .ensures)
-    ∙ ap edgeRule (sym (classes-from-start (args .p) (args .intervals .now)))
+returns-2 c = rw (classes-from-start, ← c .before .start2 .ensures) (c .find-outside .ensures)
 
 pub check-edges-spec : {M : Type 1} → statement M
 check-edges-spec =
     tie.close
-    (tie.spec (λ c κs. search needs) all-cells-requires returns (λ c κs. search needs) (λ c κs. search needs) returns-2)
+    (tie.spec (λ c. search needs) all-cells-requires returns (λ c. search needs) (λ c. search needs) returns-2)

@@ -1,12 +1,11 @@
 -- Why `edges::find_outside` answers `edgeRule`: the first interval that is no cell decides, and a cell is passed. Rests on
 -- no axiom.
 use Prim.Native.Nat.{_-_, _≤_}
-use mathlib.Core.Path.{_≡_, refl, sym, ap, _∙_}
+use mathlib.Core.Path.{_≡_, refl, sym, _∙_}
 use native.Mathlib.Numerals.{add-one}
 use native.Mathlib.Omega.{arith}
 use lib.ListN.{length, drop, drop-of-length-le}
-use Rattle.timing.specs.Class.{classNumber, classesFrom}
-use Rattle.timing.specs.declared.cursor.Classed.{Classed}
+use Rattle.timing.specs.Class.{classesFrom}
 use Rattle.timing.proofs.ClassLaws.{classes-none, classes-here}
 use Rattle.intervals.specs.Cells.{edgeRule, edgeRuleFrom}
 use Rattle.intervals.proofs.NearLaws.{narrow-is-refused, wide-is-refused, cell-is-passed}
@@ -27,28 +26,30 @@ unfolding edgeRule
 loop-holds c = (omega arith, refl)
 
 cast-t11 : tie.Need-cast-t11 Inv-loop μ-loop
-cast-t11 c = omega (arith, c .before .before .before .before .loop-test .taken, c .before .before .before .before .before .before .before .pre)
+cast-t11 c =
+    let inside = c .before .before .before .before in
+    omega (arith, inside .loop-test .taken, inside .before .before .before .pre)
 
 returns : tie.Need-returns Inv-loop μ-loop
 returns c =
     let step = c .before .before in
-    let turn = step .before .before .before in
-    let class = ap (λ (s : Classed). classNumber (s .class)) (sym (step .step .ensures)) in
-    sym (narrow-is-refused _ _ _ (class ∙ sym (c .before .number .ensures) ∙ c .if1 .taken))
-    ∙ ap (edgeRuleFrom _) (sym (classes-here _ _ _ (step .before .before .loop-test .taken)))
-    ∙ turn .loop .inv .1
+    let inside = step .before .before in
+    let more = inside .loop-test .taken in
+    let class = rw (step .step .ensures) at (c .before .number .ensures) in
+    sym (narrow-is-refused _ _ _ (sym class ∙ c .if1 .taken)) ∙ rw classes-here at (inside .before .loop .inv .1)
 
 cast-t13 : tie.Need-cast-t13 Inv-loop μ-loop
-cast-t13 c = omega (arith, c .before .before .before .before .before .before .loop-test .taken, c .before .before .before .before .before .before .before .before .before .pre)
+cast-t13 c =
+    let inside = c .before .before .before .before .before .before in
+    omega (arith, inside .loop-test .taken, inside .before .before .before .pre)
 
 returns-2 : tie.Need-returns-2 Inv-loop μ-loop
 returns-2 c =
     let step = c .before .before .before .before in
-    let turn = step .before .before .before in
-    let class = ap (λ (s : Classed). classNumber (s .class)) (sym (step .step .ensures)) in
-    sym (wide-is-refused _ _ _ (class ∙ sym (c .before .number2 .ensures) ∙ c .if2 .taken))
-    ∙ ap (edgeRuleFrom _) (sym (classes-here _ _ _ (step .before .before .loop-test .taken)))
-    ∙ turn .loop .inv .1
+    let inside = step .before .before in
+    let more = inside .loop-test .taken in
+    let class = rw (step .step .ensures) at (c .before .number2 .ensures) in
+    sym (wide-is-refused _ _ _ (sym class ∙ c .if2 .taken)) ∙ rw classes-here at (inside .before .loop .inv .1)
 
 loop-again : tie.Need-loop-again Inv-loop μ-loop
 loop-again c =
@@ -56,28 +57,25 @@ loop-again c =
     let first = second .before .before in
     let step = first .before .before in
     let inside = step .before .before in
-    let turn = inside .before in
-    let class = ap (λ (s : Classed). classNumber (s .class)) (step .step .ensures) in (
-      omega (arith, inside .loop-test .taken),
-      rw (ap (λ (s : Classed). s .next) (step .step .ensures), add-one)
-          (sym
-          (cell-is-passed _ _ _ (λ e. first .if1 .left (first .before .number .ensures ∙ class ∙ e))
-          (λ e. second .if2 .left (second .before .number2 .ensures ∙ class ∙ e)))
-          ∙ ap (edgeRuleFrom _) (sym (classes-here _ _ _ (inside .loop-test .taken)))
-          ∙ turn .loop .inv .1),
+    let more = inside .loop-test .taken in
+    let class = step .step .ensures in
+    rw (class, add-one) (
+      more,
+      sym
+          (cell-is-passed _ _ _ (λ e. first .if1 .left (rw class at (first .before .number .ensures) ∙ e))
+          (λ e. second .if2 .left (rw class at (second .before .number2 .ensures) ∙ e)))
+          ∙ rw classes-here at (inside .before .loop .inv .1),
     )
 
 returns-3 : tie.Need-returns-3 Inv-loop μ-loop
 unfolding edgeRuleFrom
 returns-3 c =
     let turn = c .before in
-    let cursor = turn .loop .cursor in
-    let ds = turn .before .before .args .intervals .now in
-    let none = ap (classesFrom cursor) (drop-of-length-le ds {i = turn .loop .k} (c .loop-test .left)) ∙ classes-none cursor in
-    sym (ap (edgeRuleFrom (turn .loop .k)) none) ∙ turn .loop .inv .1
+    let none = drop-of-length-le (turn .before .before .args .intervals .now) {i = turn .loop .k} (c .loop-test .left) in
+    rw (none, classes-none) at (turn .loop .inv .1)
 
 pub find-outside-spec : {M : Type 1} → statement M
 find-outside-spec =
-    tie.close (tie.spec Inv-loop μ-loop loop-holds (λ c. search needs) (λ c. search needs) (λ c κs. search needs)
-    (λ c κs. search needs) cast-t11 returns (λ c κs. search needs) cast-t13 returns-2 (λ c. search needs)
+    tie.close (tie.spec Inv-loop μ-loop loop-holds (λ c. search needs) (λ c. search needs) (λ c. search needs)
+    (λ c. search needs) cast-t11 returns (λ c. search needs) cast-t13 returns-2 (λ c. search needs)
     (λ c. search needs) loop-again returns-3)

@@ -1,8 +1,8 @@
 -- Why `fours::all_fit` tells whether all fit: what was told and what is left to tell stay the same from turn to turn.
 -- Rests on no axiom.
 use Prim.Native.Nat.{_-_, _≤_}
-use mathlib.Core.Path.{_≡_, refl, sym, ap, _∙_}
-use mathlib.Core.Bool.{Bool, _&&_, and-true, and-assoc}
+use mathlib.Core.Path.{_≡_, refl, sym, _∙_}
+use mathlib.Core.Bool.{_&&_, and-true, and-assoc}
 use native.Mathlib.Numerals.{add-one}
 use native.Mathlib.Omega.{arith}
 use lib.ListN.{length, drop, drop-of-length-le}
@@ -25,24 +25,17 @@ loop-again c =
     let inside = c .before .before .loop-test .taken in
     let turn = c .before .before .before in
     let here = drop-cons (turn .before .before .args .words .now) (turn .loop .k) 0 inside in
-    rw (c .fits2 .ensures, add-one) (
-      inside,
-      and-assoc (turn .loop .all) _ _
-          ∙ ap (λ (t : Bool). turn .loop .all && t) (sym (ap (everywhere fits) here))
-          ∙ turn .loop .inv .1,
-    )
+    rw (c .fits2 .ensures, add-one) (inside, and-assoc (turn .loop .all) _ _ ∙ rw here at (turn .loop .inv .1))
 
 returns : tie.Need-returns Inv-loop μ-loop
 unfolding everywhere
 returns c =
     let turn = c .before in
     let none = drop-of-length-le (turn .before .before .args .words .now) {i = turn .loop .k} (c .loop-test .left) in
-    sym (and-true (turn .loop .all))
-    ∙ ap (λ (t : Bool). turn .loop .all && t) (sym (ap (everywhere fits) none))
-    ∙ turn .loop .inv .1
+    sym (and-true (turn .loop .all)) ∙ rw none at (turn .loop .inv .1)
 
 pub all-fit-spec : {M : Type 1} → statement M
 all-fit-spec =
     tie.close
-    (tie.spec Inv-loop μ-loop (λ c. (omega arith, refl)) (λ c. search needs) (λ c. search needs) (λ c κs. search needs)
+    (tie.spec Inv-loop μ-loop (λ c. (omega arith, refl)) (λ c. search needs) (λ c. search needs) (λ c. search needs)
     (λ c. search needs) (λ c. search needs) loop-again returns)

@@ -5,7 +5,8 @@ use Prim.Native.Nat.{_-_}
 use mathlib.Core.Path.{refl}
 use native.Mathlib.Omega.{arith}
 use lib.ListN.{length}
-use Turn.{one-at-most, Shifting, begins, ends, goes-on}
+use Rattle.lists.proofs.BoolLaws.{one-at-most}
+use Turn.{Shifting, begins, ends, goes-on}
 use borrow.Author.Needs.{needs}
 use Rattle.intervals.proofs.fours.shift_fours.Statement.{statement}
 use Rattle.intervals.proofs.fours.shift_fours.Tie as tie
@@ -56,6 +57,6 @@ returns c = ends _ _ _ (c .before .loop .inv) (rw (c .before .loop .inv .size) a
 pub shift-fours-spec : {M : Type 1} → statement M
 shift-fours-spec =
     tie.close
-    (tie.spec Inv-loop μ-loop loop-holds (λ c. search needs) four-cells-requires (λ c κs. search needs) (λ c κs. search needs)
-    (λ c. search needs) slice-write-words (λ c κs. search needs) (λ c. search needs) add-count (λ c κs. search needs)
+    (tie.spec Inv-loop μ-loop loop-holds (λ c. search needs) four-cells-requires (λ c. search needs) (λ c. search needs)
+    (λ c. search needs) slice-write-words (λ c. search needs) (λ c. search needs) add-count (λ c. search needs)
     (λ c. search needs) (λ c. search needs) loop-again same-length returns)

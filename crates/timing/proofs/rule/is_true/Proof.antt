@@ -23,5 +23,5 @@ returns c =
 
 pub is-true-spec : {M : Type 1} → statement M
 is-true-spec =
-    tie.close (tie.spec (λ c κs. search needs) (λ c. search needs) (λ c. search needs) (λ c. search needs) add-result
+    tie.close (tie.spec (λ c. search needs) (λ c. search needs) (λ c. search needs) (λ c. search needs) add-result
     add-result-2 add-result-3 returns)

@@ -62,6 +62,6 @@ returns-2 c =
 
 pub lowest-unset-spec : {M : Type 1} → statement M
 lowest-unset-spec =
-    tie.close (tie.spec Inv-loop μ-loop (λ c κs. search needs) (λ c. (refl, search needs, refl)) (λ c. search needs)
+    tie.close (tie.spec Inv-loop μ-loop (λ c. search needs) (λ c. (refl, search needs, refl)) (λ c. search needs)
     (λ c. search needs) (λ c. search needs) (λ c. search needs) (λ c. search needs) (λ c. search needs) returns
     (λ c. search needs) (λ c. search needs) loop-again returns-2)

@@ -6,9 +6,7 @@ use mathlib.Core.List.{List}
 use native.Mathlib.Omega.{arith}
 use lib.ListN.{length, take, drop, replicate, length-take, length-drop}
 use lib.Seq.{length-take-le}
-use Rattle.lists.specs.Filled.{storedAt}
-use Rattle.timing.specs.Class.{cursorAfter}
-use Rattle.intervals.specs.machine.Blocks.{passOn, wordsOf}
+use Rattle.intervals.specs.machine.Blocks.{wordsOf}
 use Rattle.intervals.proofs.BlockLaws.{take-taken}
 use borrow.Author.Needs.{needs}
 use Rattle.intervals.proofs.block.Progress.next_block.Statement.{statement}
@@ -53,17 +51,12 @@ returns c =
     let cut = done .before .before .before .before in
     let args = cut .before .before .before .args in
     let same = block-is (args .intervals .now) (args .self .pass .used) _ (cut .at-most .ensures) in
-    let (pass, (cursor, output)) = done .pass-block .ensures in (
-      record {
-        pass = pass ∙ ap (λ (l : List ℕ). passOn (args .most) (args .self) l .end) same;
-        cursor = λ _. cursor ∙ ap (cursorAfter (args .self .cursor)) same;
-      },
-      output ∙ ap (λ (l : List ℕ). storedAt (args .out .now) (args .to) (passOn (args .most) (args .self) l .words)) same,
-    )
+    let (pass, (cursor, output)) = rw same at (done .pass-block .ensures) in
+    (record { pass = pass; cursor = λ _. cursor }, output)
 
 pub next-block-spec : {M : Type 1} → statement M
 next-block-spec =
     tie.close
-    (tie.spec (λ c. search needs) (λ c κs. search needs) (λ c. search needs) (λ c. search needs) (λ c. search needs)
+    (tie.spec (λ c. search needs) (λ c. search needs) (λ c. search needs) (λ c. search needs) (λ c. search needs)
     (λ c. search needs) (λ c. search needs) (λ c. search needs) slice-aggregate-pass-block pass-block-requires
     (λ c. search needs) returns)

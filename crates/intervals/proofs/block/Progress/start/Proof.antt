@@ -10,4 +10,4 @@ unfolding atFirst
 returns c = rw (c .start .ensures, c .before .new .ensures) refl
 
 pub start-spec : {M : Type 1} → statement M
-start-spec = tie.close (tie.spec (λ c κs. search needs) (λ c κs. search needs) returns)
+start-spec = tie.close (tie.spec (λ c. search needs) (λ c. search needs) returns)

@@ -7,7 +7,7 @@ use mathlib.Core.List.{List, [], _∷_}
 use native.Mathlib.Nat.{add-zero, add-suc}
 use native.Mathlib.Numerals.{add-one}
 use native.Mathlib.Omega.{arith}
-use lib.ListN.{length, drop, getD, set, drop-of-length-le}
+use lib.ListN.{length, drop, getD, set}
 use lib.Seq.{drop-cons}
 use Rattle.lists.specs.Filled.{storedAt}
 use Rattle.lists.proofs.StoreLaws.{stored-none, stored-one, stored-next, stored-length}
@@ -15,7 +15,7 @@ use Rattle.symbols.specs.machine.Step.{shifted, isWhole, codeWord, closed, step
 use Rattle.symbols.specs.declared.Reading.{Reading}
 use Rattle.symbols.proofs.WholeLaws.{step-stays-open, step-closes}
 use Rattle.intervals.specs.machine.Pass.{Passed, ended, after, passFrom}
-use Rattle.intervals.proofs.PassLaws.{pass-ends, pass-is-full, pass-goes-on}
+use Rattle.intervals.proofs.PassLaws.{pass-goes-on}
 
 module _ (most from to : ℕ) (start : Reading) (us old : List ℕ) where
   abbrev whole : Passed
@@ -43,25 +43,12 @@ module _ (most from to : ℕ) (start : Reading) (us old : List ℕ) where
 
   module _ {out : List ℕ} {m : Reading} {place k : ℕ} (so-far : Shifting out m place k) where
     -- where the pass ends, nothing is left to read or to store
-    ends
+    pub ends
         : passFrom most (from + k) m (drop k us) ≡ ended m (from + k)
         → (record { reading = m; used = from + k } ≡ whole .end) × (out ≡ storedAt old to (whole .words))
-    ends e =
-        let settles = rw e at (so-far .settles) in
-        (settles .0, sym (stored-none out place) ∙ settles .1)
+    ends e = let (end, stored) = rw e at (so-far .settles) in (end, sym (stored-none out place) ∙ stored)
 
-    pub turn-is-full
-        : most ≤ m .words
-        → (record { reading = m; used = from + k } ≡ whole .end) × (out ≡ storedAt old to (whole .words))
-    turn-is-full h = ends (pass-is-full most (from + k) m (drop k us) h)
-
-    pub turn-ends
-        : length us ≤ k
-        → (record { reading = m; used = from + k } ≡ whole .end) × (out ≡ storedAt old to (whole .words))
-    turn-ends h =
-        ends (ap (passFrom most (from + k) m) (drop-of-length-le us {i = k} h) ∙ pass-ends most (from + k) m)
-
-    module _ (few : m .words < most) (small : most < 2 ^ 32) (inside : k < length us) where
+    module _ (few : m .words < most) (inside : k < length us) where
       abbrev u : ℕ
       u = getD us k 0
 

@@ -12,11 +12,12 @@ use mir.Val.{boolByte}
 use lib.ListN.{length, take, drop, set, length-set, length-drop}
 use lib.Seq.{drop-drop, length-take-le, take-suc-set, take-set-le}
 use Rattle.lists.specs.Filled.{ifGiven}
+use Rattle.lists.proofs.BoolLaws.{one-at-most}
 use Rattle.symbols.specs.machine.Step.{AllCells, shiftedAll, emptyReading, joined, isWhole, wordOf, eased}
 use Rattle.symbols.specs.declared.Reading.{Reading}
 use Rattle.symbols.proofs.JoinLaws.{join-is-shift}
 use Rattle.intervals.specs.machine.Fours.{Fours, foursFrom}
-use Rattle.intervals.proofs.FoursLaws.{cells-take, cells-drop}
+use Rattle.intervals.proofs.FoursLaws.{cells-in-parts}
 
 -- kept, if a byte is whole, or to be stored over
 kept
@@ -28,10 +29,6 @@ kept true words count x y room e =
     rw (add-one count) (take-suc-set words count x room) ∙ ap (λ (z : ℕ). take count words ++ (z ∷ [])) (e refl)
 kept false words count x y room e =
     rw (add-zero count, append-nil (take count words)) (take-set-le count words count x (omega arith))
-
-pub one-at-most : (t : Bool) → boolByte t ≤ 1
-one-at-most true = omega arith
-one-at-most false = omega arith
 
 module _ (n : ℕ) (start : Reading) (us : List ℕ) where
   -- what is left, after so many fours
@@ -71,8 +68,11 @@ module _ (n : ℕ) (start : Reading) (us : List ℕ) where
         )
 
     module _ (inside : i < n) where
+      abbrev here : List ℕ
+      here = take 4 (drop (4 * i) us)
+
       abbrev next : Reading
-      next = shiftedAll m (take 4 (drop (4 * i) us))
+      next = shiftedAll m here
 
       left : rest m i
           ≡ record {
@@ -88,17 +88,17 @@ module _ (n : ℕ) (start : Reading) (us : List ℕ) where
       pub goes-on
           : (now : Reading) (x : ℕ) (t : Bool)
           → AllCells us × (length us ≡ 4 * n)
-          → now ≡ joined m (shiftedAll emptyReading (take 4 (drop (4 * i) us)))
+          → now ≡ joined m (shiftedAll emptyReading here)
           → (17 ≤ now .held → x ≡ wordOf now)
           → t ≡ isWhole now
           → Shifting (set words count x) (eased now) (count + boolByte t) (i + 1)
       goes-on now x t cells apart stored told =
-          let size : length (take 4 (drop (4 * i) us)) ≡ 4 =
+          let size : length here ≡ 4 =
           length-take-le 4 (drop (4 * i) us) (rw (length-drop (4 * i) us) (omega (arith, cells .1))) in
           let e : now ≡ next =
           apart
-          ∙ join-is-shift (take 4 (drop (4 * i) us)) m
-          (cells-take 4 (drop (4 * i) us) (cells-drop (4 * i) us (cells .0))) (omega (arith, size))
+          ∙ join-is-shift here m
+          (cells-in-parts 4 (drop (4 * i) us) (cells-in-parts (4 * i) us (cells .0) .1) .0) (omega (arith, size))
           (omega (arith, size)) in
           let few = so-far .few in
           let room = so-far .size in

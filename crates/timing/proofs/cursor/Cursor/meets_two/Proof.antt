@@ -10,4 +10,4 @@ returns c =
     two-by-difference _ _ _ (c .before .before .pre) (c .before .wrapping-sub-u16 .ensures) (omega arith) (omega arith)
 
 pub meets-two-spec : {M : Type 1} → statement M
-meets-two-spec = tie.close (tie.spec (λ c κs. search needs) (λ c. search needs) returns)
+meets-two-spec = tie.close (tie.spec (λ c. search needs) (λ c. search needs) returns)

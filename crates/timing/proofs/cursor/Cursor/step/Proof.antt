@@ -9,4 +9,4 @@ unfolding cursorPast
 returns c = rw (c .class-of .ensures)
 
 pub step-spec : {M : Type 1} → statement M
-step-spec = tie.close (tie.spec (λ c κs. search needs) returns)
+step-spec = tie.close (tie.spec (λ c. search needs) returns)
