@@ -1,23 +1,21 @@
 -- The merged set merged again: the merge takes it, and with the empty set it gives it as it is. Rests on no axiom.
 use Prim.Native.Nat.{ℕ, _≤_, _<_}
 use mathlib.Core.Path.{_≡_, ap, _∙_}
-use mathlib.Core.Bool.{false}
-use mathlib.Core.List.{List, []}
+use mathlib.Core.Bool.{false, true}
+use mathlib.Core.List.{List, flatMap}
 use mathlib.Core.Option.{some}
-use native.Mathlib.Omega.{arith}
-use lib.ListN.{length}
-use Rattle.merge.specs.Set.{Sector, setBytes, setOf, isNone, orEmpty, isMisfitSet, sectorsIn}
+use Rattle.merge.specs.Set.{Sector, setOf, isNone, isMisfitSet, sectorsIn}
 use Rattle.merge.specs.Merge.{heldOf, taken, asList, takenAt, merged, numbers, isThere, inEither, howMany}
 use Rattle.merge.specs.Merge.{isTwice}
-use Rattle.merge.specs.Claims.{result, Takes}
-use Rattle.merge.proofs.NumberLaws.{lists-agree}
-use Rattle.merge.proofs.CountLaws.{how-many-agrees, merged-count}
-use Rattle.merge.proofs.FormLaws.{print-then-read}
-use Rattle.merge.proofs.HeldLaws.{held-of-merged, none-twice}
-use Rattle.merge.proofs.AcceptLaws.{Accepts, accepts-takes, none-is-twice, empty-set-fits, empty-set-has-none}
-use Rattle.merge.proofs.AcceptLaws.{fits-is-sectors}
-use Rattle.merge.proofs.OnceLaws.{in-first, taken-of-first, empty-second-at-peace}
-use Rattle.merge.proofs.MergedLaws.{taken-is-there, merged-is-sectors}
+use Rattle.merge.specs.Claims.{isSector}
+use Rattle.merge.proofs.NumberLaws.{lists-agree, counts-agree}
+use Rattle.merge.proofs.HeldLaws.{held-of-merged, taken-once}
+use Rattle.merge.proofs.AcceptLaws.{Accepts}
+use Rattle.merge.proofs.MergedLaws.{taken-is-there, merged-is-sectors, merged-count, none-is-twice}
+use Rattle.merge.proofs.RuleLaws.{Fits}
+use Rattle.lists.specs.Place.{everywhere}
+use Rattle.merge.proofs.FormLaws.{fits-is-some, sets-as-bytes}
+use Rattle.merge.specs.Rule.{result}
 
 module _ (first second : List ℕ) (a : Accepts first second) where
   abbrev ss : List Sector
@@ -26,55 +24,37 @@ module _ (first second : List ℕ) (a : Accepts first second) where
   abbrev ts : List Sector
   ts = sectorsIn second
 
-  abbrev again : List Sector
-  again = merged ss ts
+  once : (n : ℕ) → n < 256 → (isTwice (heldOf n ss) ≡ false) × (isTwice (heldOf n ts) ≡ false)
+  once = none-is-twice ss ts (a .peace)
 
-  reads-back : setOf (result first second) ≡ some again
+  are-sectors : (bs : List ℕ) → Fits bs → everywhere isSector (sectorsIn bs) ≡ true
+  are-sectors bs f = sets-as-bytes .read-is-sectors bs (sectorsIn bs) (fits-is-some bs (f .whole))
+
+  reads-back : setOf (result first second) ≡ some (merged ss ts)
   reads-back =
-      print-then-read again
-      (merged-is-sectors ss ts (fits-is-sectors first (a .first-fits)) (fits-is-sectors second (a .second-fits)))
+      sets-as-bytes .print-then-read (merged ss ts)
+      (merged-is-sectors ss ts (are-sectors first (a .first-fits)) (are-sectors second (a .second-fits)))
 
-  sectors-again : sectorsIn (result first second) ≡ again
+  pub fits-again : Fits (result first second)
+  unfolding isMisfitSet sectorsIn
+  fits-again =
+      record {
+        whole = ap isNone reads-back;
+        few = rw (reads-back, merged-count ss ts (a .peace)) (a .different);
+      }
+
+  held-again : (n : ℕ) → n < 256 → heldOf n (sectorsIn (result first second)) ≡ taken (heldOf n ss) (heldOf n ts)
   unfolding sectorsIn
-  sectors-again = ap orEmpty reads-back
+  held-again n h = rw reads-back (held-of-merged ss ts n (once n h) h)
 
-  held-again : (n : ℕ) → n < 256 → heldOf n again ≡ taken (heldOf n ss) (heldOf n ts)
-  held-again n h = let t = none-is-twice first second a n h in held-of-merged ss ts n h (t .0) (t .1)
+  pub once-again : (n : ℕ) → n < 256 → isTwice (heldOf n (sectorsIn (result first second))) ≡ false
+  once-again n h = rw (held-again n h) (taken-once ss ts n (once n h))
 
-  once-again : (n : ℕ) → n < 256 → isTwice (heldOf n again) ≡ false
-  once-again n h =
-      let t = none-is-twice first second a n h in
-      ap isTwice (held-again n h) ∙ none-twice (heldOf n ss) (heldOf n ts) (t .0) (t .1)
+  pub few-again : howMany (λ n. isThere (heldOf n (sectorsIn (result first second)))) numbers ≤ 32
+  unfolding inEither
+  few-again =
+      rw (counts-agree _ (inEither ss ts) (λ n h. ap isThere (held-again n h) ∙ taken-is-there _ _)) (a .different)
 
-  few-again : length again ≤ 32
-  few-again = rw (merged-count ss ts (a .peace)) (a .different)
-
-  module _ (es : List Sector) (empty : es ≡ []) where
-    numbers-again : howMany (inEither again es) numbers ≡ howMany (inEither ss ts) numbers
-    unfolding numbers inEither
-    numbers-again =
-        how-many-agrees _ _ 0 256 (λ n h.
-        in-first again es empty n
-        ∙ ap isThere (held-again n (omega arith))
-        ∙ taken-is-there (heldOf n ss) (heldOf n ts))
-
-    merged-again : merged again es ≡ again
-    unfolding merged takenAt numbers
-    merged-again =
-        lists-agree _ _ 0 256 (λ n h. taken-of-first again es empty n ∙ ap asList (held-again n (omega arith)))
-
-  pub merged-set-is-taken : Takes (result first second) [] × (result (result first second) [] ≡ result first second)
-  unfolding isMisfitSet
-  merged-set-is-taken = (
-    accepts-takes
-        (result first second) [] (record {
-          first-fits = ap isNone reads-back;
-          second-fits = empty-set-fits;
-          first-few = rw sectors-again few-again;
-          second-few = rw empty-set-has-none (omega arith);
-          different = rw (sectors-again, numbers-again (sectorsIn []) empty-set-has-none) (a .different);
-          peace = rw sectors-again (empty-second-at-peace again (sectorsIn []) empty-set-has-none once-again);
-        }),
-    ap (λ (l : List Sector). setBytes (merged l (sectorsIn []))) sectors-again
-        ∙ ap setBytes (merged-again (sectorsIn []) empty-set-has-none),
-  )
+  pub in-order-again : flatMap (λ n. asList (heldOf n (sectorsIn (result first second)))) numbers ≡ merged ss ts
+  unfolding merged takenAt
+  in-order-again = lists-agree _ _ (λ n h. ap asList (held-again n h))

@@ -2,7 +2,7 @@
 -- ends. Rests on no axiom.
 use Prim.Native.Nat.{ℕ, zero, suc, _≤_}
 use mathlib.Core.Path.{_≡_, refl, ap, _∙_}
-use mathlib.Core.Bool.{Bool, true, false, cond, not, _&&_, _||_, true≢false, false≢true}
+use mathlib.Core.Bool.{Bool, true, false, cond, not, _||_, true≢false}
 use mathlib.Core.List.{List, [], _∷_, _++_}
 use mathlib.Core.Option.{Option, none, some}
 use native.Mathlib.Omega.{arith}
@@ -11,45 +11,37 @@ use lib.Dec.{eqb, ltb, leb}
 use lib.ListN.{length, take, drop, length-append, take-append-drop}
 use lib.Seq.{take-at, drop-at, length-take-le}
 use Rattle.lists.specs.Place.{everywhere}
+use Rattle.lists.proofs.BoolLaws.{both}
 use Rattle.lists.proofs.PlaceLaws.{everywhere-of-none, everywhere-of-passing}
 use Rattle.lists.proofs.PlaceLaws.{everywhere-passes-at-first, everywhere-in-rest}
 use Rattle.sectors.specs.Sector.{sectorSize}
 use Rattle.merge.specs.Set.{Sector, asByte, sectorBytes, setBytes, sectorOf, withFirst, setWithin, setOf}
-use Rattle.merge.specs.Set.{isNone, orEmpty}
+use Rattle.merge.specs.Set.{isNone, orEmpty, isMisfitSet, sectorsIn}
 use Rattle.merge.specs.Claims.{isSector, Restates, end, same, yes, SetsAsBytes}
 use Rattle.merge.proofs.SetLaws.{set-of-none, set-of-sector}
 
 -- ---- printed, then read
-
-both : (t u : Bool) → (t && u) ≡ true → (t ≡ true) × (u ≡ true)
-both true u h = (refl, h)
-both false u h = absurd (false≢true h)
-
-pub sector-fits : (s : Sector) → isSector s ≡ true → (s .code ≤ 3) × (length (s .bytes) ≡ sectorSize (s .code))
-unfolding isSector
-sector-fits s h =
-    let t = both (leb (s .code) 3) (eqb (length (s .bytes)) (sectorSize (s .code))) h in
-    (leb-true _ _ (t .0), eqb-true _ _ (t .1))
 
 yes-or-no : (b : Bool) → not (eqb (asByte b) 0) ≡ b
 yes-or-no true = refl
 yes-or-no false = refl
 
 pub print-then-read : (ss : List Sector) → everywhere isSector ss ≡ true → setOf (setBytes ss) ≡ some ss
-unfolding setBytes sectorBytes sectorOf
+unfolding setBytes sectorBytes sectorOf isSector
 print-then-read [] e = set-of-none
 print-then-read (s ∷ ss) e =
-    let fits = sector-fits s (everywhere-passes-at-first isSector s ss e) in
+    let fits =
+    both (leb (s .code) 3) (eqb (length (s .bytes)) (sectorSize (s .code))) (everywhere-passes-at-first isSector s ss e) in
+    let size : length (s .bytes) ≡ sectorSize (s .code) = eqb-true _ _ (fits .1) in
     let rest = setBytes ss in
-    let room : sectorSize (s .code) ≤ length (s .bytes ++ rest) =
-    rw (length-append (s .bytes) rest) (omega (arith, fits .1)) in
-    set-of-sector (s .number) (s .code) (asByte (s .holds)) (s .bytes ++ rest)
-    ∙ rw (
-      le-ltb 3 (s .code) (fits .0),
+    let room : sectorSize (s .code) ≤ length (s .bytes ++ rest) = rw (length-append (s .bytes) rest) (omega arith) in
+    rw (
+      set-of-sector,
+      le-ltb 3 (s .code) (leb-true _ _ (fits .0)),
       le-ltb (length (s .bytes ++ rest)) (sectorSize (s .code)) room,
       yes-or-no (s .holds),
-      take-at (s .bytes) rest (sectorSize (s .code)) (fits .1),
-      drop-at (s .bytes) rest (sectorSize (s .code)) (fits .1),
+      take-at (s .bytes) rest (sectorSize (s .code)) size,
+      drop-at (s .bytes) rest (sectorSize (s .code)) size,
       print-then-read ss (everywhere-in-rest isSector s ss e),
     )
 
@@ -93,37 +85,33 @@ module _
     read-within (suc n) (a ∷ []) e = absurd (true≢false e)
     read-within (suc n) (a ∷ b ∷ []) e = absurd (true≢false e)
     read-within (suc n) (a ∷ b ∷ s ∷ rest) e =
-        by (ltb 3 b) (ltb (length rest) (sectorSize b)) refl refl (read-within n (drop (sectorSize b) rest)) e
+        by (ltb 3 b) (ltb (length rest) (sectorSize b)) (setWithin n (drop (sectorSize b) rest)) refl refl
+        (read-within n (drop (sectorSize b) rest)) e
       where
-        first
-            : (o : Option (List Sector))
-            → (isNone o ≡ false → P (orEmpty o) (drop (sectorSize b) rest))
-            → b ≤ 3
-            → sectorSize b ≤ length rest
-            → isNone (withFirst (sectorOf a b s rest) o) ≡ false
-            → P (orEmpty (withFirst (sectorOf a b s rest) o)) (a ∷ b ∷ s ∷ rest)
-        first none p h k e = absurd (true≢false e)
-        first (some ss) p h k e = at-sector a b s rest ss h k (p refl)
-
         by
-            : (t u : Bool)
+            : (t u : Bool) (o : Option (List Sector))
             → ltb 3 b ≡ t
             → ltb (length rest) (sectorSize b) ≡ u
-            → (isNone (setWithin n (drop (sectorSize b) rest)) ≡ false
-            → P (orEmpty (setWithin n (drop (sectorSize b) rest))) (drop (sectorSize b) rest))
-            → isNone (cond (t || u) none (withFirst (sectorOf a b s rest) (setWithin n (drop (sectorSize b) rest))))
-            ≡ false
-            → P
-            (orEmpty (cond (t || u) none (withFirst (sectorOf a b s rest) (setWithin n (drop (sectorSize b) rest)))))
-            (a ∷ b ∷ s ∷ rest)
-        by true u f g r h = absurd (true≢false h)
-        by false true f g r h = absurd (true≢false h)
-        by false false f g r h =
-            first (setWithin n (drop (sectorSize b) rest)) r (ltb-false _ _ f) (ltb-false _ _ g) h
+            → (isNone o ≡ false → P (orEmpty o) (drop (sectorSize b) rest))
+            → isNone (cond (t || u) none (withFirst (sectorOf a b s rest) o)) ≡ false
+            → P (orEmpty (cond (t || u) none (withFirst (sectorOf a b s rest) o))) (a ∷ b ∷ s ∷ rest)
+        by true u o f g r h = absurd (true≢false h)
+        by false true o f g r h = absurd (true≢false h)
+        by false false none f g r h = absurd (true≢false h)
+        by false false (some ss) f g r h = at-sector a b s rest ss (ltb-false _ _ f) (ltb-false _ _ g) (r refl)
 
     pub read-holds : (bs : List ℕ) (ss : List Sector) → setOf bs ≡ some ss → P ss bs
     unfolding setOf
     read-holds bs ss e = rw (ap orEmpty e) at (read-within (length bs) bs (ap isNone e))
+
+-- the sectors of a set that was read
+some-of-it : (o : Option (List Sector)) → isNone o ≡ false → o ≡ some (orEmpty o)
+some-of-it none e = absurd (true≢false e)
+some-of-it (some ss) e = refl
+
+pub fits-is-some : (bs : List ℕ) → isMisfitSet bs ≡ false → setOf bs ≡ some (sectorsIn bs)
+unfolding isMisfitSet sectorsIn
+fits-is-some bs e = some-of-it (setOf bs) e
 
 read-is-a-sector
     : (a b s : ℕ) (rest : List ℕ) → b ≤ 3 → sectorSize b ≤ length rest → isSector (sectorOf a b s rest) ≡ true

@@ -1,56 +1,28 @@
 -- Laws of the merge's answer and output: an earlier rule that refuses settles them, and one that accepts leaves them
 -- to the later; the steps in their order are the rule. Rests on no axiom.
-use Prim.Native.Nat.{ℕ, _≤_, _<_}
+use Prim.Native.Nat.{ℕ}
 use mathlib.Core.Path.{_≡_, refl, sym}
 use mathlib.Core.Bool.{Bool, true, false, _||_}
 use mathlib.Core.List.{List}
-use borrow.Author.Tests.{lt-ltb, le-ltb}
-use lib.Dec.{ltb}
 use lib.ListN.{length}
-use Rattle.lists.specs.Filled.{storedAt}
-use Rattle.lists.specs.Place.{anywhere, lowest}
-use Rattle.lists.proofs.StoreLaws.{stored-at-front-fills}
 use Rattle.refusal.specs.Table.{numberOf, placeOf}
-use Rattle.refusal.specs.Answer.{Answer, accepted, refused, refuseIf, firstRefusal, settled}
+use Rattle.refusal.specs.Answer.{Answer, accepted, refused, refuseIf, firstRefusal}
 use Rattle.refusal.specs.declared.Refusal.{Refusal}
-use Rattle.refusal.proofs.AnswerLaws.{number-is-not-zero, refusal-decides, acceptance-passes}
-use Rattle.merge.specs.Set.{Sector, setBytes, isMisfitSet, sectorsIn}
-use Rattle.merge.specs.Merge.{numbers, merged, howMany, inEither, atOddsAt, isCrowded}
-use Rattle.merge.specs.Rule.{roomRule, mergeRule, MergeAnswer, storing, mergeAnswer, mergeOutput}
-use Rattle.merge.specs.Index.{setsRule, numbersRule, checkedRule}
+use Rattle.refusal.proofs.AnswerLaws.{number-is-not-zero, refusal-decides}
+use Rattle.merge.specs.Set.{sectorsIn, isMisfitSet}
+use Rattle.merge.specs.Merge.{isCrowded, atOddsAt, howMany, inEither, numbers}
+use Rattle.merge.specs.Rule.{mergeRule, MergeAnswer, mergeAnswer, mergeOutput}
+use Rattle.merge.specs.Index.{setsRule, numbersRule, checkedRule, Settles}
+use Rattle.lists.specs.Place.{anywhere}
+use lib.Dec.{ltb}
 
-module _ (first second : List Sector) where
-  -- the answer and the output of a rule that settles them
-  abbrev pub Settles : Answer → MergeAnswer → List ℕ → List ℕ → Type 0
-  Settles rule answer new old =
-      (answer ≡ storing rule (length (setBytes (merged first second))))
-      × (new ≡ settled rule (setBytes (merged first second)) old)
-
-  pub no-room-is-refused
-      : (old : List ℕ)
-      → length old < length (setBytes (merged first second))
-      → Settles (roomRule first second (length old)) (record { answer = refused 9 0; stored = 0 }) old old
-  unfolding roomRule
-  no-room-is-refused old h = rw (lt-ltb (length old) _ h) (refl, refl)
-
-  pub room-is-filled
-      : (old : List ℕ)
-      → length (setBytes (merged first second)) ≤ length old
-      → Settles
-      (roomRule first second (length old))
-      (record { answer = accepted (length (merged first second)); stored = length (setBytes (merged first second)) })
-      (storedAt old 0 (setBytes (merged first second))) old
-  unfolding roomRule
-  room-is-filled old h =
-      rw (le-ltb (length old) (length (setBytes (merged first second))) h)
-      (refl, stored-at-front-fills (setBytes (merged first second)) old h)
-
+module _ (first second : List ℕ) where
   -- ---- an earlier rule, then a later one
 
   pub refusal-settles
       : (r : Refusal) (earlier later : Answer) (old : List ℕ)
       → refused (numberOf r) (placeOf r) ≡ earlier
-      → Settles
+      → Settles first second
       (firstRefusal earlier later) (record { answer = refused (numberOf r) (placeOf r); stored = 0 }) old old
   refusal-settles r earlier later old e =
       rw (sym (refusal-decides r earlier later e), number-is-not-zero r) (refl, refl)
@@ -58,9 +30,9 @@ module _ (first second : List Sector) where
   pub acceptance-leaves
       : (n : ℕ) (earlier later : Answer) (answer : MergeAnswer) (new old : List ℕ)
       → accepted n ≡ earlier
-      → Settles later answer new old
-      → Settles (firstRefusal earlier later) answer new old
-  acceptance-leaves n earlier later answer new old e s = rw (sym (acceptance-passes n earlier later e)) s
+      → Settles first second later answer new old
+      → Settles first second (firstRefusal earlier later) answer new old
+  acceptance-leaves n earlier later answer new old e s = rw (← e) s
 
 -- ---- the whole
 
@@ -85,15 +57,11 @@ merge-rule-in-steps first second room =
     steps-are-the-rule (isMisfitSet first || isMisfitSet second)
     (ltb 32 (length (sectorsIn first)) || ltb 32 (length (sectorsIn second)))
     (ltb 32 (howMany (inEither (sectorsIn first) (sectorsIn second)) numbers))
-    (anywhere (atOddsAt (sectorsIn first) (sectorsIn second)) numbers)
-    (lowest (atOddsAt (sectorsIn first) (sectorsIn second)) numbers)
-    (howMany (inEither (sectorsIn first) (sectorsIn second)) numbers)
-    (roomRule (sectorsIn first) (sectorsIn second) room)
+    (anywhere (atOddsAt (sectorsIn first) (sectorsIn second)) numbers) _ _ _
 
 pub merge-settles
     : (first second : List ℕ) (answer : MergeAnswer) (new old : List ℕ)
-    → Settles
-    (sectorsIn first) (sectorsIn second)
+    → Settles first second
     (firstRefusal (setsRule first second) (checkedRule (sectorsIn first) (sectorsIn second) (length old))) answer new
     old
     → (answer ≡ mergeAnswer first second (length old)) × (new ≡ mergeOutput first second old)

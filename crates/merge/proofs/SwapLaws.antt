@@ -2,36 +2,26 @@
 -- either way round, and two copies that are not at odds with both sums good are one. Rests on no axiom.
 use Prim.Native.Nat.{ℕ}
 use mathlib.Core.Path.{_≡_, refl, sym, ap, ap₂, _∙_}
-use mathlib.Core.Bool.{Bool, true, false, cond, not, _&&_, _||_, true≢false, false≢true}
+use mathlib.Core.Bool.{Bool, true, false, cond, not, _&&_, true≢false, false≢true, and-comm}
 use mathlib.Core.List.{List, [], _∷_}
-use borrow.Author.Tests.{eqb-true, eqb-false, eq-eqb, ne-eqb, not-false}
+use borrow.Author.Tests.{eqb-true, eqb-false, ne-eqb, not-false}
 use lib.Dec.{eqb}
 use Rattle.merge.specs.Set.{Sector}
 use Rattle.merge.specs.Merge.{Held, Nothing, One, Twice, better, taken}
 use Rattle.merge.specs.Merge.{sameBytes, disagree, atOdds}
 use Rattle.merge.specs.Claims.{bothFail}
-use Rattle.merge.proofs.ChoiceLaws.{copies-at-odds-disagree}
+use Rattle.lists.proofs.BoolLaws.{both}
 use Rattle.merge.proofs.HeldLaws.{hasNumber}
+use Rattle.merge.proofs.ChoiceLaws.{odds-with-nothing, twice-second-is-at-odds}
+use Rattle.merge.proofs.OnceLaws.{with-nothing}
 
 -- ---- tests that are the same either way round
-
-pub or-swaps : (t u : Bool) → (t || u) ≡ (u || t)
-or-swaps true true = refl
-or-swaps true false = refl
-or-swaps false true = refl
-or-swaps false false = refl
-
-and-swaps : (t u : Bool) → (t && u) ≡ (u && t)
-and-swaps true true = refl
-and-swaps true false = refl
-and-swaps false true = refl
-and-swaps false false = refl
 
 equality-swaps : (m n : ℕ) → eqb m n ≡ eqb n m
 equality-swaps m n = by (eqb m n) refl
   where
     by : (t : Bool) → eqb m n ≡ t → eqb m n ≡ eqb n m
-    by true e = e ∙ sym (eq-eqb n m (sym (eqb-true m n e)))
+    by true e = rw (eqb-true m n e)
     by false e = e ∙ sym (ne-eqb n m (λ q. eqb-false m n e (sym q)))
 
 same-swaps : (xs ys : List ℕ) → sameBytes xs ys ≡ sameBytes ys xs
@@ -44,20 +34,16 @@ same-swaps (x ∷ xs) (y ∷ ys) = ap₂ _&&_ (equality-swaps x y) (same-swaps x
 disagreement-swaps : (a b : Sector) → disagree a b ≡ disagree b a
 unfolding disagree
 disagreement-swaps a b =
-    ap₂ _&&_ (and-swaps (a .holds) (b .holds))
+    ap₂ _&&_ (and-comm (a .holds) (b .holds))
     (ap not (ap₂ _&&_ (equality-swaps (a .code) (b .code)) (same-swaps (a .bytes) (b .bytes))))
 
 pub odds-swap : (x y : Held) → atOdds x y ≡ atOdds y x
 unfolding atOdds
-odds-swap Nothing Nothing = refl
-odds-swap Nothing (One b) = refl
-odds-swap Nothing Twice = refl
+odds-swap Nothing y = sym (odds-with-nothing y)
 odds-swap (One a) Nothing = refl
 odds-swap (One a) (One b) = disagreement-swaps a b
 odds-swap (One a) Twice = refl
-odds-swap Twice Nothing = refl
-odds-swap Twice (One b) = refl
-odds-swap Twice Twice = refl
+odds-swap Twice y = sym (twice-second-is-at-odds y)
 
 -- ---- two good copies that agree are one
 
@@ -66,16 +52,8 @@ unfolding sameBytes
 same-is-equal [] [] e = refl
 same-is-equal [] (y ∷ ys) e = absurd (false≢true e)
 same-is-equal (x ∷ xs) [] e = absurd (false≢true e)
-same-is-equal (x ∷ xs) (y ∷ ys) e = by (eqb x y) refl e (same-is-equal xs ys)
-  where
-    by
-        : (t : Bool)
-        → eqb x y ≡ t
-        → (t && sameBytes xs ys) ≡ true
-        → (sameBytes xs ys ≡ true → xs ≡ ys)
-        → _≡_ {A = List ℕ} (x ∷ xs) (y ∷ ys)
-    by true f h r = ap₂ _∷_ (eqb-true x y f) (r h)
-    by false f h r = absurd (false≢true h)
+same-is-equal (x ∷ xs) (y ∷ ys) e =
+    let like = both (eqb x y) (sameBytes xs ys) e in ap₂ _∷_ (eqb-true x y (like .0)) (same-is-equal xs ys (like .1))
 
 abbrev sectorWith : ℕ → ℕ → Bool → List ℕ → Sector
 sectorWith n c h bs = record { number = n; code = c; holds = h; bytes = bs }
@@ -90,18 +68,11 @@ good-copies-are-one
     → a ≡ b
 unfolding disagree
 good-copies-are-one n a b an bn ah bh e =
-    let like : (eqb (a .code) (b .code) && sameBytes (a .bytes) (b .bytes)) ≡ true =
-    not-false _ (sym (rw (ah, bh)) ∙ e) in
-    by (eqb (a .code) (b .code)) refl like
-  where
-    number : a .number ≡ b .number
-    number = eqb-true (a .number) n an ∙ sym (eqb-true (b .number) n bn)
-
-    by : (t : Bool) → eqb (a .code) (b .code) ≡ t → (t && sameBytes (a .bytes) (b .bytes)) ≡ true → a ≡ b
-    by true f h =
-        ap₂ (λ (k c : ℕ). sectorWith k c (a .holds) (a .bytes)) number (eqb-true (a .code) (b .code) f)
-        ∙ ap₂ (sectorWith (b .number) (b .code)) (ah ∙ sym bh) (same-is-equal (a .bytes) (b .bytes) h)
-    by false f h = absurd (false≢true h)
+    let like =
+    both (eqb (a .code) (b .code)) (sameBytes (a .bytes) (b .bytes)) (not-false _ (rw (ah, bh) at e)) in
+    ap₂ (λ (k c : ℕ). sectorWith k c (a .holds) (a .bytes)) (eqb-true _ n an ∙ sym (eqb-true _ n bn))
+    (eqb-true _ _ (like .0))
+    ∙ ap₂ (sectorWith (b .number) (b .code)) (ah ∙ sym bh) (same-is-equal (a .bytes) (b .bytes) (like .1))
 
 -- ---- what is taken
 
@@ -133,14 +104,9 @@ pub taken-swaps
     → atOdds x y ≡ false
     → bothFail x y ≡ false
     → taken x y ≡ taken y x
-unfolding taken bothFail
-taken-swaps n Nothing Nothing e f g h = refl
-taken-swaps n Nothing (One b) e f g h = refl
-taken-swaps n Nothing Twice e f g h = refl
+unfolding taken bothFail atOdds
+taken-swaps n Nothing y e f g h = sym (with-nothing y .1)
 taken-swaps n (One a) Nothing e f g h = refl
-taken-swaps n (One a) (One b) e f g h =
-    ap One (better-swaps n a b e f (sym (copies-at-odds-disagree a b) ∙ g) h)
+taken-swaps n (One a) (One b) e f g h = ap One (better-swaps n a b e f g h)
 taken-swaps n (One a) Twice e f g h = refl
-taken-swaps n Twice Nothing e f g h = refl
-taken-swaps n Twice (One b) e f g h = refl
-taken-swaps n Twice Twice e f g h = refl
+taken-swaps n Twice y e f g h = absurd (true≢false g)

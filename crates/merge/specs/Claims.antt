@@ -11,7 +11,7 @@ use Rattle.refusal.specs.Answer.{accepted}
 use Rattle.sectors.specs.Sector.{sectorSize}
 use Rattle.merge.specs.Set.{Sector, setBytes, setOf, sectorsIn}
 use Rattle.merge.specs.Merge.{Held, Nothing, One, Twice, numbers, heldOf, taken, merged, inEither}
-use Rattle.merge.specs.Rule.{mergeRule, mergeAnswer, mergeOutput}
+use Rattle.merge.specs.Rule.{mergeRule, result, mergeAnswer, mergeOutput}
 
 -- ---- sets as bytes
 
@@ -39,10 +39,6 @@ pub record SetsAsBytes : Type 0 where
 unfoldable pub those : (ℕ → Bool) → List ℕ → List ℕ
 those f [] = []
 those f (n ∷ ns) = cond (f n) (n ∷ those f ns) (those f ns)
-
--- the bytes of the merged set
-abbrev pub result : List ℕ → List ℕ → List ℕ
-result first second = setBytes (merged (sectorsIn first) (sectorsIn second))
 
 -- the merge takes the two sets wherever the output has room
 abbrev pub Takes : List ℕ → List ℕ → Type 0

@@ -7,11 +7,11 @@ use mathlib.Core.List.{List}
 use mathlib.Core.Option.{Option, none, some}
 use lib.Dec.{eqb, ltb}
 use lib.ListN.{length, drop, getD}
-use Rattle.refusal.specs.Answer.{Answer, accepted, refused, refuseIf, firstRefusal}
+use Rattle.refusal.specs.Answer.{Answer, accepted, refused, refuseIf, firstRefusal, settled}
 use Rattle.sectors.specs.Sector.{sectorSize}
 use Rattle.lists.specs.Place.{anywhere, lowest}
 use Rattle.merge.specs.Set.{Sector, sectorOf, isMisfitSet, sectorsIn}
-use Rattle.merge.specs.Rule.{roomRule}
+use Rattle.merge.specs.Rule.{roomRule, MergeAnswer, storing, result}
 use Rattle.merge.specs.Merge.{numbers, Held, Nothing, One, Twice, heldOf, inEither, howMany, atOddsAt}
 
 -- the sector whose length code stands at a place
@@ -83,3 +83,8 @@ numbersRule first second =
 -- then 9; else the number of sectors
 unfoldable pub checkedRule : List Sector → List Sector → ℕ → Answer
 checkedRule first second room = firstRefusal (numbersRule first second) (roomRule first second room)
+
+-- the answer and the output that a rule settles
+abbrev pub Settles : List ℕ → List ℕ → Answer → MergeAnswer → List ℕ → List ℕ → Type 0
+Settles first second rule answer new old =
+    (answer ≡ storing rule (length (result first second))) × (new ≡ settled rule (result first second) old)

@@ -43,11 +43,13 @@ mergedAnswer (Refused r) = record { answer = refused (numberOf r) (placeOf r); s
 abbrev pub storing : Answer → ℕ → MergeAnswer
 storing a bytes = record { answer = a; stored = cond (eqb (a .number) 0) bytes 0 }
 
+-- the bytes of the merged set
+abbrev pub result : List ℕ → List ℕ → List ℕ
+result first second = setBytes (merged (sectorsIn first) (sectorsIn second))
+
 unfoldable pub mergeAnswer : List ℕ → List ℕ → ℕ → MergeAnswer
-mergeAnswer first second room =
-    storing (mergeRule first second room) (length (setBytes (merged (sectorsIn first) (sectorsIn second))))
+mergeAnswer first second room = storing (mergeRule first second room) (length (result first second))
 
 -- what the output holds afterwards
 unfoldable pub mergeOutput : List ℕ → List ℕ → List ℕ → List ℕ
-mergeOutput first second old =
-    settled (mergeRule first second (length old)) (setBytes (merged (sectorsIn first) (sectorsIn second))) old
+mergeOutput first second old = settled (mergeRule first second (length old)) (result first second) old

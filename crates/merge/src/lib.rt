@@ -3,11 +3,10 @@ ghost use mathlib.Core.Path.{_≡_};
 ghost use mathlib.Core.Bool.{_||_};
 ghost use lib.Dec.{ltb};
 ghost use lib.ListN.{length};
-ghost use Rattle.refusal.specs.Answer.{accepted, refuseIf, settled, verdictAnswer, countedAnswer};
-ghost use Rattle.merge.specs.Set.{setBytes, sectorsIn};
-ghost use Rattle.merge.specs.Merge.{merged};
-ghost use Rattle.merge.specs.Rule.{roomRule, mergedAnswer, storing, mergeAnswer, mergeOutput};
-ghost use Rattle.merge.specs.Index.{Indexed, setsRule, numbersRule, checkedRule};
+ghost use Rattle.refusal.specs.Answer.{accepted, refuseIf, verdictAnswer, countedAnswer};
+ghost use Rattle.merge.specs.Set.{sectorsIn};
+ghost use Rattle.merge.specs.Rule.{roomRule, mergedAnswer, mergeAnswer, mergeOutput};
+ghost use Rattle.merge.specs.Index.{Indexed, setsRule, numbersRule, checkedRule, Settles};
 use ascending::merged_size;
 use ascending::write_merged;
 use choice::lowest_at_odds;
@@ -84,17 +83,10 @@ fn deliver(
         Indexed (now first) (now a)
         × Indexed (now second) (now b)
         × (accepted count ≡ numbersRule (sectorsIn (now first)) (sectorsIn (now second))) ⌝ }
-    ensures answer { λ r. ⌜
-        mergedAnswer r
-        ≡ storing
+    ensures { λ r. ⌜
+        Settles (now (first .entry)) (now (second .entry))
         (roomRule (sectorsIn (now (first .entry))) (sectorsIn (now (second .entry))) (length (now (out .entry))))
-        (length (setBytes (merged (sectorsIn (now (first .entry))) (sectorsIn (now (second .entry)))))) ⌝ }
-    ensures output { λ _. ⌜
-        now (out .exit)
-        ≡ settled
-        (roomRule (sectorsIn (now (first .entry))) (sectorsIn (now (second .entry))) (length (now (out .entry))))
-        (setBytes (merged (sectorsIn (now (first .entry))) (sectorsIn (now (second .entry)))))
-        (now (out .entry)) ⌝ }
+        (mergedAnswer r) (now (out .exit)) (now (out .entry)) ⌝ }
 {
     let bytes = merged_size(first, a, second, b);
     if out.len() < bytes {
@@ -107,17 +99,10 @@ fn deliver(
 // Two sets of at most 32 sectors each.
 fn merge_checked(first: &[u8], second: &[u8], out: &mut [u8]) -> Merged
     requires { ⌜ accepted 0 ≡ setsRule (now first) (now second) ⌝ }
-    ensures answer { λ r. ⌜
-        mergedAnswer r
-        ≡ storing
+    ensures { λ r. ⌜
+        Settles (now (first .entry)) (now (second .entry))
         (checkedRule (sectorsIn (now (first .entry))) (sectorsIn (now (second .entry))) (length (now (out .entry))))
-        (length (setBytes (merged (sectorsIn (now (first .entry))) (sectorsIn (now (second .entry)))))) ⌝ }
-    ensures output { λ _. ⌜
-        now (out .exit)
-        ≡ settled
-        (checkedRule (sectorsIn (now (first .entry))) (sectorsIn (now (second .entry))) (length (now (out .entry))))
-        (setBytes (merged (sectorsIn (now (first .entry))) (sectorsIn (now (second .entry)))))
-        (now (out .entry)) ⌝ }
+        (mergedAnswer r) (now (out .exit)) (now (out .entry)) ⌝ }
 {
     let mut a = [0u16; 256];
     let mut b = [0u16; 256];

@@ -2,7 +2,7 @@
 -- is. Rests on no axiom.
 use Prim.Native.Nat.{ℕ, suc}
 use mathlib.Core.Path.{_≡_, refl, sym, ap, _∙_}
-use mathlib.Core.Bool.{Bool, true, false, cond, false≢true}
+use mathlib.Core.Bool.{Bool, true, false, cond}
 use mathlib.Core.List.{List}
 use native.Mathlib.Omega.{arith}
 use lib.Dec.{eqb}
@@ -21,67 +21,72 @@ use Rattle.refusal.specs.declared.Verdict.{Verdict}
 use Rattle.refusal.specs.declared.Verdict.the-variants.{Accepted, Refused}
 
 pub number-is-not-zero : (r : Refusal) → eqb (numberOf r) 0 ≡ false
-number-is-not-zero (ProfileOutOfRange which) = refl
-number-is-not-zero ProfileInconsistent = refl
-number-is-not-zero (NotAnItem at) = refl
-number-is-not-zero TooLong = refl
-number-is-not-zero (IntervalTooShort at) = refl
-number-is-not-zero (IntervalTooLong at) = refl
-number-is-not-zero NotWholeBytes = refl
-number-is-not-zero (MisplacedMark at) = refl
-number-is-not-zero OutputTooShort = refl
-number-is-not-zero NoLock = refl
-number-is-not-zero EndsEarly = refl
-number-is-not-zero CountOutOfRange = refl
-number-is-not-zero SectorSizeMismatch = refl
-number-is-not-zero (MalformedInput line) = refl
-number-is-not-zero TooManySectors = refl
-number-is-not-zero (UnrulyWord at) = refl
-number-is-not-zero (SectorsAtOdds sector) = refl
+number-is-not-zero r =
+    elim r as (λ s. eqb (numberOf s) 0 ≡ false) [
+      | ProfileOutOfRange which ↦ refl
+      | ProfileInconsistent ↦ refl
+      | NotAnItem at ↦ refl
+      | TooLong ↦ refl
+      | IntervalTooShort at ↦ refl
+      | IntervalTooLong at ↦ refl
+      | NotWholeBytes ↦ refl
+      | MisplacedMark at ↦ refl
+      | OutputTooShort ↦ refl
+      | NoLock ↦ refl
+      | EndsEarly ↦ refl
+      | CountOutOfRange ↦ refl
+      | SectorSizeMismatch ↦ refl
+      | MalformedInput line ↦ refl
+      | TooManySectors ↦ refl
+      | UnrulyWord at ↦ refl
+      | SectorsAtOdds sector ↦ refl
+    ]
 
--- a rule that was found to refuse decides; the later tests are not asked
-pub refusal-decides
-    : (r : Refusal) (rule later : Answer)
-    → refused (numberOf r) (placeOf r) ≡ rule
-    → refused (numberOf r) (placeOf r) ≡ firstRefusal rule later
-refusal-decides r rule later e = rw (sym e, number-is-not-zero r)
+module _ (r : Refusal) (rule : Answer) where
+  abbrev told : Answer
+  told = refused (numberOf r) (placeOf r)
 
--- a rule that was found to accept leaves the answer to the later tests
-pub acceptance-passes : (n : ℕ) (rule later : Answer) → accepted n ≡ rule → later ≡ firstRefusal rule later
-acceptance-passes n rule later e = rw (sym e)
+  -- a rule that was found to refuse decides; the later tests are not asked
+  pub refusal-decides : (later : Answer) → told ≡ rule → told ≡ firstRefusal rule later
+  refusal-decides later e = rw (sym e, number-is-not-zero r)
 
--- the same for a verdict and for a count, as the functions answer them
+  -- a buffer after a refusal is as it was lent
+  pub refusal-keeps-the-buffer : (result old : List ℕ) → told ≡ rule → old ≡ settled rule result old
+  refusal-keeps-the-buffer result old e = rw (sym e, number-is-not-zero r)
+
+  -- a refusal that came before an acceptance is the earlier answer
+  pub refused-earlier : (n : ℕ) → told ≡ firstRefusal rule (accepted n) → told ≡ rule
+  refused-earlier n e = by-test (eqb (rule .number) 0) e
+    where
+      by-test : (t : Bool) → told ≡ cond t (accepted n) rule → told ≡ rule
+      by-test true q = absurd (eqb-false _ _ (number-is-not-zero r) (ap (λ (a : Answer). a .number) q))
+      by-test false q = q
+
+-- a verdict that was found, as the functions answer it: a refusal decides, an acceptance leaves the answer to the later
+-- tests
 pub verdict-refuses
     : (v : Verdict) (r : Refusal) (rule later : Answer)
     → verdictAnswer v ≡ rule
     → v ≡ Refused r
     → refused (numberOf r) (placeOf r) ≡ firstRefusal rule later
-verdict-refuses v r rule later e q = refusal-decides r rule later (sym (ap verdictAnswer q) ∙ e)
+verdict-refuses v r rule later e q = rw (← e, q, number-is-not-zero r)
 
 pub verdict-passes
     : (v : Verdict) (rule later : Answer) → verdictAnswer v ≡ rule → v ≡ Accepted → later ≡ firstRefusal rule later
-verdict-passes v rule later e q = acceptance-passes 0 rule later (sym (ap verdictAnswer q) ∙ e)
+verdict-passes v rule later e q = rw (← e, q)
 
 pub verdict-accepts : (v : Verdict) (rule : Answer) → verdictAnswer v ≡ rule → v ≡ Accepted → rule .number ≡ 0
-verdict-accepts v rule e q = sym (ap (λ (a : Answer). a .number) (sym (ap verdictAnswer q) ∙ e))
-
--- a buffer after a refusal is as it was lent
-pub refusal-keeps-the-buffer
-    : (r : Refusal) (rule : Answer) (result old : List ℕ)
-    → refused (numberOf r) (placeOf r) ≡ rule
-    → old ≡ settled rule result old
-refusal-keeps-the-buffer r rule result old e = rw (sym e, number-is-not-zero r)
+verdict-accepts v rule e q = rw (← e, q)
 
 -- ---- what acceptance says of the tests on the way
 
-both-accept
-    : (t : Bool) (a b : Answer) → eqb (a .number) 0 ≡ t → (cond t b a) .number ≡ 0 → (a .number ≡ 0) × (b .number ≡ 0)
-both-accept true a b e h = (eqb-true _ _ e, h)
-both-accept false a b e h = absurd (eqb-false _ _ e h)
-
 -- where an answer in its turn and the later tests accept together, each does
 pub first-refusal-accepts : (a b : Answer) → firstRefusal a b .number ≡ 0 → (a .number ≡ 0) × (b .number ≡ 0)
-first-refusal-accepts a b h = both-accept (eqb (a .number) 0) a b refl h
+first-refusal-accepts a b h = by-test (eqb (a .number) 0) refl h
+  where
+    by-test : (t : Bool) → eqb (a .number) 0 ≡ t → cond t b a .number ≡ 0 → (a .number ≡ 0) × (b .number ≡ 0)
+    by-test true e k = (eqb-true _ _ e, k)
+    by-test false e k = absurd (eqb-false _ _ e k)
 
 -- an answer that accepts is passed over
 pub first-refusal-passes : (a b : Answer) → a .number ≡ 0 → firstRefusal a b ≡ b
@@ -103,23 +108,10 @@ pub acceptance-fills-the-buffer
     : (rule : Answer) (result old : List ℕ) → rule .number ≡ 0 → settled rule result old ≡ filled result old
 acceptance-fills-the-buffer rule result old h = rw (eq-eqb _ 0 h)
 
--- a refusal that came before an acceptance is the earlier answer
-pub refused-earlier : (r : Refusal) (rule : Answer) (n : ℕ)
-    → refused (numberOf r) (placeOf r) ≡ firstRefusal rule (accepted n)
-    → refused (numberOf r) (placeOf r) ≡ rule
-refused-earlier r rule n e = by-test (eqb (rule .number) 0) e
-  where
-    by-test : (t : Bool)
-        → refused (numberOf r) (placeOf r) ≡ cond t (accepted n) rule
-        → refused (numberOf r) (placeOf r) ≡ rule
-    by-test true q =
-        absurd (false≢true (sym (number-is-not-zero r) ∙ eq-eqb (numberOf r) 0 (ap (λ (a : Answer). a .number) q)))
-    by-test false q = q
-
 -- an acceptance after an earlier answer
 pub accepted-later : (rule : Answer) (m n : ℕ)
     → accepted m ≡ firstRefusal rule (accepted n)
     → (rule .number ≡ 0) × (m ≡ n)
 accepted-later rule m n e =
-    let both = first-refusal-accepts rule (accepted n) (sym (ap (λ (a : Answer). a .number) e)) in
+    let both = first-refusal-accepts rule (accepted n) (rw (← e)) in
     (both .0, ap (λ (a : Answer). a .count) (e ∙ first-refusal-passes rule (accepted n) (both .0)))

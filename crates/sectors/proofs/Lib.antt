@@ -1,2 +1,1 @@
-pub mod SectorLaws
 pub mod SectorCounts

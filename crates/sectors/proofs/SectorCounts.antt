@@ -6,31 +6,32 @@ use mathlib.Core.List.{List, [], _∷_, _++_}
 use native.Mathlib.Omega.{arith}
 use borrow.Author.Tests.{eqb-true, not-false}
 use lib.Dec.{eqb, ltb}
-use lib.ListN.{length}
+use lib.ListN.{length, length-append}
 use Rattle.lists.specs.Place.{everywhere}
 use Rattle.lists.proofs.PlaceLaws.{everywhere-passes-at-first, everywhere-in-rest}
 use Rattle.items.specs.Item.{isByte, isCheck, bytesOf, writtenBytes}
 use Rattle.items.proofs.ItemLaws.{byte-is-no-check, bytes-of-others-is-1}
 use Rattle.sectors.specs.Sector.{sectorSize, opening, identity, sectorItems, isMisfit}
-use Rattle.sectors.proofs.SectorLaws.{sector-length}
 
 written-bytes-of-append : (ms ns : List ℕ) → writtenBytes (ms ++ ns) ≡ writtenBytes ms + writtenBytes ns
 unfolding writtenBytes
 written-bytes-of-append [] ns = omega arith
 written-bytes-of-append (m ∷ ms) ns = rw (written-bytes-of-append ms ns) (omega arith)
 
-byte-counts-one : (n : ℕ) → isByte n ≡ true → bytesOf n ≡ 1
-byte-counts-one n e = bytes-of-others-is-1 n (byte-is-no-check n e)
-
 bytes-count-one-each : (ns : List ℕ) → everywhere isByte ns ≡ true → writtenBytes ns ≡ length ns
 unfolding writtenBytes
 bytes-count-one-each [] e = refl
 bytes-count-one-each (n ∷ ns) e =
-    ap₂ _+_ (byte-counts-one n (everywhere-passes-at-first isByte n ns e))
+    ap₂ _+_ (bytes-of-others-is-1 n (byte-is-no-check n (everywhere-passes-at-first isByte n ns e)))
     (bytes-count-one-each ns (everywhere-in-rest isByte n ns e))
     ∙ omega arith
 
 module _ (track side sector code : ℕ) (bytes : List ℕ) where
+  -- 114 items beside the data
+  pub sector-length : length (sectorItems track side sector code bytes) ≡ length bytes + 114
+  unfolding sectorItems opening identity
+  sector-length = simp length-append (omega arith)
+
   -- every number that the caller gives is a byte
   abbrev pub AllBytes : Type 0
   AllBytes = everywhere isByte (track ∷ side ∷ sector ∷ code ∷ bytes) ≡ true
@@ -38,18 +39,8 @@ module _ (track side sector code : ℕ) (bytes : List ℕ) where
   pub sector-written-bytes : AllBytes → writtenBytes (sectorItems track side sector code bytes) ≡ length bytes + 116
   unfolding sectorItems opening identity writtenBytes bytesOf isCheck
   sector-written-bytes e =
-      let after-track = everywhere-in-rest isByte track (side ∷ sector ∷ code ∷ bytes) e in
-      let after-side = everywhere-in-rest isByte side (sector ∷ code ∷ bytes) after-track in
-      let after-sector = everywhere-in-rest isByte sector (code ∷ bytes) after-side in
-      rw (
-        written-bytes-of-append _ _,
-        written-bytes-of-append bytes (512 ∷ []),
-        byte-counts-one track (everywhere-passes-at-first isByte track (side ∷ sector ∷ code ∷ bytes) e),
-        byte-counts-one side (everywhere-passes-at-first isByte side (sector ∷ code ∷ bytes) after-track),
-        byte-counts-one sector (everywhere-passes-at-first isByte sector (code ∷ bytes) after-side),
-        byte-counts-one code (everywhere-passes-at-first isByte code bytes after-sector),
-        bytes-count-one-each bytes (everywhere-in-rest isByte code bytes after-sector),
-      ) (omega arith)
+      let given = bytes-count-one-each (track ∷ side ∷ sector ∷ code ∷ bytes) e in
+      rw (written-bytes-of-append _ _, written-bytes-of-append bytes (512 ∷ [])) (omega (arith, given))
 
 fits-size : (above : Bool) (n m : ℕ) → (above || not (eqb n m)) ≡ false → n ≡ m
 fits-size true n m e = absurd (true≢false e)

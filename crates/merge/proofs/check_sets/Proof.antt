@@ -1,32 +1,39 @@
 -- Why `merge::check_sets` answers `setsRule`: a set that cannot be counted is a misfit, and else the counts decide.
 -- Rests on no axiom.
-use mathlib.Core.Path.{sym, ap, _∙_}
-use Rattle.refusal.specs.Answer.{countedAnswer}
-use Rattle.merge.proofs.RuleLaws.{misfit-first, misfit-second, counts-decide}
+use mathlib.Core.Path.{ap, _∙_, ap₂}
+use Rattle.refusal.specs.Answer.{Answer}
+use Rattle.refusal.proofs.AnswerLaws.{refusal-decides}
+use Rattle.merge.proofs.RuleLaws.{countsRule, counts-are-the-rule}
+use Rattle.merge.specs.Index.{countRule}
+use Rattle.merge.specs.Set.{setOf}
 use borrow.Author.Needs.{needs}
 use Rattle.merge.proofs.check_sets.Statement.{statement}
 use Rattle.merge.proofs.check_sets.Tie as tie
 
 returns : tie.Need-returns
 returns c =
-    misfit-first _ _ (c .before .refusal .given .0 .0)
-    (sym (ap countedAnswer (c .before .refusal .given .1)) ∙ c .before .before .before .count-sectors .ensures)
+    refusal-decides (c .before .refusal .given .0 .0) _ _
+    (rw (c .before .refusal .given .1) at (c .before .before .before .count-sectors .ensures))
+    ∙ counts-are-the-rule _ _
 
 returns-2 : tie.Need-returns-2
 returns-2 c =
     let first = c .before .before .before .before .before in
-    misfit-second _ _ (c .before .refusal2 .given .0 .0) (first .a .given .0 .0)
-    (sym (ap countedAnswer (first .a .given .1)) ∙ first .before .before .count-sectors .ensures)
-    (sym (ap countedAnswer (c .before .refusal2 .given .1)) ∙ c .before .before .before .count-sectors2 .ensures)
+    let second = first .before .before .before .before .before .args .second .now in
+    refusal-decides (c .before .refusal2 .given .0 .0) _ _
+    (rw (c .before .refusal2 .given .1) at (c .before .before .before .count-sectors2 .ensures))
+    ∙ ap (λ (a : Answer). countsRule a (countRule 0 (setOf second)))
+    (rw (first .a .given .1) at (first .before .before .count-sectors .ensures))
+    ∙ counts-are-the-rule _ _
 
 returns-3 : tie.Need-returns-3
 returns-3 c =
     let second = c .before .before in
     let first = second .before .before .before .before in
     c .check-counts .ensures
-    ∙ counts-decide _ _ (first .a .given .0 .0) (second .b .given .0 .0)
-    (sym (ap countedAnswer (first .a .given .1)) ∙ first .before .before .count-sectors .ensures)
-    (sym (ap countedAnswer (second .b .given .1)) ∙ second .before .before .count-sectors2 .ensures)
+    ∙ ap₂ countsRule (rw (first .a .given .1) at (first .before .before .count-sectors .ensures))
+    (rw (second .b .given .1) at (second .before .before .count-sectors2 .ensures))
+    ∙ counts-are-the-rule _ _
 
 pub check-sets-spec : {M : Type 1} → statement M
 check-sets-spec =

@@ -1,23 +1,26 @@
 -- Why `merge::merge_checked` answers `checkedRule`: with both indexes made, the numbers decide, and then the room.
 -- Rests on no axiom.
-use mathlib.Core.Path.{refl, sym, ap, _∙_}
-use Rattle.refusal.specs.Answer.{countedAnswer}
+use mathlib.Core.Path.{refl, sym, ap}
+use Rattle.refusal.specs.Answer.{Answer}
 use Rattle.merge.specs.Index.{checkedRule}
-use Rattle.merge.proofs.RuleLaws.{accepted-sets-are-short}
 use Rattle.merge.proofs.SettleLaws.{refusal-settles, acceptance-leaves}
+use Rattle.merge.proofs.CountLaws.{set-is-short}
+use Rattle.merge.proofs.RuleLaws.{accepted-sets-fit}
 use borrow.Author.Needs.{needs}
 use Rattle.merge.proofs.merge_checked.Statement.{statement}
 use Rattle.merge.proofs.merge_checked.Tie as tie
 
 index-set-requires : tie.Need-index-set-requires
 index-set-requires c κs =
-    let short = accepted-sets-are-short _ _ (c .before .before .before .before .pre) in
-    (short .first-fits, short .first-short, refl)
+    let rule = sym (ap (λ (a : Answer). a .number) (c .before .before .before .before .pre)) in
+    let fits = accepted-sets-fit _ _ rule .0 in
+    (fits .whole, set-is-short _ (fits .whole) (fits .few), refl)
 
 index-set-requires-2 : tie.Need-index-set-requires-2
 index-set-requires-2 c κs =
-    let short = accepted-sets-are-short _ _ (c .before .before .before .before .before .before .pre) in
-    (short .second-fits, short .second-short, refl)
+    let rule = sym (ap (λ (a : Answer). a .number) (c .before .before .before .before .before .before .pre)) in
+    let fits = accepted-sets-fit _ _ rule .1 in
+    (fits .whole, set-is-short _ (fits .whole) (fits .few), refl)
 
 deliver-requires : tie.Need-deliver-requires
 deliver-requires c κs =
@@ -26,21 +29,21 @@ deliver-requires c κs =
     let indexed = asked .before .before .before in (
       indexed .before .before .index-set .ensures,
       indexed .index-set2 .ensures,
-      sym (ap countedAnswer (counted .count .given .1)) ∙ asked .check-numbers .ensures,
+      rw (counted .count .given .1) at (asked .check-numbers .ensures),
     )
 
 returns : tie.Need-returns
 unfolding checkedRule
 returns c =
     refusal-settles _ _ (c .before .refusal .given .0 .0) _ _ _
-    (sym (ap countedAnswer (c .before .refusal .given .1)) ∙ c .before .before .before .check-numbers .ensures)
+    (rw (c .before .refusal .given .1) at (c .before .before .before .check-numbers .ensures))
 
 returns-2 : tie.Need-returns-2
 unfolding checkedRule
 returns-2 c =
     let counted = c .before .before .before .before .before .before .before in
     acceptance-leaves _ _ (counted .count .given .0 .0) _ _ _ _ _
-    (sym (ap countedAnswer (counted .count .given .1)) ∙ counted .before .before .check-numbers .ensures)
+    (rw (counted .count .given .1) at (counted .before .before .check-numbers .ensures))
     (c .before .before .deliver .ensures)
 
 pub merge-checked-spec : {M : Type 1} → statement M

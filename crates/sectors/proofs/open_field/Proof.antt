@@ -1,19 +1,23 @@
 -- Why `sectors::open_field` stores `opening`: two runs and one store, each where the one before it ends. Rests on no
 -- axiom.
+use mathlib.Core.List.{_++_}
 use native.Mathlib.Omega.{arith}
 use lib.ListN.{length-set}
 use borrow.Author.Needs.{needs}
-use Rattle.sectors.proofs.SectorLaws.{opening-stored}
+use lib.ListN.{replicate}
+use Rattle.lists.proofs.StoreLaws.{stored-next, stored-one-more}
+use Rattle.sectors.specs.Sector.{opening}
 use Rattle.sectors.proofs.open_field.Statement.{statement}
 use Rattle.sectors.proofs.open_field.Tie as tie
 
 returns : tie.Need-returns
+unfolding opening
 returns c =
-    let args = c .before .before .before .before .before .before .before .before .before .args in (
+    let first = c .before .before .before .before .before .before .repeat .ensures in
+    let second = c .before .before .repeat2 .ensures in (
       omega arith,
-      cc
-          (opening-stored (args .out .now) (args .at) (c .before .before .before .before .before .before .repeat .result)
-          (c .before .before .repeat2 .result) (args .kind) (omega arith) (omega arith)),
+      rw (second .1, stored-next (replicate 12 0) (replicate 3 0x1a1) _ _ _ _ (first .1) (first .0))
+          (stored-one-more (replicate 12 0 ++ replicate 3 0x1a1) _ _ _ _ (omega arith)),
     )
 
 pub open-field-spec : {M : Type 1} → statement M

@@ -17,9 +17,6 @@ Inv-loop out₀ at bytes k₀ out k =
 abbrev μ-loop : tie.MeasureT-loop
 μ-loop out₀ at bytes k₀ out k = length bytes - k
 
-cast-out : tie.Need-cast-out Inv-loop μ-loop
-cast-out c = omega (arith, c .shared-slice-known .given (c .before .before .loop .k))
-
 loop-again : tie.Need-loop-again Inv-loop μ-loop
 loop-again c =
     let args = c .before .before .before .args in (
@@ -40,7 +37,8 @@ returns c =
 
 pub put-data-spec : {M : Type 1} → statement M
 put-data-spec =
-    tie.close (tie.spec Inv-loop μ-loop (λ c. (omega arith, sym (stored-none _ _), refl)) (λ c. omega arith) cast-out
+    tie.close (tie.spec Inv-loop μ-loop (λ c. (omega arith, sym (stored-none _ _), refl)) (λ c. omega arith)
+    (λ c. omega (arith, c .shared-slice-known .given (c .before .before .loop .k)))
     (λ c. omega arith) (λ c. omega arith) (λ c. omega arith) (λ c. omega arith) (λ c. omega arith) loop-again
     (λ c. omega arith) (λ c. omega arith) (λ c. omega arith) (λ c. omega arith) (λ c. omega arith)
     (λ c. simp length-set (c .before .loop .inv .2)) returns)

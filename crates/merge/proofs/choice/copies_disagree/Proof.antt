@@ -1,23 +1,32 @@
 -- Why `merge::choice::copies_disagree` answers `disagree`: it makes the same tests in the same order. Rests on no
 -- axiom.
-use mathlib.Core.Path.{sym, ap}
+use mathlib.Core.Path.{ap, _≡_}
 use Rattle.sectors.specs.Sector.{sectorSize}
-use Rattle.merge.proofs.ChoiceLaws.{failed-first-agrees, failed-second-agrees, other-code-disagrees, data-decide}
+use Rattle.merge.specs.Merge.{disagree}
+use borrow.Author.Tests.{eq-eqb, ne-eqb}
+use Rattle.merge.specs.Index.{sectorAt}
+use Rattle.merge.specs.Set.{sectorOf}
+use lib.ListN.{getD}
+use mathlib.Core.Bool.{not}
+use Prim.Native.Nat.{_+_, _-_}
 use borrow.Author.Needs.{needs}
 use native.Mathlib.Omega.{arith}
 use Rattle.merge.proofs.choice.copies_disagree.Statement.{statement}
 use Rattle.merge.proofs.choice.copies_disagree.Tie as tie
 
 returns : tie.Need-returns
-returns c = sym (failed-first-agrees _ _ _ _ (c .if1 .taken))
+unfolding disagree sectorAt sectorOf
+returns c = rw (eq-eqb _ 0 (c .if1 .taken))
 
 returns-2 : tie.Need-returns-2
-returns-2 c = sym (failed-second-agrees _ _ _ _ (c .before .before .if1 .left) (c .if2 .taken))
+unfolding disagree sectorAt sectorOf
+returns-2 c = rw (ne-eqb _ 0 (c .before .before .if1 .left), eq-eqb _ 0 (c .if2 .taken))
 
 returns-3 : tie.Need-returns-3
+unfolding disagree sectorAt sectorOf
 returns-3 c =
     let sums = c .before .before .before in
-    sym (other-code-disagrees _ _ _ _ (sums .before .before .if1 .left) (sums .if2 .left) (c .if3 .taken))
+    rw (ne-eqb _ 0 (sums .before .before .if1 .left), ne-eqb _ 0 (sums .if2 .left), ne-eqb _ _ (c .if3 .taken))
 
 part-same-bytes-end-2 : tie.Need-part-same-bytes-end-2
 part-same-bytes-end-2 c =
@@ -26,12 +35,26 @@ part-same-bytes-end-2 c =
     omega (arith, start .pre .1, c .before .sector-size .ensures, ap sectorSize (tests .if3 .left))
 
 returns-4 : tie.Need-returns-4
+unfolding disagree sectorAt sectorOf
 returns-4 c =
     let sized = c .before .before .before in
     let tests = sized .before in
-    sym (data-decide
-    _ _ _ _ (tests .before .before .before .before .before .if1 .left) (tests .before .before .before .if2 .left) _
-    (c .same-bytes .result) (tests .if3 .left) (sized .sector-size .ensures) (c .same-bytes .ensures))
+    let sums = tests .before .before .before in
+    let args = sums .before .before .before .before .before .before .args in
+    let size = sized .sector-size .result in
+    let like = tests .if3 .left in
+    let a-size : sectorSize (getD (args .first .now) (args .a) 0) ≡ args .a + 2 + size - (args .a + 2) =
+    omega (arith, sized .sector-size .ensures) in
+    let b-size : sectorSize (getD (args .second .now) (args .b) 0) ≡ args .b + 2 + size - (args .b + 2) =
+    omega (arith, sized .sector-size .ensures, ap sectorSize like) in
+    rw (
+      a-size,
+      b-size,
+      ne-eqb _ 0 (sums .before .before .if1 .left),
+      ne-eqb _ 0 (sums .if2 .left),
+      eq-eqb _ _ like,
+    )
+    (ap not (c .same-bytes .ensures))
 
 pub copies-disagree-spec : {M : Type 1} → statement M
 copies-disagree-spec =

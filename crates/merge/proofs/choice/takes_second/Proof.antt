@@ -3,8 +3,7 @@
 use borrow.Author.Tests.{eq-eqb, ne-eqb}
 use Rattle.merge.specs.Set.{sectorOf}
 use Rattle.merge.specs.Index.{sectorAt, takesSecond}
-use Rattle.merge.proofs.ChoiceLaws.{zero-shows-nothing, place-shows-one, no-twice-is-other}
-use Rattle.merge.proofs.ChoiceLaws.{at-peace-is-not-twice}
+use Rattle.merge.proofs.ChoiceLaws.{zero-shows-nothing, place-shows-one, single-entries}
 use borrow.Author.Needs.{needs}
 use native.Mathlib.Omega.{arith}
 use Rattle.merge.proofs.choice.takes_second.Statement.{statement}
@@ -17,44 +16,36 @@ returns c = rw (zero-shows-nothing _ _ (c .if1 .taken))
 returns-2 : tie.Need-returns-2
 unfolding takesSecond
 returns-2 c =
-    let start = c .before .before in
-    let single = at-peace-is-not-twice _ _ (start .pre .2) in
-    rw (
-      zero-shows-nothing _ _ (c .if2 .taken),
-      place-shows-one _ _ (c .before .if1 .left) (no-twice-is-other _ _ (single .0)),
-    )
+    let single = single-entries _ _ _ _ (c .before .before .pre .2) in
+    rw (zero-shows-nothing _ _ (c .if2 .taken), place-shows-one _ _ (c .before .if1 .left) (single .0))
 
 shared-slice-read-if3 : tie.Need-shared-slice-read-if3
 shared-slice-read-if3 c =
-    let start = c .before .before .before in
-    let single = at-peace-is-not-twice _ _ (start .pre .2) in
-    omega (arith, start .pre .0 (c .before .before .if1 .left) (no-twice-is-other _ _ (single .0)))
+    let pre = c .before .before .before .pre in
+    omega (arith, pre .0 (c .before .before .if1 .left) (single-entries _ _ _ _ (pre .2) .0))
 
 returns-3 : tie.Need-returns-3
 unfolding takesSecond sectorAt sectorOf
 returns-3 c =
-    let start = c .before .before .before .before in
-    let single = at-peace-is-not-twice _ _ (start .pre .2) in
+    let single = single-entries _ _ _ _ (c .before .before .before .before .pre .2) in
     rw (
-      place-shows-one _ _ (c .before .before .before .if1 .left) (no-twice-is-other _ _ (single .0)),
-      place-shows-one _ _ (c .before .before .if2 .left) (no-twice-is-other _ _ (single .1)),
+      place-shows-one _ _ (c .before .before .before .if1 .left) (single .0),
+      place-shows-one _ _ (c .before .before .if2 .left) (single .1),
       ne-eqb _ 0 (c .if3 .taken),
     )
 
 shared-slice-read-result : tie.Need-shared-slice-read-result
 shared-slice-read-result c =
-    let start = c .before .before .before .before .before in
-    let single = at-peace-is-not-twice _ _ (start .pre .2) in
-    omega (arith, start .pre .1 (c .before .before .before .if2 .left) (no-twice-is-other _ _ (single .1)))
+    let pre = c .before .before .before .before .before .pre in
+    omega (arith, pre .1 (c .before .before .before .if2 .left) (single-entries _ _ _ _ (pre .2) .1))
 
 returns-4 : tie.Need-returns-4
 unfolding takesSecond sectorAt sectorOf
 returns-4 c =
-    let start = c .before .before .before .before .before in
-    let single = at-peace-is-not-twice _ _ (start .pre .2) in
+    let single = single-entries _ _ _ _ (c .before .before .before .before .before .pre .2) in
     rw (
-      place-shows-one _ _ (c .before .before .before .before .if1 .left) (no-twice-is-other _ _ (single .0)),
-      place-shows-one _ _ (c .before .before .before .if2 .left) (no-twice-is-other _ _ (single .1)),
+      place-shows-one _ _ (c .before .before .before .before .if1 .left) (single .0),
+      place-shows-one _ _ (c .before .before .before .if2 .left) (single .1),
       eq-eqb _ 0 (c .before .if3 .left),
     )
 

@@ -4,11 +4,5 @@ use borrow.Author.Tests.{eq-eqb, ne-eqb}
 use Rattle.merge.proofs.index.in_either.Statement.{statement}
 use Rattle.merge.proofs.index.in_either.Tie as tie
 
-returns : tie.Need-returns
-returns c = rw (ne-eqb _ 0 (c .if1 .taken))
-
-returns-2 : tie.Need-returns-2
-returns-2 c = rw (eq-eqb _ 0 (c .if1 .left))
-
 pub in-either-spec : {M : Type 1} → statement M
-in-either-spec = tie.close (tie.spec returns returns-2)
+in-either-spec = tie.close (tie.spec (λ c. rw (ne-eqb _ 0 (c .if1 .taken))) (λ c. rw (eq-eqb _ 0 (c .if1 .left))))

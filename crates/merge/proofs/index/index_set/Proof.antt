@@ -5,7 +5,7 @@ use mathlib.Core.Bool.{false}
 use lib.ListN.{length, drop, getD, length-set}
 use Rattle.sectors.specs.Sector.{sectorSize}
 use Rattle.merge.specs.Set.{setOf, isNone, isMisfitSet}
-use Rattle.merge.proofs.IndexLaws.{Indexing, fresh-indexes, end-indexes, whole-here, rest-fits, sector-indexes}
+use Rattle.merge.proofs.IndexLaws.{Indexing, fresh-indexes, end-indexes, whole-here, sector-indexes, rest-here}
 use borrow.Author.Needs.{needs}
 use native.Mathlib.Omega.{arith}
 use Rattle.merge.proofs.index.index_set.Statement.{statement}
@@ -27,43 +27,18 @@ loop-holds c =
     let fresh = c .before .pre .2 in
     (omega arith, c .before .pre .0, ap length fresh, rw fresh (fresh-indexes (c .before .args .set .now)))
 
-cast-number : tie.Need-cast-number Inv-loop μ-loop
-cast-number c = omega (arith, c .shared-slice-known2 .given (c .before .before .loop .start))
+byte
+    : (c : tie.After-shared-slice-known2 Inv-loop μ-loop)
+    → getD (c .before .before .before .before .args .set .now) (c .before .before .loop .start) 0 < 256
+byte c = omega (arith, c .shared-slice-known2 .given (c .before .before .loop .start))
 
-mul-entry : tie.Need-mul-entry Inv-loop μ-loop
-mul-entry c = omega (arith, c .shared-slice-known2 .given (c .before .before .loop .start))
-
-element-copy-out-entry : tie.Need-element-copy-out-entry Inv-loop μ-loop
-element-copy-out-entry c = omega (arith, c .shared-slice-known2 .given (c .before .before .loop .start))
-
-cast-entry : tie.Need-cast-entry Inv-loop μ-loop
-cast-entry c = omega (arith, c .before .before .before .before .before .pre .1)
-
-mul-index : tie.Need-mul-index Inv-loop μ-loop
-mul-index c =
-    omega (arith, c .before .before .shared-slice-known2 .given (c .before .before .before .before .loop .start))
-
-element-write-index : tie.Need-element-write-index Inv-loop μ-loop
-element-write-index c =
-    omega (arith, c .before .before .shared-slice-known2 .given (c .before .before .before .before .loop .start))
-
-shared-slice-read-sector-size : tie.Need-shared-slice-read-sector-size Inv-loop μ-loop
-shared-slice-read-sector-size c =
-    let turn = c .before .before .before .before in
-    let whole = whole-here _ _ (turn .loop-test .taken) (turn .before .loop .inv .1) in
-    omega (arith, whole .ends)
-
-add-start-2 : tie.Need-add-start-2 Inv-loop μ-loop
-add-start-2 c =
-    let turn = c .before .before .before .before .before in
-    let whole = whole-here _ _ (turn .loop-test .taken) (turn .before .loop .inv .1) in
-    omega (arith, whole .ends, c .sector-size .ensures)
-
-loop-less : tie.Need-loop-less Inv-loop μ-loop
-loop-less c =
-    let turn = c .before .before .before .before .before in
-    let whole = whole-here _ _ (turn .loop-test .taken) (turn .before .loop .inv .1) in
-    omega (arith, whole .ends, c .sector-size .ensures)
+-- the sector at the turn's place lies within the set
+sector-ends
+    : (c : tie.After-shared-slice-known2 Inv-loop μ-loop)
+    → let start = c .before .before .loop .start in
+    let set = c .before .before .before .before .args .set .now in
+    start + 3 + sectorSize (getD set (start + 1) 0) ≤ length set
+sector-ends c = whole-here _ _ (c .before .loop-test .taken) (c .before .before .loop .inv .1) .ends
 
 loop-again : tie.Need-loop-again Inv-loop μ-loop
 loop-again c =
@@ -71,24 +46,18 @@ loop-again c =
     let set = turn .before .before .before .args .set .now in
     let start = turn .before .loop .start in
     let index = turn .before .loop .index in
-    let number = getD set start 0 in
     let inside = turn .loop-test .taken in
     let fits = turn .before .loop .inv .1 in
     let size = turn .before .loop .inv .2 in
-    let whole = whole-here set start inside fits in
     let end : start + 1 + 2 + c .sector-size .result ≡ start + 3 + sectorSize (getD set (start + 1) 0) =
     omega (arith, c .sector-size .ensures) in
-    let byte : number < 256 =
-    omega (arith, c .before .before .before .before .shared-slice-known2 .given start) in
-    let entered =
-    sector-indexes set start inside fits index size (turn .before .before .before .pre .1)
-    (turn .before .loop .inv .3)
-    byte in
     rw (end, c .before .before .entry .ensures) (
-      whole .ends,
-      rest-fits set start inside fits,
+      sector-ends (c .before .before .before .before),
+      rest-here set start inside fits .0,
       length-set index _ _ ∙ size,
-      entered,
+      sector-indexes set start inside fits index size (turn .before .before .before .pre .1)
+          (turn .before .loop .inv .3)
+          (byte (c .before .before .before .before)),
     )
 
 returns : tie.Need-returns Inv-loop μ-loop
@@ -98,6 +67,10 @@ returns c =
 
 pub index-set-spec : {M : Type 1} → statement M
 index-set-spec =
-    tie.close (tie.spec Inv-loop μ-loop loop-holds (λ c. search needs) (λ c. search needs) cast-number mul-entry
-    element-copy-out-entry cast-entry (λ c κs. search needs) mul-index element-write-index (λ c. search needs)
-    shared-slice-read-sector-size (λ c κs. search needs) add-start-2 loop-less loop-again returns)
+    tie.close (tie.spec Inv-loop μ-loop loop-holds (λ c. search needs) (λ c. search needs) (λ c. omega (arith, byte c))
+    (λ c. omega (arith, byte c)) (λ c. omega (arith, byte c))
+    (λ c. omega (arith, c .before .before .before .before .before .pre .1)) (λ c κs. search needs)
+    (λ c. omega (arith, byte (c .before .before))) (λ c. omega (arith, byte (c .before .before)))
+    (λ c. search needs) (λ c. omega (arith, sector-ends (c .before .before .before))) (λ c κs. search needs)
+    (λ c. omega (arith, sector-ends (c .before .before .before .before), c .sector-size .ensures))
+    (λ c. omega (arith, sector-ends (c .before .before .before .before), c .sector-size .ensures)) loop-again returns)

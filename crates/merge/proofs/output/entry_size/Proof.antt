@@ -9,9 +9,6 @@ use native.Mathlib.Omega.{arith}
 use Rattle.merge.proofs.output.entry_size.Statement.{statement}
 use Rattle.merge.proofs.output.entry_size.Tie as tie
 
-returns : tie.Need-returns
-returns c = sym (ap length (bytes-of-no-entry _ _ (c .if1 .taken)))
-
 shared-slice-read-sector-size : tie.Need-shared-slice-read-sector-size
 shared-slice-read-sector-size c =
     let start = c .before .before .before in
@@ -32,4 +29,4 @@ returns-2 c =
 
 pub entry-size-spec : {M : Type 1} → statement M
 entry-size-spec =
-    tie.close (tie.spec returns shared-slice-read-sector-size (λ c κs. search needs) add-result returns-2)
+    tie.close (tie.spec (λ c. sym (ap length (bytes-of-no-entry _ _ (c .if1 .taken)))) shared-slice-read-sector-size (λ c κs. search needs) add-result returns-2)

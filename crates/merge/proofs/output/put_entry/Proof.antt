@@ -12,9 +12,6 @@ use native.Mathlib.Omega.{arith}
 use Rattle.merge.proofs.output.put_entry.Statement.{statement}
 use Rattle.merge.proofs.output.put_entry.Tie as tie
 
-returns : tie.Need-returns
-returns c = rw (bytes-of-no-entry _ _ (c .if1 .taken)) (sym (add-zero _), sym (stored-none _ _))
-
 put-sector-requires : tie.Need-put-sector-requires
 put-sector-requires c κs =
     let start = c .before .before .before .before in
@@ -36,4 +33,4 @@ returns-2 c =
     )
 
 pub put-entry-spec : {M : Type 1} → statement M
-put-entry-spec = tie.close (tie.spec returns put-sector-requires (λ c. search needs) returns-2)
+put-entry-spec = tie.close (tie.spec (λ c. rw (bytes-of-no-entry _ _ (c .if1 .taken)) (sym (add-zero _), sym (stored-none _ _))) put-sector-requires (λ c. search needs) returns-2)
