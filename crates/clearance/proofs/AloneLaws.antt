@@ -17,7 +17,7 @@ use Rattle.timing.proofs.ClassLaws.{cursor-stays}
 use Rattle.clearance.specs.Clearance.{KeepsWithin, ClearanceBy, IsClearance, clearanceIn, clearanceOf}
 use Rattle.clearance.specs.Clearance.{leastClearance}
 use Rattle.clearance.proofs.CursorLaws.{ascending-at-start}
-use Rattle.clearance.proofs.MostLaws.{clearance-is-the-most, kept-is-within-most}
+use Rattle.clearance.proofs.MostLaws.{clearance-is-the-most, kept-is-within-most, of-clearance}
 use Rattle.clearance.proofs.LeastLaws.{least-is-no-more, least-is-at-least}
 
 -- ---- the least over a list
@@ -57,14 +57,6 @@ kept-by-class Three c d e m most inner keeps = kept-is-within-most most keeps
 kept-by-class Four c d e m most inner keeps = kept-is-within-most most keeps
 kept-by-class Wide c d e m most inner keeps = absurd inner
 
--- whatever the class: within its clearance an interval keeps it
-keeps-by-class : (x : Class) (c : Cursor) (d m : ℕ) → ClearanceBy x c d m → KeepsWithin c d m
-keeps-by-class Narrow c d m none moved longer shorter = ap (classIn c) (omega arith)
-keeps-by-class Two c d m most moved longer shorter = most .keeps moved longer shorter
-keeps-by-class Three c d m most moved longer shorter = most .keeps moved longer shorter
-keeps-by-class Four c d m most moved longer shorter = most .keeps moved longer shorter
-keeps-by-class Wide c d m none moved longer shorter = ap (classIn c) (omega arith)
-
 module _ (p : Profile) (accepts : profileRule p .number ≡ 0) (d : ℕ) where
   pub kept-is-cleared
       : (e : ℕ)
@@ -83,13 +75,13 @@ module _ (p : Profile) (accepts : profileRule p .number ≡ 0) (d : ℕ) where
       → (classOf p moved ≡ classOf p d → ⊥)
       → clearanceOf p d < e
   unfolding classOf clearanceOf IsClearance
-  broken-is-not-cleared e moved longer shorter breaks = decided (decLt (clearanceOf p d) e)
-    where
-      keeps : KeepsWithin (atStart p) d (clearanceOf p d)
-      keeps =
-          keeps-by-class (classIn (atStart p) d) (atStart p) d _
-          (clearance-is-the-most (ascending-at-start p accepts) d)
-
-      decided : Dec (clearanceOf p d < e) → clearanceOf p d < e
-      decided (yes h) = h
-      decided (no h) = absurd (breaks (keeps moved (omega arith) (omega arith)))
+  broken-is-not-cleared e moved longer shorter breaks =
+      -- whatever the class: within its clearance an interval keeps it
+      let keeps =
+      of-clearance (λ F. F (clearanceOf p d) → KeepsWithin (atStart p) d (clearanceOf p d)) (classIn (atStart p) d)
+      (λ none moved longer shorter. ap (classIn (atStart p)) (omega arith)) (λ most. most .keeps)
+      (clearance-is-the-most (ascending-at-start p accepts) d) in
+      elim (decLt (clearanceOf p d) e) [
+        | yes h ↦ h
+        | no h ↦ absurd (breaks (keeps moved (omega arith) (omega arith)))
+      ]

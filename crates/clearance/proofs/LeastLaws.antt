@@ -12,21 +12,13 @@ use Rattle.timing.proofs.ClassLaws.{cursor-stays}
 use Rattle.report.proofs.SpanLaws.{least-of-none, least-of-one, spanned}
 use Rattle.clearance.specs.Clearance.{clearanceIn, clearancesFrom, leastFrom}
 
-pub clearances-none : (c : Cursor) → clearancesFrom c [] ≡ []
-unfolding clearancesFrom
-clearances-none c = refl
-
-clearances-cons
-    : (c : Cursor) (d : ℕ) (ds : List ℕ) → clearancesFrom c (d ∷ ds) ≡ clearanceIn c d ∷ clearancesFrom c ds
-unfolding clearancesFrom cursorAfter
-clearances-cons c d ds = cc (cursor-stays c (d ∷ []))
-
 -- the turn of a loop over a list: the interval at a place, and those after it
 pub clearances-here
     : (c : Cursor) (ds : List ℕ) (k : ℕ)
     → k < length ds
     → clearancesFrom c (drop k ds) ≡ clearanceIn c (getD ds k 0) ∷ clearancesFrom c (drop (suc k) ds)
-clearances-here c ds k h = cc (drop-cons ds k 0 h, clearances-cons c _ _)
+unfolding clearancesFrom cursorAfter
+clearances-here c ds k h = cc (drop-cons ds k 0 h, cursor-stays c (getD ds k 0 ∷ []))
 
 pub clearances-count : (c : Cursor) (ds : List ℕ) → length (clearancesFrom c ds) ≡ length ds
 unfolding clearancesFrom
@@ -45,8 +37,8 @@ clearance-at c (d ∷ ds) (suc k) h = clearance-at (cursorPast c d) ds k (omega 
 -- ---- the least
 
 pub least-from-none : (c : Cursor) (ds : List ℕ) → length ds ≡ 0 → leastFrom c ds ≡ 0
-unfolding leastFrom
-least-from-none c [] h = rw (clearances-none c) least-of-none
+unfolding leastFrom clearancesFrom
+least-from-none c [] h = least-of-none
 least-from-none c (d ∷ ds) h = absurd (omega arith)
 
 pub least-from-one : (c : Cursor) (d : ℕ) → leastFrom c (d ∷ []) ≡ clearanceIn c d

@@ -27,18 +27,17 @@ module _ {c : Cursor} {x : Class} {from to : ℕ} (s : ClassSpans c x from to) (
 
   -- moved by one more, it reaches the interval just below the window or the one just above it
   keeps-no-further : KeepsWithin c d (suc (inWindow from to d)) → ⊥
-  keeps-no-further keeps = by-side (decLe (d - from) (to - 1 - d))
-    where
-      by-side : Dec (d - from ≤ to - 1 - d) → ⊥
-      by-side (yes nearer) =
-          let (low, high) = s .only d here in
-          let first = s .from-positive in
-          let (below, rest) = s .only (from - 1) (keeps (from - 1) (omega arith) (omega arith) ∙ here) in
-          omega arith
-      by-side (no nearer) =
-          let (low, high) = s .only d here in
-          let (rest, above) = s .only to (keeps to (omega arith) (omega arith) ∙ here) in
-          omega arith
+  keeps-no-further keeps =
+      let (low, high) = s .only d here in
+      elim (decLe (d - from) (to - 1 - d)) [
+        | yes nearer ↦
+            let first = s .from-positive in
+            let (below, rest) = s .only (from - 1) (keeps (from - 1) (omega arith) (omega arith) ∙ here) in
+            omega arith
+        | no nearer ↦
+            let (rest, above) = s .only to (keeps to (omega arith) (omega arith) ∙ here) in
+            omega arith
+      ]
 
   most-is-the-nearer-edge : MostKept c d (inWindow from to d)
   most-is-the-nearer-edge = record { keeps = keeps-to-the-nearer-edge; no-more = keeps-no-further }
@@ -53,31 +52,24 @@ module _ {c : Cursor} (a : Ascending c) where
   between-four : {d : ℕ} → Stands c d Four → (c .b34 .0 ≤ d) × (d < c .rpt .0)
   between-four (four h₁ h₂) = (h₁, h₂)
 
-  two-spans : ClassSpans c Two (c .min .0) (c .b23 .0)
-  two-spans =
-      record { from-positive = a .first; has = below-b23-is-two c; only = λ d e. between-two (rw (← e) (stands c d)) }
-
-  three-spans : ClassSpans c Three (c .b23 .0) (c .b34 .0)
-  three-spans =
-      record {
+  clearance-by-class : (d : ℕ) (x : Class) → classIn c d ≡ x → ClearanceBy x c d (clearanceBy x c d)
+  clearance-by-class d Narrow here = refl
+  clearance-by-class d Two here =
+      most-is-the-nearer-edge
+      (record { from-positive = a .first; has = below-b23-is-two c; only = λ d e. between-two (rw (← e) (stands c d)) })
+      d here
+  clearance-by-class d Three here =
+      most-is-the-nearer-edge (record {
         from-positive = omega arith;
         has = λ d h₁ h₂. below-b34-is-three c d (omega arith) h₁ h₂;
         only = λ d e. between-three (rw (← e) (stands c d));
-      }
-
-  four-spans : ClassSpans c Four (c .b34 .0) (c .rpt .0)
-  four-spans =
-      record {
+      }) d here
+  clearance-by-class d Four here =
+      most-is-the-nearer-edge (record {
         from-positive = omega arith;
         has = λ d h₁ h₂. below-rpt-is-four c d (omega arith) (omega arith) h₁ h₂;
         only = λ d e. between-four (rw (← e) (stands c d));
-      }
-
-  clearance-by-class : (d : ℕ) (x : Class) → classIn c d ≡ x → ClearanceBy x c d (clearanceBy x c d)
-  clearance-by-class d Narrow here = refl
-  clearance-by-class d Two here = most-is-the-nearer-edge two-spans d here
-  clearance-by-class d Three here = most-is-the-nearer-edge three-spans d here
-  clearance-by-class d Four here = most-is-the-nearer-edge four-spans d here
+      }) d here
   clearance-by-class d Wide here = refl
 
   pub clearance-is-the-most : (d : ℕ) → IsClearance c d (clearanceIn c d)
@@ -87,12 +79,11 @@ module _ {c : Cursor} (a : Ascending c) where
 -- ---- it is one number, and the largest that keeps the class
 
 pub kept-is-within-most : {c : Cursor} {d e m : ℕ} → MostKept c d m → KeepsWithin c d e → e ≤ m
-kept-is-within-most {c} {d} {e} {m} most keeps = decided (decLe e m)
-  where
-    decided : Dec (e ≤ m) → e ≤ m
-    decided (yes h) = h
-    decided (no h) =
-        absurd (most .no-more (λ moved longer shorter. keeps moved (omega arith) (omega arith)))
+kept-is-within-most {c} {d} {e} {m} most keeps =
+    elim (decLe e m) [
+      | yes h ↦ h
+      | no h ↦ absurd (most .no-more (λ moved longer shorter. keeps moved (omega arith) (omega arith)))
+    ]
 
 one-most : {c : Cursor} {d e f : ℕ} → MostKept c d e → MostKept c d f → e ≡ f
 one-most m n =
@@ -100,13 +91,19 @@ one-most m n =
     let down = kept-is-within-most m (n .keeps) in
     omega arith
 
-one-by-class : (x : Class) (c : Cursor) (d e f : ℕ) → ClearanceBy x c d e → ClearanceBy x c d f → e ≡ f
-one-by-class Narrow c d e f m n = m ∙ sym n
-one-by-class Two c d e f m n = one-most m n
-one-by-class Three c d e f m n = one-most m n
-one-by-class Four c d e f m n = one-most m n
-one-by-class Wide c d e f m n = m ∙ sym n
+-- what holds of 0 and of the most, holds of a class's clearance
+pub of-clearance
+    : (P : (ℕ → Type 0) → Type 0) (x : Class) {c : Cursor} {d : ℕ}
+    → P (λ e. e ≡ 0)
+    → P (MostKept c d)
+    → P (ClearanceBy x c d)
+of-clearance P Narrow none most = none
+of-clearance P Two none most = most
+of-clearance P Three none most = most
+of-clearance P Four none most = most
+of-clearance P Wide none most = none
 
 pub clearance-is-one-number : (c : Cursor) (d e f : ℕ) → IsClearance c d e → IsClearance c d f → e ≡ f
 unfolding IsClearance
-clearance-is-one-number c d e f m n = one-by-class (classIn c d) c d e f m n
+clearance-is-one-number c d e f m n =
+    of-clearance (λ F. F e → F f → e ≡ f) (classIn c d) (λ none zero. none ∙ sym zero) one-most m n

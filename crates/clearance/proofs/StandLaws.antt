@@ -17,20 +17,25 @@ pub data Stands (c : Cursor) (d : ℕ) : Class → Type 0 where
   wide : c .rpt .0 ≤ d → Stands c d Wide
 
 pub stands : (c : Cursor) (d : ℕ) → Stands c d (classIn c d)
-stands c d = by-min (decLt d (c .min .0))
-  where
-    by-rpt : c .min .0 ≤ d → c .b23 .0 ≤ d → c .b34 .0 ≤ d → Dec (d < c .rpt .0) → Stands c d (classIn c d)
-    by-rpt i j k (yes h) = rw (below-rpt-is-four c d i j k h) (four k h)
-    by-rpt i j k (no h) = let l : c .rpt .0 ≤ d = omega arith in rw (from-rpt-is-wide c d i j k l) (wide l)
-
-    by-b34 : c .min .0 ≤ d → c .b23 .0 ≤ d → Dec (d < c .b34 .0) → Stands c d (classIn c d)
-    by-b34 i j (yes h) = rw (below-b34-is-three c d i j h) (three j h)
-    by-b34 i j (no h) = by-rpt i j (omega arith) (decLt d (c .rpt .0))
-
-    by-b23 : c .min .0 ≤ d → Dec (d < c .b23 .0) → Stands c d (classIn c d)
-    by-b23 i (yes h) = rw (below-b23-is-two c d i h) (two i h)
-    by-b23 i (no h) = by-b34 i (omega arith) (decLt d (c .b34 .0))
-
-    by-min : Dec (d < c .min .0) → Stands c d (classIn c d)
-    by-min (yes h) = rw (below-min-is-narrow c d h) (narrow h)
-    by-min (no h) = by-b23 (omega arith) (decLt d (c .b23 .0))
+stands c d =
+    elim (decLt d (c .min .0)) [
+      | yes h ↦ rw (below-min-is-narrow c d h) (narrow h)
+      | no h ↦
+          let i : c .min .0 ≤ d = omega arith in
+          elim (decLt d (c .b23 .0)) [
+            | yes h ↦ rw (below-b23-is-two c d i h) (two i h)
+            | no h ↦
+                let j : c .b23 .0 ≤ d = omega arith in
+                elim (decLt d (c .b34 .0)) [
+                  | yes h ↦ rw (below-b34-is-three c d i j h) (three j h)
+                  | no h ↦
+                      let k : c .b34 .0 ≤ d = omega arith in
+                      elim (decLt d (c .rpt .0)) [
+                        | yes h ↦ rw (below-rpt-is-four c d i j k h) (four k h)
+                        | no h ↦
+                            let l : c .rpt .0 ≤ d = omega arith in
+                            rw (from-rpt-is-wide c d i j k l) (wide l)
+                      ]
+                ]
+          ]
+    ]

@@ -10,9 +10,9 @@ use mathlib.Core.List.{List, [], _∷_, _++_}
 use borrow.Author.Tests.{lt-ltb, le-ltb}
 use lib.ListN.{getD}
 use lib.Pow.{pow-mono, pow-add}
-use Rattle.symbols.specs.Bits.{Bit, O, I}
+use Rattle.symbols.specs.Bits.{O, I}
 use Rattle.images.specs.machine.TopBits.{topBits}
-use Rattle.codec.specs.machine.Pen.{drawing, turned, storedBefore, ended, passed, drawn, restDrawn}
+use Rattle.codec.specs.machine.Pen.{drawing, penAt, turned, storedLate, ended, passed, drawn, restAt, restDrawn}
 use Rattle.codec.specs.machine.Pen.{Room, Pending, Highest, behind, Drawable}
 use Rattle.codec.specs.declared.pen.Pen.{Pen}
 use Rattle.codec.specs.declared.pen.Rest.{Rest}
@@ -23,7 +23,7 @@ top-of-zero : (place n : ℕ) → n < 2 ^ place → topBits (suc place) n ≡ O 
 unfolding topBits
 top-of-zero place n h =
     let none : n - 0 ≡ n = omega arith in
-    rw (lt-ltb n (2 ^ place) h) (ap (λ (r : ℕ). O ∷ topBits place r) none)
+    rw (lt-ltb n (2 ^ place) h, none)
 
 top-of-one : (place n : ℕ) → 2 ^ place ≤ n → topBits (suc place) n ≡ I ∷ topBits place (n - 2 ^ place)
 unfolding topBits
@@ -33,20 +33,6 @@ top-of-none : (n : ℕ) → topBits 0 n ≡ []
 unfolding topBits
 top-of-none n = refl
 
--- a number above another: what it has beyond a weight, and what not
-module _ (n k a b : ℕ) (hb : b < 2 ^ k) where
-  stays-below : a < 2 ^ n → a * 2 ^ k + b < 2 ^ (n + k)
-  stays-below h =
-      let most : suc a * 2 ^ k ≤ 2 ^ n * 2 ^ k = mul-le-mul-right (2 ^ k) h in
-      omega (arith, suc-mul a (2 ^ k), pow-add 2 n k)
-
-  goes-beyond : 2 ^ n ≤ a → (2 ^ (n + k) ≤ a * 2 ^ k + b) × (a * 2 ^ k + b - 2 ^ (n + k) ≡ (a - 2 ^ n) * 2 ^ k + b)
-  goes-beyond h =
-      let least : 2 ^ n * 2 ^ k ≤ a * 2 ^ k = mul-le-mul-right (2 ^ k) h in
-      let parts : (a - 2 ^ n) * 2 ^ k + 2 ^ n * 2 ^ k ≡ a * 2 ^ k =
-      sym (add-mul (a - 2 ^ n) (2 ^ n) (2 ^ k)) ∙ ap (λ (m : ℕ). m * 2 ^ k) (omega arith) in
-      (omega (arith, pow-add 2 n k), omega (arith, pow-add 2 n k))
-
 -- of two numbers, one above the other
 pub top-of-two
     : (n k a b : ℕ) → a < 2 ^ n → b < 2 ^ k → topBits (n + k) (a * 2 ^ k + b) ≡ topBits n a ++ topBits k b
@@ -55,20 +41,24 @@ top-of-two zero k a b ha hb =
     rw (none, zero-mul (2 ^ k), zero-add b, zero-add k, top-of-none 0)
 top-of-two (suc n) k a b ha hb =
     let twice = pow-succ' 2 n in
+    let weight = pow-add 2 n k in
     elim (decLt a (2 ^ n)) [
       | yes h ↦
+          let most : suc a * 2 ^ k ≤ 2 ^ n * 2 ^ k = mul-le-mul-right (2 ^ k) h in
           rw (
             suc-add n k,
-            top-of-zero (n + k) (a * 2 ^ k + b) (stays-below n k a b hb h),
+            top-of-zero (n + k) (a * 2 ^ k + b) (omega (arith, suc-mul a (2 ^ k))),
             top-of-zero n a h,
             top-of-two n k a b h hb,
           )
       | no h ↦
-          let beyond = goes-beyond n k a b hb (omega arith) in
+          let parts : (a - 2 ^ n) * 2 ^ k + 2 ^ n * 2 ^ k ≡ a * 2 ^ k =
+          sym (add-mul (a - 2 ^ n) (2 ^ n) (2 ^ k)) ∙ ap (λ (m : ℕ). m * 2 ^ k) (omega arith) in
+          let left : a * 2 ^ k + b - 2 ^ (n + k) ≡ (a - 2 ^ n) * 2 ^ k + b = omega arith in
           rw (
             suc-add n k,
-            top-of-one (n + k) (a * 2 ^ k + b) (beyond .0),
-            beyond .1,
+            top-of-one (n + k) (a * 2 ^ k + b) (omega arith),
+            left,
             top-of-one n a (omega arith),
             top-of-two n k (a - 2 ^ n) b (omega arith) hb,
           )
@@ -84,16 +74,7 @@ module _ (ones place : ℕ) (high : Highest ones place) where
   pub its-weight : ones < 2 ^ 32 → 1 * 2 ^ place % 2 ^ 32 ≡ 2 ^ place
   its-weight small = let low = high .0 in omega arith
 
-  left-is-below : ones - 2 ^ place < 2 ^ place
-  left-is-below = let top = high .1 in omega arith
-
 -- ---- the drawing
-
-abbrev penAt : ℕ → ℕ → ℕ → Pen
-penAt since window cells = record { since = since; window = window; cells = cells }
-
-abbrev pub restAt : ℕ → ℕ → ℕ → ℕ → Rest
-restAt last window cells ones = record { last = last; window = window; cells = cells; ones = ones }
 
 module _ (table out : List ℕ) where
   zeros-pass
@@ -106,9 +87,7 @@ module _ (table out : List ℕ) where
   zeros-pass (suc n) k since window cells ones h =
       let further : ones < 2 ^ (n + k) = lt-of-lt-of-le h (pow-mono (omega arith)) in
       let later : n + suc since ≡ suc n + since = omega arith in
-      rw (suc-add n k) (ap (drawn table (drawing (penAt since window cells) out)) (top-of-zero (n + k) ones further)
-      ∙ zeros-pass n k (suc since) window cells ones h
-      ∙ ap (λ (s : ℕ). drawn table (drawing (penAt s window cells) out) (topBits k ones)) later)
+      rw (suc-add n k, top-of-zero (n + k) ones further, zeros-pass n k (suc since) window cells ones h, later)
 
   pub begins
       : (start : Pen) (word width : ℕ)
@@ -119,14 +98,13 @@ module _ (table out : List ℕ) where
       let n = start .since - 1 in
       let place : start .since + width - 1 ≡ n + width = omega (arith, can .0) in
       let since : n + 1 ≡ start .since = omega (arith, can .0) in
-      rw place (zeros-pass n width 1 (start .window) (start .cells) word (can .4)
-      ∙ ap (λ (s : ℕ). drawn table (drawing (penAt s (start .window) (start .cells)) out) (topBits width word)) since)
+      rw (place, zeros-pass n width 1 (start .window) (start .cells) word (can .4), since)
 
   a-one-more
       : (rest : Rest) (place : ℕ)
       → Highest (rest .ones) place
       → place < rest .last
-      → restDrawn table (storedBefore out (rest .cells) (getD table (behind rest place .window) 0)) (behind rest place)
+      → restDrawn table (storedLate out (rest .cells) (getD table (behind rest place .window) 0 ∷ [])) (behind rest place)
       ≡ restDrawn table out rest
   unfolding drawn ended
   a-one-more rest place high inside =
@@ -157,24 +135,21 @@ one-word pen word room small = (room .0, omega (arith, room .1), omega arith, om
 pub record Stepped (rest next : Rest) : Type 0 where
   pub pending : Pending next
   pub fewer : next .ones < rest .ones
-  pub one-cell : next .cells ≡ rest .cells + 1
   pub in-table : next .window < 64
   pub same
       : (table out : List ℕ)
-      → restDrawn table (storedBefore out (rest .cells) (getD table (next .window) 0)) next ≡ restDrawn table out rest
+      → restDrawn table (storedLate out (rest .cells) (getD table (next .window) 0 ∷ [])) next ≡ restDrawn table out rest
 
 pub steps : (rest : Rest) (place : ℕ) → Pending rest → Highest (rest .ones) place → Stepped rest (behind rest place)
 unfolding turned
 steps rest place pending high =
     let small = pending .small in
     let near = pending .near in
-    let low = high .0 in
-    let left = left-is-below (rest .ones) place high in
+    let (low, top) = high in
     let inside = place-below (rest .ones) place high (rest .last) (pending .below) in
     record {
-      pending = record { below = left; small = omega arith; near = omega arith };
+      pending = record { below = omega arith; small = omega arith; near = omega arith };
       fewer = omega arith;
-      one-cell = refl;
       in-table = omega arith;
       same = λ (table out : List ℕ). a-one-more table out rest place high inside;
     }

@@ -2,7 +2,7 @@
 -- ones are its cells. Rests on no axiom.
 use Prim.Native.Nat.{ℕ, _+_, _%_, _≤_}
 use native.Mathlib.Omega.{arith}
-use mathlib.Core.Path.{_≡_, refl, sym, ap, ap₂, _∙_}
+use mathlib.Core.Path.{_≡_, refl}
 use mathlib.Core.Bool.{true, false, cond}
 use mathlib.Core.List.{List, [], _∷_, _++_}
 use lib.Dec.{eqb}
@@ -10,6 +10,10 @@ use lib.ListN.{length, length-append}
 use Rattle.lists.specs.Filled.{storedAt}
 use Rattle.lists.specs.Place.{everywhere}
 use Rattle.items.specs.Item.{isByte}
+use Rattle.items.specs.Written.{written}
+use Rattle.items.specs.Rule.{listRule}
+use Rattle.items.proofs.RuleLaws.{listed}
+use Rattle.items.proofs.WrittenLaws.{written-are-bytes}
 use Rattle.symbols.specs.Bits.{Bit, O, I, lastOf}
 use Rattle.symbols.specs.Cells.{writtenCells}
 use Rattle.timing.specs.declared.Profile.{Profile}
@@ -23,9 +27,9 @@ use Rattle.lengths.specs.machine.LengthTable.{lengthTable}
 use Rattle.lengths.proofs.NeighbourLaws.{lengths-by-neighbours}
 use Rattle.lengths.proofs.RunLaws.{written-cells-are-short}
 use Rattle.lengths.proofs.StreamLaws.{stream-is-as-long-as-its-cells}
-use Rattle.codec.specs.machine.Pen.{Drawing, drawing, ended, passed, drawn, Fits}
+use Rattle.codec.specs.machine.Pen.{Drawing, drawing, storedLate, ended, passed, drawn, Fits}
 use Rattle.codec.specs.machine.Track.{Writing, writing, freshTrack, wordDrawn, wrote, closingWord, Holds}
-use Rattle.codec.proofs.PenLaws.{drawn-of-append, drawn-length, storedLate, lengthsAt}
+use Rattle.codec.proofs.PenLaws.{drawn-of-append, drawn-length}
 use Rattle.codec.proofs.PenLaws.{fits-before, output-by-cells, cells-by-cells, lengths-one-late}
 use Rattle.codec.proofs.TrackLaws.{wrote-length, wrote-is-drawn, last-half-cell-is-last-bit}
 
@@ -53,13 +57,20 @@ closing-ends-a-cell table d previous =
 
 -- ---- a list
 
-module _ (p : Profile) (ws old : List ℕ) (bytes : everywhere isByte ws ≡ true) where
-  abbrev written : Writing
-  written = wrote (lengthTable p) (writing freshTrack old) ws
+module _ (p : Profile) (items old : List ℕ) (accepts : listRule items .number ≡ 0) where
+  abbrev ws : List ℕ
+  ws = written items
+
+  bytes : everywhere isByte ws ≡ true
+  bytes = written-are-bytes items (listed items accepts .none-foreign)
+
+  abbrev fresh : Writing
+  fresh = writing freshTrack old
 
   -- the pen and the output at the end
   abbrev closed : Drawing
-  closed = wordDrawn (lengthTable p) written (closingWord (written .track .previous))
+  closed =
+      let s = wrote (lengthTable p) fresh ws in wordDrawn (lengthTable p) s (closingWord (s .track .previous))
 
   abbrev half-cells : List Bit
   half-cells = imageCells (imageOf ws) ++ (clockBit (lastOf O (imageCells (imageOf ws))) O ∷ O ∷ I ∷ behindLast)
@@ -67,12 +78,12 @@ module _ (p : Profile) (ws old : List ℕ) (bytes : everywhere isByte ws ≡ tru
   closed-is-drawn : closed ≡ drawn (lengthTable p) (drawing (freshTrack .pen) old) half-cells
   unfolding imageOf lastBit
   closed-is-drawn =
-      let table = lengthTable p in
-      let last = last-half-cell-is-last-bit table (writing freshTrack old) ws bytes in
-      let end = closing-half-cells (written .track .previous)
-      ∙ ap (λ (b : Bit). clockBit b O ∷ O ∷ I ∷ behindLast) last in
-      ap₂ (drawn table) (wrote-is-drawn table (writing freshTrack old) ws bytes) end
-      ∙ sym (drawn-of-append table (drawing (freshTrack .pen) old) (imageCells (imageOf ws)) _)
+      rw (
+        closing-half-cells,
+        last-half-cell-is-last-bit (lengthTable p) fresh ws bytes,
+        wrote-is-drawn (lengthTable p) fresh ws bytes,
+        drawn-of-append,
+      )
 
   cells-and-two : distancesFrom 2 half-cells ≡ writtenCells ws ++ (2 ∷ [])
   unfolding distancesFrom
@@ -81,49 +92,45 @@ module _ (p : Profile) (ws old : List ℕ) (bytes : everywhere isByte ws ≡ tru
   stream-is-stored : closed .out ≡ storedAt old 0 (byteStream p ws)
   unfolding storedLate
   stream-is-stored =
-      let table = lengthTable p in
-      ap (λ (d : Drawing). d .out) closed-is-drawn
-      ∙ output-by-cells table half-cells (drawing (freshTrack .pen) old)
-      ∙ ap (λ (cs : List ℕ). storedLate old 0 (lengthsAt table 10 cs)) cells-and-two
-      ∙ ap (storedAt old 0)
-      (lengths-one-late p (writtenCells ws) (written-cells-are-short ws) ∙ sym (lengths-by-neighbours p ws))
-
-  out-is-as-long : length (closed .out) ≡ length old
-  out-is-as-long = drawn-length _ _ _ ∙ wrote-length _ _ ws
+      rw (
+        closed-is-drawn,
+        output-by-cells (lengthTable p) half-cells (drawing (freshTrack .pen) old),
+        cells-and-two,
+        lengths-one-late p (writtenCells ws) (written-cells-are-short ws),
+        lengths-by-neighbours p ws,
+      )
 
   cells-are-counted : closed .pen .cells ≡ length (byteStream p ws) + 1
   cells-are-counted =
-      rw closed-is-drawn (cells-by-cells (lengthTable p) half-cells (drawing (freshTrack .pen) old)
-      ∙ ap (λ (cs : List ℕ). 0 + length cs) cells-and-two
-      ∙ ap (λ (n : ℕ). 0 + n) (length-append (writtenCells ws) (2 ∷ []))
-      ∙ ap (λ (n : ℕ). 0 + (n + 1)) (sym (stream-is-as-long-as-its-cells p ws))
-      ∙ omega arith)
-
-  closed-fits : length (byteStream p ws) ≤ length old → Fits closed
-  closed-fits room = rw (cells-are-counted, out-is-as-long) (omega arith)
+      rw (
+        closed-is-drawn,
+        cells-by-cells (lengthTable p) half-cells (drawing (freshTrack .pen) old),
+        cells-and-two,
+        length-append,
+        stream-is-as-long-as-its-cells,
+      ) (omega arith)
 
   -- as the writer has it: the table, and the state after the bytes, by equations
   module _ (table : List ℕ) (tables : table ≡ lengthTable p) where
-    pub bytes-hold : length (byteStream p ws) ≤ length old → Holds (wrote table (writing freshTrack old) ws)
-    bytes-hold room =
-        rw tables (fits-before (lengthTable p) _ (drawing (written .track .pen) (written .out)) (closed-fits room))
+    pub closing-fits
+        : length (byteStream p ws) ≤ length old
+        → (s : Writing)
+        → s ≡ wrote table fresh ws
+        → Fits (wordDrawn table s (closingWord (s .track .previous)))
+    closing-fits room s writes =
+        rw (writes, tables) (rw (cells-are-counted, drawn-length, wrote-length) (omega arith))
 
-    module _ (s : Writing) (writes : s ≡ wrote table (writing freshTrack old) ws) where
-      abbrev ends : Drawing
-      ends = wordDrawn table s (closingWord (s .track .previous))
+    pub bytes-hold : length (byteStream p ws) ≤ length old → Holds (wrote table fresh ws)
+    bytes-hold room = fits-before table _ _ (closing-fits room _ refl)
 
-      ends-closed : ends ≡ closed
-      ends-closed = cc (writes, tables)
-
-      pub closing-fits : length (byteStream p ws) ≤ length old → Fits ends
-      closing-fits room = rw ends-closed (closed-fits room)
-
-      pub stream-is-written
-          : (n : ℕ) (out : List ℕ)
-          → n + 1 ≡ ends .pen .cells
-          → out ≡ ends .out
-          → (n ≡ length (byteStream p ws)) × (out ≡ storedAt old 0 (byteStream p ws))
-      stream-is-written n out counts leaves =
-          let count : n + 1 ≡ length (byteStream p ws) + 1 =
-          counts ∙ ap (λ (d : Drawing). d .pen .cells) ends-closed ∙ cells-are-counted in
-          (omega arith, leaves ∙ ap (λ (d : Drawing). d .out) ends-closed ∙ stream-is-stored)
+    pub stream-is-written
+        : (s : Writing)
+        → s ≡ wrote table fresh ws
+        → (n : ℕ) (out : List ℕ)
+        → let end = wordDrawn table s (closingWord (s .track .previous)) in
+        n + 1 ≡ end .pen .cells
+        → out ≡ end .out
+        → (n ≡ length (byteStream p ws)) × (out ≡ storedAt old 0 (byteStream p ws))
+    stream-is-written s writes n out counts leaves =
+        let count : n + 1 ≡ length (byteStream p ws) + 1 = cc (cells-are-counted) in
+        (omega arith, cc (stream-is-stored))

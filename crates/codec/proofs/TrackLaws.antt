@@ -105,14 +105,10 @@ module _ (table : List ℕ) where
   holds-before s (w ∷ ws) holds =
       fits-before table _ (drawing (s .track .pen) (s .out)) (holds-before (wroteByte table s w) ws holds)
 
-  byte-length : (s : Writing) (w : ℕ) → length (wroteByte table s w .out) ≡ length (s .out)
-  unfolding wroteByte
-  byte-length s w = drawn-length table _ _
-
   pub wrote-length : (s : Writing) (ws : List ℕ) → length (wrote table s ws .out) ≡ length (s .out)
-  unfolding wrote
+  unfolding wrote wroteByte
   wrote-length s [] = refl
-  wrote-length s (w ∷ ws) = wrote-length (wroteByte table s w) ws ∙ byte-length s w
+  wrote-length s (w ∷ ws) = wrote-length (wroteByte table s w) ws ∙ drawn-length table _ _
 
   -- states that lead to the same one have outputs of one length
   pub same-length-of-whole

@@ -1,6 +1,6 @@
 -- Laws of the register's state: it stays within 16 bits, and its own two bytes clear it.
 use Prim.Native.Nat.{ℕ, _+_, _%_, _<_, _≤_}
-use mathlib.Core.Path.{_≡_, refl, ap, ap₂, _∙_}
+use mathlib.Core.Path.{_≡_, refl, _∙_}
 use mathlib.Core.Bool.{true, false, cond}
 use mathlib.Core.List.{List, [], _∷_, _++_}
 use native.Mathlib.Nat.{mod-eq-of-lt}
@@ -72,12 +72,8 @@ pub after-two-data-from :
     → afterBytes c (drop k ws)
     ≡ afterBytes (unmarked (fed (fed (c .register) (getD ws k 0)) (getD ws (k + 1) 0))) (drop (k + 2) ws)
 after-two-data-from c ws k h high low =
-    let first : Check = unmarked (fed (c .register) (getD ws k 0)) in
     let second : k + 1 + 1 ≡ k + 2 = omega arith in
-    after-bytes-from c ws k (omega arith)
-    ∙ ap (λ (s : Check). afterBytes s (drop (k + 1) ws)) (after-data c (getD ws k 0) high)
-    ∙ after-bytes-from first ws (k + 1) h
-    ∙ ap₂ (λ (s : Check) (n : ℕ). afterBytes s (drop n ws)) (after-data first (getD ws (k + 1) 0) low) second
+    rw (after-bytes-from c ws k (omega arith), after-data, after-bytes-from, after-data, second)
 
 -- ---- marks
 
@@ -97,11 +93,9 @@ mark-starts-again c w ws mark unmarked = rw (mark, unmarked)
 pub after-check-is-zero : (c : Check) → c .register < 0x10000 → afterCheck c ≡ unmarked 0
 unfolding afterCheck afterBytes
 after-check-is-zero c h =
-    let high : ℕ = highByte (c .register) in
-    let low : ℕ = lowByte (c .register) in
-    rw (after-data c high (high-byte-bound (c .register) h))
-    (after-data (unmarked (fed (c .register) high)) low (low-byte-bound (c .register))
-    ∙ ap unmarked (fed-own-bytes-is-zero (c .register) h))
+    let high = high-byte-bound (c .register) h in
+    let low = low-byte-bound (c .register) in
+    rw (after-data, after-data, fed-own-bytes-is-zero (c .register) h)
 
 -- for every list: the two bytes of its own register after it leave 0
 pub crc-of-check-bytes-is-zero : (c : Check) (ws : List ℕ) → c .register < 0x10000

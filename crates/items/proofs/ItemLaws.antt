@@ -1,9 +1,9 @@
 -- Laws of items: each follows from the tests that the definitions make, in their order.
 use Prim.Native.Nat.{ℕ, _+_, _*_, _<_, _≤_}
 use mathlib.Core.Path.{_≡_, refl, sym, _∙_}
-use mathlib.Core.Bool.{Bool, true, false, cond, _||_, true≢false}
+use mathlib.Core.Bool.{Bool, true, false, cond, _||_, or-false, false≢true}
 use mathlib.Core.List.{List, [], _∷_}
-use mathlib.Core.Logic.{_⊎_, inl, inr, ⊎-elim, ⊎-map}
+use mathlib.Core.Logic.{_⊎_, inl, inr, ⊎-map}
 use native.Mathlib.Numerals.{add-one}
 use native.Mathlib.Omega.{arith}
 use borrow.Author.Tests.{ltb-true, eqb-true, lt-ltb, ne-eqb, not-false}
@@ -40,33 +40,17 @@ pub byte-is-data-or-mark : (n : ℕ) → isByte n ≡ true → (n < 256) ⊎ (is
 unfolding isByte
 byte-is-data-or-mark n e = ⊎-map (ltb-true n 256) (λ m. m) (either (ltb n 256) (isMark n) e)
 
-pub byte-below-512 : (n : ℕ) → isByte n ≡ true → n < 512
-byte-below-512 n e =
-    ⊎-elim (λ h. omega arith) (λ m. ⊎-elim (λ q. omega arith) (λ q. omega arith) (mark-is-A1-or-C2 n m))
-    (byte-is-data-or-mark n e)
-
 pub byte-is-no-check : (n : ℕ) → isByte n ≡ true → isCheck n ≡ false
-unfolding isCheck
-byte-is-no-check n e = let h : n < 512 = byte-below-512 n e in ne-eqb n 512 (λ q. omega arith)
-
-pub byte-is-item : (n : ℕ) → isByte n ≡ true → isItem n ≡ true
-unfolding isItem
-byte-is-item n e = rw e
-
-pub item-is-byte-or-check : (n : ℕ) → isItem n ≡ true → (isByte n ≡ true) ⊎ (isCheck n ≡ true)
-unfolding isItem
-item-is-byte-or-check n e = either (isByte n) (isCheck n) e
+unfolding isCheck isByte isMark
+byte-is-no-check n e = ne-eqb n 512 (λ q. false≢true (rw q at e))
 
 pub item-but-no-check-is-byte : (n : ℕ) → isItem n ≡ true → isCheck n ≡ false → isByte n ≡ true
-item-but-no-check-is-byte n e f = ⊎-elim (λ b. b) (λ k. absurd (true≢false (sym k ∙ f))) (item-is-byte-or-check n e)
+unfolding isItem
+item-but-no-check-is-byte n e f = sym (or-false (isByte n)) ∙ (rw f at e)
 
 pub item-is-not-foreign : (n : ℕ) → isItem n ≡ true → isForeign n ≡ false
 unfolding isForeign
 item-is-not-foreign n e = rw e
-
-pub no-item-is-foreign : (n : ℕ) → isItem n ≡ false → isForeign n ≡ true
-unfolding isForeign
-no-item-is-foreign n e = rw e
 
 pub not-foreign-is-item : (n : ℕ) → isForeign n ≡ false → isItem n ≡ true
 unfolding isForeign
@@ -75,7 +59,8 @@ not-foreign-is-item n e = not-false (isItem n) e
 -- ---- a list
 
 pub bytes-are-items : (ns : List ℕ) → everywhere isByte ns ≡ true → anywhere isForeign ns ≡ false
-bytes-are-items = everywhere-is-nowhere-else isByte isForeign (λ n e. item-is-not-foreign n (byte-is-item n e))
+unfolding isForeign isItem
+bytes-are-items = everywhere-is-nowhere-else isByte isForeign (λ n e. rw e)
 
 pub bytes-have-no-check : (ns : List ℕ) → everywhere isByte ns ≡ true → anywhere isCheck ns ≡ false
 bytes-have-no-check = everywhere-is-nowhere-else isByte isCheck byte-is-no-check
@@ -94,9 +79,9 @@ pub bytes-of-others-is-1 : (n : ℕ) → isCheck n ≡ false → bytesOf n ≡ 1
 unfolding bytesOf
 bytes-of-others-is-1 n e = rw e
 
-pub bytes-of-check-is-2 : (n : ℕ) → isCheck n ≡ true → bytesOf n ≡ 2
-unfolding bytesOf
-bytes-of-check-is-2 n e = rw e
+one-byte-is-no-check : (t : Bool) → cond t 2 1 ≤ 1 → t ≡ false
+one-byte-is-no-check true h = absurd (omega arith)
+one-byte-is-no-check false h = refl
 
 pub bytes-of-bounds : (n : ℕ) → (1 ≤ bytesOf n) × (bytesOf n ≤ 2)
 unfolding bytesOf
@@ -114,14 +99,13 @@ written-bytes-bounds (n ∷ ns) =
 
 -- a list that writes no more bytes than it has numbers
 pub one-byte-each-is-no-check : (ns : List ℕ) → writtenBytes ns ≡ length ns → anywhere isCheck ns ≡ false
-unfolding writtenBytes
+unfolding writtenBytes bytesOf
 one-byte-each-is-no-check [] e = anywhere-of-none isCheck
 one-byte-each-is-no-check (n ∷ ns) e =
     let one = bytes-of-bounds n in
     let rest = written-bytes-bounds ns in
-    let other : isCheck n ≡ false =
-    ⊎-elim (λ check. absurd (omega (arith, bytes-of-check-is-2 n check))) (λ other. other) (check-or-not n) in
-    anywhere-of-failing isCheck n ns other ∙ one-byte-each-is-no-check ns (omega arith)
+    anywhere-of-failing isCheck n ns (one-byte-is-no-check (isCheck n) (omega arith))
+    ∙ one-byte-each-is-no-check ns (omega arith)
 
 -- from place k on
 pub written-bytes-from : (ns : List ℕ) (k : ℕ) → k < length ns

@@ -27,48 +27,28 @@ module _ (ns : List ℕ) where
   unfolding listRule
   rule-of-too-many-bytes n e h = rw (← e, lt-ltb 6400 n h, or-true)
 
-  -- within both counts the items decide
-  within-counts
-      : (n k : ℕ)
-      → length ns ≤ 6400
-      → n ≡ writtenBytes ns
-      → n ≤ 6400
-      → cond (anywhere isForeign ns) (refused 3 (lowest isForeign ns)) (accepted 0) ≡ listRule ns
-  unfolding listRule
-  within-counts n k few e few-bytes = rw (← e, le-ltb, le-ltb)
-
   -- a place below the length is that of a number that is no item
-  found : (t : Bool) → anywhere isForeign ns ≡ t → lowest isForeign ns < length ns → t ≡ true
-  found true e h = refl
-  found false e h = absurd (let none = lowest-of-none isForeign ns e in omega arith)
+  found : (t : Bool) → anywhere isForeign ns ≡ t → t ≡ ltb (lowest isForeign ns) (length ns)
+  found true e = sym (lt-ltb _ _ (lowest-of-some isForeign ns e))
+  found false e = rw (lowest-of-none isForeign ns e) (sym (le-ltb (length ns) (length ns) (omega arith)))
 
-  not-found : (t : Bool) → anywhere isForeign ns ≡ t → length ns ≤ lowest isForeign ns → t ≡ false
-  not-found true e h = absurd (let some = lowest-of-some isForeign ns e in omega arith)
-  not-found false e h = refl
-
-  pub rule-of-foreign
+  -- within both counts the items decide
+  pub rule-within-counts
       : (n k : ℕ)
       → length ns ≤ 6400
       → n ≡ writtenBytes ns
       → n ≤ 6400
       → k ≡ lowest isForeign ns
-      → k < length ns
-      → refused 3 k ≡ listRule ns
-  rule-of-foreign n k few e few-bytes place h =
-      let some : anywhere isForeign ns ≡ true = found (anywhere isForeign ns) refl (rw (← place) h) in
-      cc (within-counts n k few e few-bytes)
-
-  pub rule-of-accepted
-      : (n k : ℕ)
-      → length ns ≤ 6400
-      → n ≡ writtenBytes ns
-      → n ≤ 6400
-      → k ≡ lowest isForeign ns
-      → length ns ≤ k
-      → accepted 0 ≡ listRule ns
-  rule-of-accepted n k few e few-bytes place h =
-      let none : anywhere isForeign ns ≡ false = not-found (anywhere isForeign ns) refl (rw (← place) h) in
-      cc (within-counts n k few e few-bytes)
+      → cond (ltb k (length ns)) (refused 3 k) (accepted 0) ≡ listRule ns
+  unfolding listRule
+  rule-within-counts n k few e few-bytes place =
+      rw (
+        ← e,
+        le-ltb 6400 (length ns) few,
+        le-ltb 6400 n few-bytes,
+        found (anywhere isForeign ns) refl,
+        ← place,
+      )
 
 -- ---- accepted lists
 

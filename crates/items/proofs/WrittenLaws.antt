@@ -47,16 +47,13 @@ length-of-item-bytes c n =
 item-bytes-are-bytes : (c : Check) (n : ℕ) → c .register < 0x10000 → isItem n ≡ true
     → everywhere isByte (itemBytes c n) ≡ true
 item-bytes-are-bytes c n h item =
+    let high = data-is-byte (highByte (c .register)) (high-byte-bound (c .register) h) in
+    let low = data-is-byte (lowByte (c .register)) (low-byte-bound (c .register)) in
     ⊎-elim (λ check.
-    rw (item-bytes-of-check c n check)
-    (everywhere-of-passing isByte (highByte (c .register)) (lowByte (c .register) ∷ [])
-    (data-is-byte (highByte (c .register)) (high-byte-bound (c .register) h))
-    ∙ byte-alone (lowByte (c .register)) (data-is-byte (lowByte (c .register)) (low-byte-bound (c .register)))))
-    (λ other. rw (item-bytes-of-byte c n other) (byte-alone n (item-but-no-check-is-byte n item other)))
-    (check-or-not n)
-  where
-    byte-alone : (w : ℕ) → isByte w ≡ true → everywhere isByte (w ∷ []) ≡ true
-    byte-alone w e = everywhere-of-passing isByte w [] e ∙ everywhere-of-none isByte
+    rw (item-bytes-of-check c n check, everywhere-of-passing, everywhere-of-passing, everywhere-of-none))
+    (λ other.
+    let byte = item-but-no-check-is-byte n item other in
+    rw (item-bytes-of-byte c n other, everywhere-of-passing, everywhere-of-none)) (check-or-not n)
 
 -- ---- one item after the other
 

@@ -20,21 +20,10 @@ module _
     (P : Bool → List Bit → Type 0) (data-bit : (t : Bool) (bs : List Bit) → P t bs → (u : Bool) → P u (letter t ∷ bs))
     (mark-gap : (bs : List Bit) → P false bs → P true (O ∷ G ∷ O ∷ O ∷ bs))
   where
-    eight-bits :
-        (a b c d e f g h : Bool)
-        → (bs : List Bit)
-        → P h bs
-        → (u : Bool)
-        → P u (letter a ∷ letter b ∷ letter c ∷ letter d ∷ letter e ∷ letter f ∷ letter g ∷ letter h ∷ bs)
-    eight-bits a b c d e f g h bs p =
-        data-bit a _ (data-bit b _ (data-bit c _ (data-bit d _
-        (data-bit e _ (data-bit f _ (data-bit g _ (data-bit h bs p g) f) e) d) c) b) a)
-
     data-byte : (w : ℕ) (bs : List Bit) → ((t : Bool) → P t bs) → (u : Bool) → P u (byteBits w ++ bs)
     unfolding byteBits
     data-byte w bs p =
-        eight-bits (eqb (w / 128 % 2) 1) (eqb (w / 64 % 2) 1) (eqb (w / 32 % 2) 1) (eqb (w / 16 % 2) 1)
-        (eqb (w / 8 % 2) 1) (eqb (w / 4 % 2) 1) (eqb (w / 2 % 2) 1) (eqb (w / 1 % 2) 1) bs (p _)
+        data-bit (eqb (w / 128 % 2) 1) _ (data-bit (eqb (w / 64 % 2) 1) _ (data-bit (eqb (w / 32 % 2) 1) _ (data-bit (eqb (w / 16 % 2) 1) _ (data-bit (eqb (w / 8 % 2) 1) _ (data-bit (eqb (w / 4 % 2) 1) _ (data-bit (eqb (w / 2 % 2) 1) _ (data-bit (eqb (w / 1 % 2) 1) bs (p _) _) _) _) _) _) _) _)
 
     mark-a1 : (bs : List Bit) → P true bs → (u : Bool) → P u (markBits 0xa1 ++ bs)
     unfolding markBits withGaps byteBits

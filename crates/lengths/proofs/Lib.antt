@@ -3,7 +3,6 @@ pub mod RunLaws
 pub mod StreamLaws
 pub mod NearLaws
 pub mod WindowLaws
-pub mod WitnessLaws
 pub mod MarginLaws
 pub mod ShiftLaws
 pub mod PointLaws

@@ -13,15 +13,16 @@ use Rattle.timing.specs.Class.{classOf, classNumber}
 use Rattle.timing.specs.declared.Profile.{Profile}
 use Rattle.timing.specs.declared.Class.{Class}
 use Rattle.timing.specs.declared.Class.the-variants.{Narrow, Two, Three, Four, Wide}
+use Rattle.items.specs.Item.{isMark}
+use Rattle.symbols.specs.Bits.{byteBits, writtenBits, allBits, bitsOf}
+use Rattle.symbols.specs.Cells.{pairSymbols, symbolsFrom, symbolsOf, writtenSymbols}
+use Rattle.lengths.specs.Lengths.{point, symbolAfter, cellLength, lengthsFrom, lengthsOf}
 use Rattle.lengths.specs.Stream.{byteStream}
 use Rattle.lengths.specs.Margin.{marginOf}
 use Rattle.timing.proofs.ProfileLaws.{Kept}
 use Rattle.timing.proofs.ClassLaws.{class-below-min-is-narrow, class-below-b23-is-two, class-below-b34-is-three}
 use Rattle.timing.proofs.ClassLaws.{class-below-rpt-is-four, class-from-rpt-is-wide}
 use Rattle.lengths.proofs.WindowLaws.{Spare}
-use Rattle.lengths.proofs.WitnessLaws.{Taken, shortest-two-is-taken, longest-two-is-taken}
-use Rattle.lengths.proofs.WitnessLaws.{shortest-three-is-taken, longest-three-is-taken}
-use Rattle.lengths.proofs.WitnessLaws.{shortest-four-is-taken, longest-four-is-taken}
 
 -- ---- the margin fits in every room
 
@@ -70,65 +71,38 @@ pub record Broken (p : Profile) (n : ℕ) : Type 0 where
 classes-differ : {a b : Class} (c e : Class) → a ≡ c → b ≡ e → (classNumber c ≡ classNumber e → ⊥) → a ≡ b → ⊥
 classes-differ c e ac be differ same = differ (cc)
 
-broken-at :
-    {p : Profile} {b place l : ℕ} (n d : ℕ)
-    → Taken p b place l
+-- the length l stands at a place of a one-byte list's stream
+broken-at
+    : {p : Profile} (b place l n d : ℕ)
+    → place < length (byteStream p (b ∷ []))
+    → getD (byteStream p (b ∷ [])) place 0 ≡ l
     → b < 256
     → d < 65536
     → d ≤ l + n
     → l ≤ d + n
     → (classOf p d ≡ classOf p l → ⊥)
     → Broken p n
-broken-at {p} {b} {place} {l} n d t byte fits longer shorter other =
+broken-at b place l n d inside there byte fits longer shorter other =
     record {
       byte = b;
       is-byte = byte;
       place = place;
-      in-stream = t .in-stream;
+      in-stream = inside;
       moved = d;
       fits = fits;
-      not-longer = rw (t .is-there) longer;
-      not-shorter = rw (t .is-there) shorter;
-      other-class = rw (t .is-there) other;
+      not-longer = rw there longer;
+      not-shorter = rw there shorter;
+      other-class = rw there other;
     }
 
+-- opens every definition on the way from a byte to its stream
+opened : Unit {0}
+unfolding
+    byteStream lengthsOf lengthsFrom cellLength point symbolAfter
+    writtenSymbols symbolsOf symbolsFrom pairSymbols bitsOf allBits writtenBits isMark byteBits
+opened = tt
+
 module _ {p : Profile} (k : Kept p) (n : ℕ) where
-  broken-below-two : p .t1 .0 - swing p - p .min .0 < n → Broken p n
-  broken-below-two h =
-      broken-at n (p .min .0 - 1) (shortest-two-is-taken k) (lit< tt) (omega arith) (omega arith) (omega arith)
-      (classes-differ Narrow Two (class-below-min-is-narrow p _ (omega arith))
-      (class-below-b23-is-two p _ (omega arith) (omega arith)) (omega arith))
-
-  broken-above-two : p .b23 .0 - 1 - p .t1 .0 < n → Broken p n
-  broken-above-two h =
-      broken-at n (p .b23 .0) (longest-two-is-taken k) (lit< tt) (omega arith) (omega arith) (omega arith)
-      (classes-differ Three Two (class-below-b34-is-three p _ (omega arith) (omega arith) (omega arith))
-      (class-below-b23-is-two p _ (omega arith) (omega arith)) (omega arith))
-
-  broken-below-three : p .t1 .0 + p .t0 .0 - p .b23 .0 < n → Broken p n
-  broken-below-three h =
-      broken-at n (p .b23 .0 - 1) (shortest-three-is-taken k) (lit< tt) (omega arith) (omega arith) (omega arith)
-      (classes-differ Two Three (class-below-b23-is-two p _ (omega arith) (omega arith))
-      (class-below-b34-is-three p _ (omega arith) (omega arith) (omega arith)) (omega arith))
-
-  broken-above-three : p .b34 .0 - 1 - (p .t1 .0 + p .t0 .0 + swing p) < n → Broken p n
-  broken-above-three h =
-      broken-at n (p .b34 .0) (longest-three-is-taken k) (lit< tt) (omega arith) (omega arith) (omega arith)
-      (classes-differ Four Three (class-below-rpt-is-four p _ (omega arith) (omega arith) (omega arith) (omega arith))
-      (class-below-b34-is-three p _ (omega arith) (omega arith) (omega arith)) (omega arith))
-
-  broken-below-four : p .t1 .0 + 2 * p .t0 .0 - p .b34 .0 < n → Broken p n
-  broken-below-four h =
-      broken-at n (p .b34 .0 - 1) (shortest-four-is-taken k) (lit< tt) (omega arith) (omega arith) (omega arith)
-      (classes-differ Three Four (class-below-b34-is-three p _ (omega arith) (omega arith) (omega arith))
-      (class-below-rpt-is-four p _ (omega arith) (omega arith) (omega arith) (omega arith)) (omega arith))
-
-  broken-above-four : p .rpt .0 - 1 - (p .t1 .0 + 2 * p .t0 .0 + swing p) < n → Broken p n
-  broken-above-four h =
-      broken-at n (p .rpt .0) (longest-four-is-taken k) (lit< tt) (omega arith) (omega arith) (omega arith)
-      (classes-differ Wide Four (class-from-rpt-is-wide p _ (omega arith) (omega arith) (omega arith) (omega arith))
-      (class-below-rpt-is-four p _ (omega arith) (omega arith) (omega arith) (omega arith)) (omega arith))
-
   broken-by-either : {a b : ℕ} → (a < n → Broken p n) → (b < n → Broken p n) → min a b < n → Broken p n
   broken-by-either {a} {b} f g h = decided (decLt a n)
     where
@@ -136,9 +110,36 @@ module _ {p : Profile} (k : Kept p) (n : ℕ) where
       decided (yes l) = f l
       decided (no m) = g (omega arith)
 
+  -- the shortest and the longest length of each class is one that a one-byte list has
   pub above-margin-is-broken : marginOf p < n → Broken p n
-  unfolding marginOf
+  unfolding marginOf opened
   above-margin-is-broken =
-      broken-by-either (broken-by-either broken-below-two broken-above-two)
-      (broken-by-either (broken-by-either broken-below-three broken-above-three)
-      (broken-by-either broken-below-four broken-above-four))
+      broken-by-either
+      (broken-by-either
+      (λ h. broken-at 0x03 7 (p .t1 .0 - swing p) n (p .min .0 - 1) (lit< tt) (omega arith) (lit< tt)
+      (omega arith) (omega arith) (omega arith)
+      (classes-differ Narrow Two (class-below-min-is-narrow p _ (omega arith))
+      (class-below-b23-is-two p _ (omega arith) (omega arith)) (omega arith)))
+      (λ h. broken-at 0x00 0 (p .t1 .0) n (p .b23 .0) (lit< tt) (omega arith) (lit< tt)
+      (omega arith) (omega arith) (omega arith)
+      (classes-differ Three Two (class-below-b34-is-three p _ (omega arith) (omega arith) (omega arith))
+      (class-below-b23-is-two p _ (omega arith) (omega arith)) (omega arith))))
+      (broken-by-either
+      (broken-by-either
+      (λ h. broken-at 0x09 5 (p .t1 .0 + p .t0 .0) n (p .b23 .0 - 1) (lit< tt) (omega arith) (lit< tt)
+      (omega arith) (omega arith) (omega arith)
+      (classes-differ Two Three (class-below-b23-is-two p _ (omega arith) (omega arith))
+      (class-below-b34-is-three p _ (omega arith) (omega arith) (omega arith)) (omega arith)))
+      (λ h. broken-at 0x03 6 (p .t1 .0 + p .t0 .0 + swing p) n (p .b34 .0) (lit< tt) (omega arith) (lit< tt)
+      (omega arith) (omega arith) (omega arith)
+      (classes-differ Four Three (class-below-rpt-is-four p _ (omega arith) (omega arith) (omega arith) (omega arith))
+      (class-below-b34-is-three p _ (omega arith) (omega arith) (omega arith)) (omega arith))))
+      (broken-by-either
+      (λ h. broken-at 0x05 6 (p .t1 .0 + 2 * p .t0 .0) n (p .b34 .0 - 1) (lit< tt) (omega arith) (lit< tt)
+      (omega arith) (omega arith) (omega arith)
+      (classes-differ Three Four (class-below-b34-is-three p _ (omega arith) (omega arith) (omega arith))
+      (class-below-rpt-is-four p _ (omega arith) (omega arith) (omega arith) (omega arith)) (omega arith)))
+      (λ h. broken-at 0x1b 5 (p .t1 .0 + 2 * p .t0 .0 + swing p) n (p .rpt .0) (lit< tt) (omega arith) (lit< tt)
+      (omega arith) (omega arith) (omega arith)
+      (classes-differ Wide Four (class-from-rpt-is-wide p _ (omega arith) (omega arith) (omega arith) (omega arith))
+      (class-below-rpt-is-four p _ (omega arith) (omega arith) (omega arith) (omega arith)) (omega arith)))))

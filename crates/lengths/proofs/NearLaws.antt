@@ -26,7 +26,7 @@ pub near-at :
     → (k : ℕ)
     → (getD ds k 0 ≤ getD ls k 0 + m) × (getD ls k 0 ≤ getD ds k 0 + m)
 unfolding Near
-near-at m [] [] n k = (omega arith, omega arith)
+near-at m [] [] n k = omega arith
 near-at m [] (l ∷ ls) n k = absurd n
 near-at m (d ∷ ds) [] n k = absurd n
 near-at m (d ∷ ds) (l ∷ ls) n zero = (n .0, n .1)

@@ -3,7 +3,7 @@
 use Prim.Native.Nat.{ℕ, zero, suc, _+_, _-_, _*_}
 use native.Mathlib.Omega.{arith}
 use mathlib.Core.Path.{_≡_, refl, sym, ap, ap₂, _∙_}
-use mathlib.Core.Bool.{Bool, true, false}
+use mathlib.Core.Bool.{Bool, true, false, _&&_, and-true, and-false}
 use mathlib.Core.List.{List, [], _∷_, _++_}
 use lib.Dec.{eqb}
 use borrow.Author.Tests.{ne-eqb}
@@ -22,19 +22,8 @@ two-units zero = refl
 two-units (suc z) = sym (ne-eqb (suc (suc (suc z))) 2 (λ e. omega arith))
 
 -- the symbol after the start of the open cell, which has so many zeros already
-unfoldable afterStart : ℕ → List Bool → Bool
-afterStart zero ss = symbolAfter ss
-afterStart (suc z) ss = false
-
-after-start-of-zero : (zeros : ℕ) (ss : List Bool) → afterStart zeros (false ∷ ss) ≡ false
-unfolding afterStart symbolAfter
-after-start-of-zero zero ss = refl
-after-start-of-zero (suc z) ss = refl
-
-after-start-of-one : (zeros : ℕ) (ss : List Bool) → afterStart zeros (true ∷ ss) ≡ noZero zeros
-unfolding afterStart symbolAfter
-after-start-of-one zero ss = refl
-after-start-of-one (suc z) ss = refl
+abbrev afterStart : ℕ → List Bool → Bool
+afterStart zeros ss = noZero zeros && symbolAfter ss
 
 -- symbols that end in a 1
 abbrev closed : List Bool → List Bool
@@ -71,20 +60,20 @@ module _ (p : Profile) where
       : (ss : List Bool) (before zeros : ℕ)
       → lengthsFrom p (point p (eqb before 2) (afterStart zeros (closed ss))) zeros (noZero zeros) (closed ss)
       ≡ lengthsBetween p before (cellsFrom (suc (suc zeros)) (closed ss))
-  unfolding lengthsFrom lengthsBetween nextCell cellsFrom symbolAfter afterStart
+  unfolding lengthsFrom lengthsBetween nextCell cellsFrom symbolAfter
   lengths-from-by-neighbours [] before zeros =
-      cc (cell-between before zeros 2 _ true (after-start-of-one zeros []) refl)
+      cc (cell-between before zeros 2 _ true (and-true (noZero zeros)) refl)
   lengths-from-by-neighbours (false ∷ ss) before zeros =
-      cc (after-start-of-zero zeros (closed ss), lengths-from-by-neighbours ss before (suc zeros))
+      cc (and-false (noZero zeros), lengths-from-by-neighbours ss before (suc zeros))
   lengths-from-by-neighbours (true ∷ ss) before zeros =
-      ap₂ (λ (l : ℕ) (ls : List ℕ). l ∷ ls)
-      (cell-between before zeros _ _ (symbolAfter (closed ss)) (after-start-of-one zeros (closed ss))
+      ap₂ _∷_
+      (cell-between before zeros _ _ (symbolAfter (closed ss)) (and-true (noZero zeros))
       (symbol-after-by-next ss))
       (ap (λ (t : Bool). lengthsFrom p (point p t (symbolAfter (closed ss))) 0 true (closed ss)) (two-units zeros)
       ∙ lengths-from-by-neighbours ss (suc (suc zeros)) 0)
 
 pub lengths-by-neighbours : LengthsByNeighbours
-unfolding byteStream lengthsOf writtenCells cellsOf afterStart
+unfolding byteStream lengthsOf writtenCells cellsOf
 lengths-by-neighbours p ws =
     let ends = written-symbols-end-in-one ws in rw (ends .1) (lengths-from-by-neighbours p (ends .0) 2 0)
 

@@ -1,12 +1,11 @@
 -- Why the operation's number is the paper's margin: it leaves room, so every length within it keeps the class of its
 -- cell's units; and whatever number keeps every class is no larger, since a larger one breaks the class of an interval
 -- of a one-byte list.
-use Prim.Native.Nat.{ℕ, _≤_, _<_}
+use Prim.Native.Nat.{ℕ, _<_}
 use native.Mathlib.Omega.{arith}
 use native.Mathlib.Decide.{decLe}
 use mathlib.Core.Path.{_≡_, sym, _∙_}
 use mathlib.Core.List.{[], _∷_}
-use lib.ListN.{getD}
 use borrow.Author.Tests.{lt-ltb, ne-eqb}
 use Rattle.lists.specs.Place.{anywhere}
 use Rattle.items.specs.Item.{isByte, isItem, isCheck, isForeign, bytesOf, writtenBytes}
@@ -19,9 +18,9 @@ use Rattle.symbols.specs.Cells.{writtenCells}
 use Rattle.lengths.specs.Stream.{byteStream, streamOf}
 use Rattle.lengths.specs.Margin.{Keeps, marginOf}
 use Rattle.lengths.specs.Claims.{MarginIsThePapers}
-use Rattle.timing.proofs.ProfileLaws.{Kept, kept}
+use Rattle.timing.proofs.ProfileLaws.{kept}
 use Rattle.lengths.proofs.StreamLaws.{window-at, stream-has-windows}
-use Rattle.lengths.proofs.WindowLaws.{Spare, near-length-has-class}
+use Rattle.lengths.proofs.WindowLaws.{near-length-has-class}
 use Rattle.lengths.proofs.MarginLaws.{margin-leaves-room, Broken, above-margin-is-broken}
 
 -- ---- a list of one data byte is accepted, and it is what is written
@@ -36,28 +35,25 @@ one-byte-is-written p b h = cc (written-of-no-check (b ∷ []) (rw (byte-is-no-c
 
 -- ---- the margin keeps every class, and nothing larger does
 
-room-keeps-classes : {p : Profile} → Kept p → (m : ℕ) → Spare p m → Keeps p m
-unfolding streamOf
-room-keeps-classes {p} k m s items ok i h d above below =
-    let us = writtenCells (written items) in
-    let ls = byteStream p (written items) in
-    let w = window-at us ls (stream-has-windows k (written items)) i h in
-    near-length-has-class s d w above below ∙ sym (near-length-has-class s (getD ls i 0) w (omega arith) (omega arith))
-
 broken-is-not-kept : {p : Profile} (n : ℕ) → Broken p n → Keeps p n → ⊥
 broken-is-not-kept {p} n x keeps =
     let accepted = keeps (x .byte ∷ []) (one-byte-is-accepted (x .byte) (x .is-byte)) in
     let kept = rw (one-byte-is-written p (x .byte) (x .is-byte)) at accepted in
     x .other-class (kept (x .place) (x .in-stream) (x .moved) (x .not-longer) (x .not-shorter))
 
-kept-is-within : {p : Profile} → Kept p → (n : ℕ) → Keeps p n → n ≤ marginOf p
-kept-is-within {p} k n keeps = decided (decLe n (marginOf p))
-  where
-    decided : Dec (n ≤ marginOf p) → n ≤ marginOf p
-    decided (yes h) = h
-    decided (no h) = absurd (broken-is-not-kept n (above-margin-is-broken k n (omega arith)) keeps)
-
 pub margin-is-the-papers : MarginIsThePapers
+unfolding streamOf
 margin-is-the-papers p ok =
     let k = kept p ok in
-    record { keeps = room-keeps-classes k (marginOf p) (margin-leaves-room k); largest = kept-is-within k }
+    let s = margin-leaves-room k in
+    record {
+      keeps =
+          λ items listed i h d above below.
+          let w = window-at (writtenCells (written items)) _ (stream-has-windows k (written items)) i h in
+          near-length-has-class s d w above below ∙ sym (near-length-has-class s _ w (omega arith) (omega arith));
+      largest =
+          λ n keeps. elim (decLe n (marginOf p)) [
+            | yes h ↦ h
+            | no h ↦ absurd (broken-is-not-kept n (above-margin-is-broken k n (omega arith)) keeps)
+          ];
+    }

@@ -13,10 +13,10 @@ pub point-is-in-range :
     → (before after : Bool)
     → (p .early .0 ≤ point p before after) × (point p before after ≤ p .late .0)
 unfolding point
-point-is-in-range k true true = (omega arith, omega arith)
-point-is-in-range k true false = (omega arith, omega arith)
-point-is-in-range k false true = (omega arith, omega arith)
-point-is-in-range k false false = (omega arith, omega arith)
+point-is-in-range k true true = omega arith
+point-is-in-range k true false = omega arith
+point-is-in-range k false true = omega arith
+point-is-in-range k false false = omega arith
 
 -- as a caller of `point` has it
 pub answered-point-is-in-range

@@ -1,6 +1,6 @@
 -- Why every length is positive and nothing of it is cut off: compare points lie between Early and Late, so a shift
 -- takes away D at most, and T1 is longer than D by Min or more. Rests on no axiom.
-use Prim.Native.Nat.{ℕ, suc, _-_, _≤_}
+use Prim.Native.Nat.{ℕ, suc, _≤_}
 use native.Mathlib.Omega.{arith}
 use mathlib.Core.Path.{sym}
 use mathlib.Core.Bool.{Bool, true, false}

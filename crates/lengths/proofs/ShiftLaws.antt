@@ -30,7 +30,7 @@ difference-from-enough a (suc s) h = rw (le-ltb a (suc s) h)
 pub signed-sum : (n s e : ℕ) → s ≤ n + e → pos n +ℤ (pos e -ℤ pos s) ≡ pos (n + e - s)
 signed-sum n s e enough = sym (+ℤ-assoc (pos n) (pos e) (negℤ (pos s))) ∙ difference-from-enough (n + e) s enough
 
-module _ (n s e : ℕ) (enough : s ≤ n + e) (small : n + e < 65536) where
+module _ (n s e : ℕ) (fits : (s ≤ n + e) × (n + e < 65536)) where
   pub shift-fits : SFits w32 (toZ w32 e -ℤ toZ w32 s)
   shift-fits =
       rw (toZ-pos w32 {n = e} (omega arith), toZ-pos w32 {n = s} (omega arith))
@@ -40,7 +40,7 @@ module _ (n s e : ℕ) (enough : s ≤ n + e) (small : n + e < 65536) where
   shifted-length =
       ap₂ (λ (x y : ℤ). x +ℤ y) (toZ-pos w32 {n = n} (omega arith)) (toZ-ofZ shift-fits
       ∙ ap₂ (λ (x y : ℤ). x -ℤ y) (toZ-pos w32 {n = e} (omega arith)) (toZ-pos w32 {n = s} (omega arith)))
-      ∙ signed-sum n s e enough
+      ∙ signed-sum n s e (fits .0)
 
   pub shifted-fits : SFits w32 (toZ w32 n +ℤ toZ w32 (ofZ w32 (toZ w32 e -ℤ toZ w32 s)))
   shifted-fits = rw shifted-length (record { sfits = omega arith })

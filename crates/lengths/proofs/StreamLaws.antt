@@ -125,9 +125,6 @@ window-fits k (two low high) = omega arith
 window-fits k (three low high) = omega arith
 window-fits k (four low high) = omega arith
 
-module _ {p : Profile} (k : Kept p) (ws : List ℕ) (i : ℕ) (h : i < length (byteStream p ws)) where
-  window-of-length : Window p (getD (byteStream p ws) i 0) (getD (writtenCells ws) i 0)
-  window-of-length = window-at (writtenCells ws) (byteStream p ws) (stream-has-windows k ws) i h
-
-  pub length-fits : getD (byteStream p ws) i 0 < 65536
-  length-fits = window-fits k window-of-length
+pub length-fits
+    : {p : Profile} → Kept p → (ws : List ℕ) (i : ℕ) → i < length (byteStream p ws) → getD (byteStream p ws) i 0 < 65536
+length-fits k ws i h = window-fits k (window-at (writtenCells ws) _ (stream-has-windows k ws) i h)

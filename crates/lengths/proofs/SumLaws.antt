@@ -34,12 +34,6 @@ cell-adds
 cell-adds a b start end rest left ones zeros last enough e = omega arith
 
 module _ {p : Profile} (k : Kept p) where
-  shift-is-less
-      : (zeros start : ℕ) (before after : Bool)
-      → start ≤ p .late .0
-      → 2 * start ≤ p .t1 .0 + zeros * p .t0 .0 + 2 * point p before after
-  shift-is-less zeros start before after h = omega (arith, k, point-is-in-range k before after)
-
   sum-from
       : (ss : List Bool) (start zeros : ℕ) (before : Bool)
       → start ≤ p .late .0
@@ -55,9 +49,9 @@ module _ {p : Profile} (k : Kept p) where
   sum-from (true ∷ ss) start zeros before h =
       let end = point p before (symbolAfter ss) in
       let rest = lengthsFrom p end 0 true ss in
+      let range = point-is-in-range k before (symbolAfter ss) in
       cell-adds (p .t1 .0) (zeros * p .t0 .0) start end (sumOf rest) _ (length rest * p .t1 .0) (zerosIn ss * p .t0 .0)
-      _ (shift-is-less zeros start before (symbolAfter ss) h)
-      (sum-from ss end 0 true (point-is-in-range k before (symbolAfter ss) .1)
+      _ (omega (arith, k, range)) (sum-from ss end 0 true (range .1)
       ∙ ap (λ (n : ℕ). length rest * p .t1 .0 + n * p .t0 .0 + 2 * lastPointFrom p end true ss) (omega arith))
       ∙ omega (arith, add-mul zeros (zerosIn ss) (p .t0 .0))
 
@@ -95,18 +89,21 @@ written-symbols-end-in-one ws = ends-in-one O (allBits ws)
 module _ {p : Profile} (k : Kept p) where
   point-after-one : (after : Bool) → (p .early .0 ≤ point p true after) × (point p true after ≤ p .normal .0)
   unfolding point
-  point-after-one true = (omega arith, omega arith)
-  point-after-one false = (omega arith, omega arith)
+  point-after-one true = omega arith
+  point-after-one false = omega arith
 
   last-before-one
       : (ss : List Bool) (at : ℕ) (before : Bool)
       → (p .normal .0 ≤ lastPointFrom p at before (ss ++ (true ∷ [])))
       × (lastPointFrom p at before (ss ++ (true ∷ [])) ≤ p .late .0)
   unfolding lastPointFrom symbolAfter point
-  last-before-one [] at true = (omega arith, omega arith)
-  last-before-one [] at false = (omega arith, omega arith)
+  last-before-one [] at true = omega arith
+  last-before-one [] at false = omega arith
   last-before-one (false ∷ ss) at before = last-before-one ss at false
   last-before-one (true ∷ ss) at before = last-before-one ss _ true
+
+none-open : (ws : List ℕ) → openZeros 0 (writtenSymbols ws) ≡ 0
+none-open ws = let ends = written-symbols-end-in-one ws in cc (closed-by-one (ends .0) 0)
 
 module _ (p : Profile) (k : Kept p) (ws : List ℕ) where
   -- cells × T1 and 0s × T0, and the two outer compare points
@@ -116,19 +113,15 @@ module _ (p : Profile) (k : Kept p) (ws : List ℕ) where
       + 2 * lastPoint p (writtenSymbols ws)
   unfolding byteStream lengthsOf firstPoint lastPoint
   sum-of-stream =
-      let ends = written-symbols-end-in-one ws in
-      let closed : openZeros 0 (writtenSymbols ws) ≡ 0 = cc (closed-by-one (ends .0) 0) in
       let first = point-is-in-range k true (symbolAfter (writtenSymbols ws)) in
-      omega (arith, rw closed at (sum-from k (writtenSymbols ws) _ 0 true (first .1)))
+      omega (arith, rw (none-open ws) at (sum-from k (writtenSymbols ws) _ 0 true (first .1)))
 
   -- a cell has 2 units and one for each 0
   pub units-of-stream
       : sumOf (writtenCells ws) ≡ 2 * length (byteStream p ws) + zerosIn (writtenSymbols ws)
   unfolding writtenCells cellsOf
   units-of-stream =
-      let ends = written-symbols-end-in-one ws in
-      let closed : openZeros 0 (writtenSymbols ws) ≡ 0 = cc (closed-by-one (ends .0) 0) in
-      omega (arith, rw closed at (units-from (writtenSymbols ws) 0), stream-is-as-long-as-its-cells p ws)
+      omega (arith, none-open ws, units-from (writtenSymbols ws) 0, stream-is-as-long-as-its-cells p ws)
 
   -- the first transition has a symbol 1 before it
   pub first-point-is-early

@@ -8,7 +8,6 @@ use mathlib.Core.List.{List, [], _∷_, map}
 use Rattle.timing.specs.Profile.{swing}
 use Rattle.timing.specs.Class.{classOf, classesOf}
 use Rattle.timing.specs.declared.Profile.{Profile}
-use Rattle.timing.specs.declared.Class.{Class}
 use Rattle.symbols.specs.Cells.{writtenCells}
 use Rattle.lengths.specs.Stream.{byteStream}
 use Rattle.lengths.specs.Units.{classOfUnits}
@@ -47,7 +46,7 @@ module _ {p : Profile} {m : ℕ} (s : Spare p m) where
   near-lengths-have-classes (u ∷ us) (l ∷ ls) [] w n = absurd n
   near-lengths-have-classes (u ∷ us) (l ∷ ls) (d ∷ ds) w n =
       classes-of-cons p d ds
-      ∙ ap₂ (λ (c : Class) (cs : List Class). c ∷ cs) (near-length-has-class d (w .0) (n .0) (n .1))
+      ∙ ap₂ _∷_ (near-length-has-class d (w .0) (n .0) (n .1))
       (near-lengths-have-classes us ls ds (w .1) (n .2))
 
   pub near-stream-has-classes :

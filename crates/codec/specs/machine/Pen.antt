@@ -4,7 +4,8 @@ use Prim.Native.Nat.{ℕ, zero, suc, _+_, _-_, _*_, _%_, _^_, _≤_, _<_}
 use mathlib.Core.Path.{_≡_}
 use mathlib.Core.Bool.{cond}
 use mathlib.Core.List.{List, [], _∷_}
-use lib.ListN.{length, getD, set}
+use lib.ListN.{length, getD, drop}
+use Rattle.lists.specs.Filled.{storedAt}
 use Rattle.symbols.specs.Bits.{Bit, isOne}
 use Rattle.images.specs.machine.TopBits.{topBits}
 use Rattle.codec.specs.declared.pen.Pen.{Pen}
@@ -18,31 +19,28 @@ pub record Drawing : Type 0 where
 abbrev pub drawing : Pen → List ℕ → Drawing
 drawing pen out = record { pen = pen; out = out }
 
+abbrev pub penAt : ℕ → ℕ → ℕ → Pen
+penAt since window cells = record { since = since; window = window; cells = cells }
+
 -- the window after a cell: the units of the last three cells, modulo 64, as the table of lengths has them
 unfoldable pub turned : ℕ → ℕ → ℕ
 turned window cell = (window % 16 * 4 + cell) % 64
 
--- the output with the length of the cell before the last of so many
-unfoldable pub storedBefore : List ℕ → ℕ → ℕ → List ℕ
-storedBefore old zero n = old
-storedBefore old (suc k) n = set old k n
+-- the output with lengths that are given after so many cells, each one cell late
+unfoldable pub storedLate : List ℕ → ℕ → List ℕ → List ℕ
+storedLate old zero ls = storedAt old 0 (drop 1 ls)
+storedLate old (suc k) ls = storedAt old k ls
 
 -- a one ends a cell
 unfoldable pub ended : List ℕ → Drawing → Drawing
 ended table d =
-    record {
-      pen =
-          record { since = 1; window = turned (d .pen .window) (d .pen .since); cells = d .pen .cells + 1 };
-      out = storedBefore (d .out) (d .pen .cells) (getD table (turned (d .pen .window) (d .pen .since)) 0);
-    }
+    let window = turned (d .pen .window) (d .pen .since) in
+    drawing (penAt 1 window (d .pen .cells + 1))
+    (storedLate (d .out) (d .pen .cells) (getD table window 0 ∷ []))
 
 -- a zero does not
 unfoldable pub passed : Drawing → Drawing
-passed d =
-    record {
-      pen = record { since = suc (d .pen .since); window = d .pen .window; cells = d .pen .cells };
-      out = d .out;
-    }
+passed d = drawing (penAt (suc (d .pen .since)) (d .pen .window) (d .pen .cells)) (d .out)
 
 unfoldable pub drawn : List ℕ → Drawing → List Bit → Drawing
 drawn table d [] = d
@@ -58,11 +56,13 @@ Fits d = d .pen .cells ≤ length (d .out) + 1
 
 -- ---- within a word
 
+abbrev pub restAt : ℕ → ℕ → ℕ → ℕ → Rest
+restAt last window cells ones = record { last = last; window = window; cells = cells; ones = ones }
+
 -- the rest of a word, drawn
 abbrev pub restDrawn : List ℕ → List ℕ → Rest → Drawing
 restDrawn table out rest =
-    drawn table (drawing (record { since = 1; window = rest .window; cells = rest .cells }) out)
-    (topBits (rest .last) (rest .ones))
+    drawn table (drawing (penAt 1 (rest .window) (rest .cells)) out) (topBits (rest .last) (rest .ones))
 
 -- the ones stand below the last one, and no place is too large
 pub record Pending (rest : Rest) : Type 0 where
@@ -77,12 +77,7 @@ Highest ones place = (2 ^ place ≤ ones) × (ones < 2 ^ suc place)
 -- what is left behind the one at a place
 abbrev pub behind : Rest → ℕ → Rest
 behind rest place =
-    record {
-      last = place;
-      window = turned (rest .window) (rest .last - place);
-      cells = rest .cells + 1;
-      ones = rest .ones - 2 ^ place;
-    }
+    restAt place (turned (rest .window) (rest .last - place)) (rest .cells + 1) (rest .ones - 2 ^ place)
 
 -- half cells that a pen can draw at once
 abbrev pub Drawable : Pen → ℕ → ℕ → Type 0

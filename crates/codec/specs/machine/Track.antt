@@ -6,7 +6,7 @@ use mathlib.Core.List.{List, [], _∷_}
 use lib.Dec.{eqb}
 use Rattle.words.specs.Words.{wordOf, lastBit}
 use Rattle.images.specs.machine.TopBits.{topBits}
-use Rattle.codec.specs.machine.Pen.{Drawing, drawing, drawn, Fits}
+use Rattle.codec.specs.machine.Pen.{Drawing, drawing, penAt, drawn, Fits}
 use Rattle.codec.specs.declared.track.Track.{Track}
 
 -- a track and the output
@@ -19,7 +19,7 @@ writing track out = record { track = track; out = out }
 
 -- after the lead 0, whose half cells are 1 0; a missing cell before counts as one of 2 units
 abbrev pub freshTrack : Track
-freshTrack = record { pen = record { since = 2; window = 4 * 2 + 2; cells = 0 }; previous = 0 }
+freshTrack = record { pen = penAt 2 (4 * 2 + 2) 0; previous = 0 }
 
 -- the lengths so far have places
 abbrev pub Holds : Writing → Type 0

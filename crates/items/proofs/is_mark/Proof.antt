@@ -4,13 +4,7 @@ use Rattle.items.specs.Item.{isMark}
 use Rattle.items.proofs.is_mark.Statement.{statement}
 use Rattle.items.proofs.is_mark.Tie as tie
 
-returns : tie.Need-returns
-unfolding isMark
-returns c = rw (eq-eqb _ _ (c .if1 .taken))
-
-returns-2 : tie.Need-returns-2
-unfolding isMark
-returns-2 c = rw (ne-eqb _ _ (c .if1 .left))
-
 pub is-mark-spec : {M : Type 1} → statement M
-is-mark-spec = tie.close (tie.spec returns returns-2)
+unfolding isMark
+is-mark-spec =
+    tie.close (tie.spec (λ c. rw (eq-eqb _ _ (c .if1 .taken))) (λ c. rw (ne-eqb _ _ (c .if1 .left))))

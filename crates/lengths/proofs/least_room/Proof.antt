@@ -7,21 +7,6 @@ use Rattle.lengths.specs.Margin.{marginOf}
 use Rattle.lengths.proofs.least_room.Statement.{statement}
 use Rattle.lengths.proofs.least_room.Tie as tie
 
-add-three : tie.Need-add-three
-add-three c = let k = kept _ (c .before .before .pre) in omega arith
-
-mul-four : tie.Need-mul-four
-mul-four c = let k = kept _ (c .before .before .before .pre) in omega arith
-
-add-four : tie.Need-add-four
-add-four c = let k = kept _ (c .before .before .before .before .pre) in omega arith
-
-add-room-in : tie.Need-add-room-in
-add-room-in c = let k = kept _ (c .before .before .before .before .before .before .pre) in omega arith
-
-add-room-in-2 : tie.Need-add-room-in-2
-add-room-in-2 c = let k = kept _ (c .before .before .before .before .before .before .before .pre) in omega arith
-
 returns : tie.Need-returns
 unfolding marginOf
 returns c =
@@ -40,6 +25,10 @@ returns c =
 
 pub least-room-spec : {M : Type 1} → statement M
 least-room-spec =
-    tie.close (tie.spec (λ c κs. kept _ (c .pre) .ranges) add-three mul-four add-four (λ c κs. search needs)
-    (λ c κs. search needs) add-room-in (λ c κs. search needs) add-room-in-2 (λ c κs. search needs)
-    (λ c κs. search needs) (λ c κs. search needs) returns)
+    tie.close
+    (tie.spec (λ c κs. kept _ (c .pre) .ranges) (λ c. let k = kept _ (c .before .before .pre) in omega arith)
+    (λ c. let k = kept _ (c .before .before .before .pre) in omega arith)
+    (λ c. let k = kept _ (c .before .before .before .before .pre) in omega arith) (λ c. search needs) (λ c. search needs)
+    (λ c. let k = kept _ (c .before .before .before .before .before .before .pre) in omega arith) (λ c. search needs)
+    (λ c. let k = kept _ (c .before .before .before .before .before .before .before .pre) in omega arith)
+    (λ c. search needs) (λ c. search needs) (λ c. search needs) returns)

@@ -1,21 +1,22 @@
 -- Why `codec::pen::begin` leaves the word to be drawn: all of it, or all behind the track's first one, with which
 -- nothing is stored. Rests on no axiom.
-use Prim.Native.Nat.{ℕ, zero, suc, _+_, _-_, _*_, _^_, _≤_, _<_}
+use Prim.Native.Nat.{ℕ, zero, suc, _+_, _-_, _*_, _^_, _≤_}
 use native.Mathlib.Nat.{lt-of-lt-of-le}
 use native.Mathlib.Omega.{arith}
 use mathlib.Core.Path.{_≡_, refl, ap, _∙_}
-use mathlib.Core.List.{List}
+use mathlib.Core.List.{List, [], _∷_}
 use borrow.Author.Needs.{needs}
 use lib.Pow.{pow-mono}
-use Rattle.codec.specs.machine.Pen.{storedBefore, restDrawn, Pending, Highest, behind, Drawable, Begun}
+use Rattle.lists.specs.Filled.{storedAt}
+use Rattle.codec.specs.machine.Pen.{storedLate, restAt, restDrawn, Pending, Highest, behind, Drawable, Begun}
 use Rattle.codec.specs.declared.pen.Pen.{Pen}
 use Rattle.codec.specs.declared.pen.Rest.{Rest}
-use Rattle.codec.proofs.RestLaws.{restAt, begins, steps}
+use Rattle.codec.proofs.RestLaws.{begins, steps}
 use Rattle.codec.proofs.pen.begin.Statement.{statement}
 use Rattle.codec.proofs.pen.begin.Tie as tie
 
-nothing-stored : (out : List ℕ) (cells n : ℕ) → cells ≤ 0 → out ≡ storedBefore out cells n
-unfolding storedBefore
+nothing-stored : (out : List ℕ) (cells n : ℕ) → cells ≤ 0 → out ≡ storedLate out cells (n ∷ [])
+unfolding storedLate storedAt
 nothing-stored out zero n h = refl
 nothing-stored out (suc k) n h = absurd (omega arith)
 
@@ -52,23 +53,6 @@ module _ (start : Pen) (word width : ℕ) (can : Drawable start word width) wher
             (nothing-stored out (start .cells) _ first) ∙ step .same table out ∙ begins table out start word width can;
       }
 
-returns : tie.Need-returns
-returns c = let entry = c .before .before .before in with-all _ _ _ (entry .pre) (omega arith)
-
-highest-one-requires : tie.Need-highest-one-requires
-highest-one-requires c κs = (c .if2 .taken, c .before .before .before .before .fits .word .fits)
-
-window-at-requires : tie.Need-window-at-requires
-window-at-requires c κs =
-    let entry = c .before .before .before .before .before in
-    (pending _ _ _ (entry .pre), c .highest-one .ensures)
-
-pass-one-requires : tie.Need-pass-one-requires
-pass-one-requires c κs =
-    let entry = c .before .before .before .before .before .before in
-    let high = c .before .highest-one .ensures in
-    ((pending _ _ _ (entry .pre), high), (omega arith, c .window-at .ensures))
-
 returns-2 : tie.Need-returns-2
 returns-2 c =
     let found = c .before .before in
@@ -76,12 +60,13 @@ returns-2 c =
     let entry = first .before .before .before in
     rw (c .pass-one .ensures) (behind-first-one _ _ _ (entry .pre) (first .if1 .left) _ (found .highest-one .ensures))
 
-returns-3 : tie.Need-returns-3
-returns-3 c =
-    let entry = c .before .before .before .before in with-all _ _ _ (entry .pre) (omega arith)
-
 pub begin-spec : {M : Type 1} → statement M
 begin-spec =
     tie.close
-    (tie.spec (λ c. search needs) (λ c. search needs) returns highest-one-requires window-at-requires pass-one-requires
-    returns-2 returns-3)
+    (tie.spec (λ c. search needs) (λ c. search needs) (λ c. with-all _ _ _ (c .before .before .before .pre) (omega arith))
+    (λ c κs. (c .if2 .taken, c .before .before .before .before .fits .word .fits))
+    (λ c κs. (pending _ _ _ (c .before .before .before .before .before .pre), c .highest-one .ensures))
+    (λ c κs.
+    let pre = c .before .before .before .before .before .before .pre in
+    ((pending _ _ _ pre, c .before .highest-one .ensures), (omega arith, c .window-at .ensures))) returns-2
+    (λ c. with-all _ _ _ (c .before .before .before .before .pre) (omega arith)))

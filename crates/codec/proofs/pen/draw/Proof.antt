@@ -1,13 +1,14 @@
 -- Why `codec::pen::draw` draws the word's half cells: each turn draws up to the highest one that is left, and
 -- stores where it has a place, since all that is to come has. Rests on no axiom.
-use Prim.Native.Nat.{ℕ, zero, suc, _+_, _-_, _*_, _^_, _≤_, _<_}
+use Prim.Native.Nat.{ℕ, zero, suc, _-_, _*_, _^_, _≤_, _<_}
 use native.Mathlib.Omega.{arith}
 use mathlib.Core.Path.{_≡_, refl, ap, _∙_}
-use mathlib.Core.List.{List}
+use mathlib.Core.List.{List, [], _∷_}
 use lib.ListN.{length, getD, set, length-set}
-use Rattle.codec.specs.machine.Pen.{storedBefore, restDrawn, Fits, Pending, Highest, behind}
+use Rattle.lists.specs.Filled.{storedAt}
+use Rattle.codec.specs.machine.Pen.{storedLate, restDrawn, Fits, Pending, Highest, behind}
 use Rattle.codec.specs.declared.pen.Rest.{Rest}
-use Rattle.codec.proofs.PenLaws.{stored-before-length, fits-before}
+use Rattle.codec.proofs.PenLaws.{stored-late-length, fits-before}
 use Rattle.codec.proofs.RestLaws.{Stepped, ends, steps}
 use Rattle.codec.proofs.pen.draw.Statement.{statement}
 use Rattle.codec.proofs.pen.draw.Tie as tie
@@ -20,15 +21,12 @@ record Going (table out₀ : List ℕ) (rest₀ : Rest) (out : List ℕ) (rest :
   pub same-length : length out ≡ length out₀
   pub whole : restDrawn table out rest ≡ restDrawn table out₀ rest₀
 
-stored : (out : List ℕ) (cells n : ℕ) → 1 ≤ cells → set out (cells - 1) n ≡ storedBefore out cells n
-unfolding storedBefore
+stored : (out : List ℕ) (cells n : ℕ) → 1 ≤ cells → set out (cells - 1) n ≡ storedLate out cells (n ∷ [])
+unfolding storedLate storedAt
 stored out zero n h = absurd (omega arith)
 stored out (suc k) n h = ap (λ (i : ℕ). set out i n) (omega arith)
 
 module _ {table out₀ : List ℕ} {rest₀ : Rest} {out : List ℕ} {rest : Rest} (g : Going table out₀ rest₀ out rest) where
-  cells-fit : rest .cells ≤ length out + 1
-  cells-fit = fits-before table _ _ (g .fits)
-
   has-first : 0 < rest .ones → 1 ≤ rest .cells
   has-first positive = let behind-first = g .behind-first in omega arith
 
@@ -42,13 +40,13 @@ module _ {table out₀ : List ℕ} {rest₀ : Rest} {out : List ℕ} {rest : Res
     step : Stepped rest next
     step = steps rest place (g .pending) high
 
-    next-fits : Fits (restDrawn table (storedBefore out (rest .cells) length-before) next)
+    next-fits : Fits (restDrawn table (storedLate out (rest .cells) (length-before ∷ [])) next)
     next-fits = rw (step .same table out) (g .fits)
 
     has-place : rest .cells ≤ length out
     has-place =
         let cells = fits-before table _ _ next-fits in
-        let same = stored-before-length out (rest .cells) length-before in
+        let same = stored-late-length out (rest .cells) (length-before ∷ []) in
         omega arith
 
     turn : Going table out₀ rest₀ (set out (rest .cells - 1) length-before) next
@@ -79,21 +77,11 @@ loop-holds c =
       whole = refl;
     }
 
-highest-one-requires : tie.Need-highest-one-requires Inv-loop μ-loop
-highest-one-requires c κs = (c .if1 .taken, c .before .before .loop .inv .pending .small)
-
-window-at-requires : tie.Need-window-at-requires Inv-loop μ-loop
-window-at-requires c κs = (c .before .before .before .loop .inv .pending, c .highest-one .ensures)
-
 small-window : (c : tie.After-window-at Inv-loop μ-loop) → c .window-at .result < 64
 small-window c =
     let found = c .before in
     let g = found .before .before .before .loop .inv in
     rw (c .window-at .ensures) (step g (found .before .if1 .taken) _ (found .highest-one .ensures) .in-table)
-
-sub-out : tie.Need-sub-out Inv-loop μ-loop
-sub-out c =
-    let tested = c .before .before .before .before in has-first (tested .before .before .loop .inv) (tested .if1 .taken)
 
 mul-out-2 : tie.Need-mul-out-2 Inv-loop μ-loop
 mul-out-2 c =
@@ -116,28 +104,16 @@ pass-one-requires c κs =
     let found = c .before .before .before in
     let head = found .before .before .before in
     let g = head .loop .inv in
-    let cells = cells-fit g in
+    let cells = fits-before _ _ _ (g .fits) in
     let same = g .same-length in
     let good = head .before .before .before .good .1 .1 .1 .1 in
     ((g .pending, found .highest-one .ensures), (omega arith, c .before .before .window-at .ensures))
-
-loop-less : tie.Need-loop-less Inv-loop μ-loop
-loop-less c =
-    let found = c .before .before .before .before in
-    rw (c .pass-one .ensures)
-    (step (found .before .before .before .loop .inv) (found .before .if1 .taken) _ (found .highest-one .ensures) .fewer)
 
 loop-again : tie.Need-loop-again Inv-loop μ-loop
 loop-again c =
     let found = c .before .before .before .before in
     rw (c .pass-one .ensures, c .before .before .before .window-at .ensures)
     (turn (found .before .before .before .loop .inv) (found .before .if1 .taken) _ (found .highest-one .ensures))
-
-add-t18 : tie.Need-add-t18 Inv-loop μ-loop
-add-t18 c = let near = c .before .before .before .loop .inv .pending .near in omega arith
-
-same-length : tie.Need-same-length Inv-loop μ-loop
-same-length c = c .before .before .before .loop .inv .same-length
 
 returns : tie.Need-returns Inv-loop μ-loop
 returns c =
@@ -147,6 +123,17 @@ returns c =
 
 pub draw-spec : {M : Type 1} → statement M
 draw-spec =
-    tie.close (tie.spec Inv-loop μ-loop (λ c κs. c .before .pre .0) loop-holds highest-one-requires window-at-requires
-    (λ c. omega (arith, small-window c)) (λ c. omega (arith, small-window c)) (λ c. small-window c) sub-out mul-out-2
-    slice-write-out pass-one-requires loop-less loop-again add-t18 same-length returns)
+    tie.close
+    (tie.spec Inv-loop μ-loop (λ c κs. c .before .pre .0) loop-holds
+    (λ c κs. (c .if1 .taken, c .before .before .loop .inv .pending .small))
+    (λ c κs. (c .before .before .before .loop .inv .pending, c .highest-one .ensures))
+    (λ c. omega (arith, small-window c)) (λ c. omega (arith, small-window c)) (λ c. small-window c)
+    (λ c.
+    let tested = c .before .before .before .before in
+    has-first (tested .before .before .loop .inv) (tested .if1 .taken)) mul-out-2 slice-write-out pass-one-requires
+    (λ c.
+    let found = c .before .before .before .before in
+    rw (c .pass-one .ensures)
+    (step (found .before .before .before .loop .inv) (found .before .if1 .taken) _ (found .highest-one .ensures)
+    .fewer)) loop-again (λ c. let near = c .before .before .before .loop .inv .pending .near in omega arith)
+    (λ c. c .before .before .before .loop .inv .same-length) returns)

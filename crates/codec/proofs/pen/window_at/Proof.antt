@@ -8,15 +8,12 @@ use Rattle.codec.proofs.RestLaws.{place-below}
 use Rattle.codec.proofs.pen.window_at.Statement.{statement}
 use Rattle.codec.proofs.pen.window_at.Tie as tie
 
-sub-result : tie.Need-sub-result
-sub-result c =
+pub window-at-spec : {M : Type 1} → statement M
+unfolding turned
+window-at-spec =
+    tie.close
+    (tie.spec (λ c. search needs)
+    (λ c.
     let pre = c .before .before .pre in
     let inside = place-below _ _ (pre .1) _ (pre .0 .below) in
-    omega arith
-
-returns : tie.Need-returns
-unfolding turned
-returns c = refl
-
-pub window-at-spec : {M : Type 1} → statement M
-window-at-spec = tie.close (tie.spec (λ c. search needs) sub-result (λ c. search needs) returns)
+    omega arith) (λ c. search needs) (λ c. refl))

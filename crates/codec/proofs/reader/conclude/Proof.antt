@@ -7,17 +7,13 @@ use borrow.Author.Needs.{needs}
 use Rattle.codec.proofs.reader.conclude.Statement.{statement}
 use Rattle.codec.proofs.reader.conclude.Tie as tie
 
-returns : tie.Need-returns
+pub conclude-spec : {M : Type 1} → statement M
 unfolding stripAnswer
-returns c = rw (ne-eqb _ 4 (c .if1 .taken))
-
-returns-2 : tie.Need-returns-2
-unfolding stripAnswer
-returns-2 c = rw (eq-eqb _ 4 (c .before .before .if1 .left), lt-ltb 6400 _ (c .if2 .taken))
-
-returns-3 : tie.Need-returns-3
-unfolding stripAnswer
-returns-3 c =
+conclude-spec =
+    tie.close
+    (tie.spec (λ c. rw (ne-eqb _ 4 (c .if1 .taken)))
+    (λ c. rw (eq-eqb _ 4 (c .before .before .if1 .left), lt-ltb 6400 _ (c .if2 .taken))) (λ c. search needs) (λ c. search needs)
+    (λ c.
     let stray = c .before .before in
     let few = stray .before in
     rw (
@@ -25,20 +21,12 @@ returns-3 c =
       eq-eqb _ 4 (few .before .before .if1 .left),
       le-ltb 6400 _ (few .if2 .left),
       c .stray-place .ensures,
-    )
-
-returns-4 : tie.Need-returns-4
-unfolding stripAnswer
-returns-4 c =
+    )) (λ c. search needs)
+    (λ c.
     let stray = c .before .before in
     let few = stray .before in
     rw (
       sym (stray .is-stray .ensures) ∙ c .before .if3 .left,
       eq-eqb _ 4 (few .before .before .if1 .left),
       le-ltb 6400 _ (few .if2 .left),
-    )
-
-pub conclude-spec : {M : Type 1} → statement M
-conclude-spec =
-    tie.close
-    (tie.spec returns returns-2 (λ c κs. search needs) (λ c κs. search needs) returns-3 (λ c. search needs) returns-4)
+    )))

@@ -4,7 +4,6 @@ use Prim.Native.Nat.{ℕ, _+_, _-_, _*_, _≤_, _<_}
 use mathlib.Core.Path.{_≡_, refl, sym, _∙_}
 use mathlib.Core.List.{List}
 use native.Mathlib.Omega.{arith}
-use denote.Ref.{now}
 use lib.ListN.{length, drop, getD, drop-of-length-le}
 use Rattle.codec.specs.machine.Pen.{Room}
 use Rattle.codec.specs.machine.Track.{Writing, writing, wroteByte, wrote, Holds}
@@ -76,9 +75,6 @@ Inv-loop table bytes out₀ pairs track₀ i₀ out track i =
 abbrev μ-loop : tie.MeasureT-loop
 μ-loop table bytes out₀ pairs track₀ i₀ out track i = length bytes - i
 
-loop-holds : tie.Need-loop-holds Inv-loop μ-loop
-loop-holds c = (omega arith, (c .before .before .pre .0 .0, omega arith), refl)
-
 write-two-requires : tie.Need-write-two-requires Inv-loop μ-loop
 write-two-requires c κs =
     let turn = c .before .before .before in
@@ -118,7 +114,7 @@ returns c =
 pub write-bytes-spec : {M : Type 1} → statement M
 write-bytes-spec =
     tie.close
-    (tie.spec Inv-loop μ-loop loop-holds (λ c. omega arith) (λ c. omega arith) (λ c. omega arith) (λ c. omega arith)
+    (tie.spec Inv-loop μ-loop (λ c. (omega arith, (c .before .before .pre .0 .0, omega arith), refl)) (λ c. omega arith) (λ c. omega arith) (λ c. omega arith) (λ c. omega arith)
     (λ c. omega arith) (λ c. omega arith) write-two-requires (λ c. omega arith) (λ c. omega arith) loop-again
     (λ c. omega arith) (λ c. omega arith) (λ c. omega arith) write-byte-requires same-length returns
     (λ c. same-length-of-whole _ _ _ _ _ (c .before .before .loop .inv .2))

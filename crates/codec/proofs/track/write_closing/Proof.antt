@@ -50,4 +50,4 @@ returns c =
 
 pub write-closing-spec : {M : Type 1} → statement M
 write-closing-spec =
-    tie.close (tie.spec (λ c κs. search needs) (λ c. search needs) draw-requires sub-result (λ c. search needs) returns)
+    tie.close (tie.spec (λ c. search needs) (λ c. search needs) draw-requires sub-result (λ c. search needs) returns)

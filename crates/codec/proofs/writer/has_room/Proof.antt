@@ -24,5 +24,5 @@ returns c =
 pub has-room-spec : {M : Type 1} → statement M
 has-room-spec =
     tie.close (tie.spec (λ c. omega (arith, listed _ (c .before .pre .0) .few-bytes))
-    (λ c. omega (arith, listed _ (c .before .pre .0) .few-bytes)) returns (λ c κs. search needs)
+    (λ c. omega (arith, listed _ (c .before .pre .0) .few-bytes)) returns (λ c. search needs)
     (λ c. rw (c .count-cells .ensures)))

@@ -7,32 +7,25 @@ use borrow.Author.Needs.{needs}
 use Rattle.codec.proofs.writer.write.Statement.{statement}
 use Rattle.codec.proofs.writer.write.Tie as tie
 
-write-list-requires : tie.Need-write-list-requires
-write-list-requires c κs =
+pub write-spec : {M : Type 1} → statement M
+unfolding writeRule writeOutput
+write-spec =
+    tie.close
+    (tie.spec (λ c. search needs) (λ c. search needs) (λ c. search needs) (λ c. search needs) (λ c. search needs) (λ c. search needs)
+    (λ c κs.
     let listed = c .before .before .before in
     let told = listed .before in (
       verdict-accepts _ _ (told .before .before .check .ensures) (told .enum-told .given .1),
       verdict-accepts _ _ (listed .check-list .ensures) (c .before .enum-told2 .given .1),
-    )
-
-returns : tie.Need-returns
-unfolding writeRule writeOutput
-returns c =
+    ))
+    (λ c.
     let rule = verdict-refuses _ _ _ _ (c .before .before .before .check .ensures) (c .before .refusal .given .1) in
-    (rule, refusal-keeps-the-buffer (c .before .refusal .given .0 .0) _ _ _ rule)
-
-returns-2 : tie.Need-returns-2
-unfolding writeRule writeOutput
-returns-2 c =
+    (rule, refusal-keeps-the-buffer (c .before .refusal .given .0 .0) _ _ _ rule))
+    (λ c.
     let listed = c .before .before .before in
     let told = listed .before in
     let rule =
     verdict-refuses _ _ _ _ (listed .check-list .ensures) (c .before .refusal2 .given .1)
     ∙ verdict-passes _ _ _ (told .before .before .check .ensures) (told .enum-told .given .1) in
-    (rule, refusal-keeps-the-buffer (c .before .refusal2 .given .0 .0) _ _ _ rule)
-
-pub write-spec : {M : Type 1} → statement M
-write-spec =
-    tie.close
-    (tie.spec (λ c κs. search needs) (λ c. search needs) (λ c. search needs) (λ c κs. search needs) (λ c. search needs)
-    (λ c. search needs) write-list-requires returns returns-2 (λ c. search needs) (λ c. search needs))
+    (rule, refusal-keeps-the-buffer (c .before .refusal2 .given .0 .0) _ _ _ rule)) (λ c. search needs)
+    (λ c. search needs))

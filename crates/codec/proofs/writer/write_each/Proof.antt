@@ -79,9 +79,6 @@ loop-again c =
     let wrote-item = c .before .before .write-item .ensures in
     an-item-more _ _ _ _ _ (head .k) (turn .loop-test .taken) (head .inv) _ _ (wrote-item .0) (wrote-item .1)
 
-same-length : tie.Need-same-length Inv-loop μ-loop
-same-length c = same-length-of-whole _ _ _ _ _ (c .before .before .loop .inv .2)
-
 returns : tie.Need-returns Inv-loop μ-loop
 returns c =
     let head = c .before .before .loop in
@@ -93,5 +90,6 @@ returns c =
 
 pub write-each-spec : {M : Type 1} → statement M
 write-each-spec =
-    tie.close (tie.spec Inv-loop μ-loop (λ c κs. search needs) (λ c κs. search needs) loop-holds (λ c. omega arith)
-    (λ c. omega arith) write-item-requires (λ c. omega arith) (λ c. omega arith) loop-again same-length returns)
+    tie.close (tie.spec Inv-loop μ-loop (λ c. search needs) (λ c. search needs) loop-holds (λ c. omega arith)
+    (λ c. omega arith) write-item-requires (λ c. omega arith) (λ c. omega arith) loop-again
+    (λ c. same-length-of-whole _ _ _ _ _ (c .before .before .loop .inv .2)) returns)

@@ -94,6 +94,6 @@ returns-2 c =
 
 pub write-item-spec : {M : Type 1} → statement M
 write-item-spec =
-    tie.close (tie.spec (λ c κs. search needs) (λ c κs. search needs) (λ c κs. search needs) write-byte-requires
-    (λ c κs. search needs) write-byte-requires-2 (λ c. search needs) returns write-byte-requires-3 (λ c. search needs)
+    tie.close (tie.spec (λ c. search needs) (λ c. search needs) (λ c. search needs) write-byte-requires
+    (λ c. search needs) write-byte-requires-2 (λ c. search needs) returns write-byte-requires-3 (λ c. search needs)
     returns-2)

@@ -44,5 +44,5 @@ returns c =
 
 pub write-items-spec : {M : Type 1} → statement M
 write-items-spec =
-    tie.close (tie.spec (λ c κs. search needs) write-bytes-requires (λ c. search needs) returns (λ c κs. search needs)
+    tie.close (tie.spec (λ c. search needs) write-bytes-requires (λ c. search needs) returns (λ c. search needs)
     (λ c. search needs) (λ c. c .before .before .write-each .ensures))

@@ -17,13 +17,6 @@ Inv-loop bytes check₀ k₀ check k =
 abbrev μ-loop : tie.MeasureT-loop
 μ-loop bytes check₀ k₀ check k = length bytes - k
 
-loop-less : tie.Need-loop-less Inv-loop μ-loop
-loop-less c = let place = c .before .after-run .ensures .0 in omega (arith, c .before .before .loop-test .taken)
-
-loop-again : tie.Need-loop-again Inv-loop μ-loop
-loop-again c =
-    let run = c .before .after-run .ensures in (run .0 .1, run .1 ∙ c .before .before .before .loop .inv .1)
-
 returns : tie.Need-returns Inv-loop μ-loop
 returns c =
     let head = c .before .loop in
@@ -33,4 +26,7 @@ returns c =
 pub after-bytes-spec : {M : Type 1} → statement M
 after-bytes-spec =
     tie.close
-    (tie.spec Inv-loop μ-loop (λ c. (omega arith, refl)) (λ c κs. search needs) loop-less loop-again returns)
+    (tie.spec Inv-loop μ-loop (λ c. (omega arith, refl)) (λ c. search needs)
+    (λ c. let place = c .before .after-run .ensures .0 in omega (arith, c .before .before .loop-test .taken))
+    (λ c. let run = c .before .after-run .ensures in (run .0 .1, run .1 ∙ c .before .before .before .loop .inv .1))
+    returns)

@@ -5,16 +5,11 @@ use Rattle.items.proofs.WrittenLaws.{after-item-of-check, after-item-of
 use Rattle.items.proofs.Check.after_item.Statement.{statement}
 use Rattle.items.proofs.Check.after_item.Tie as tie
 
-returns : tie.Need-returns
-returns c =
-    let check = sym (c .before .before .is-check .ensures) ∙ c .before .if1 .taken in
-    c .after-check .ensures ∙ sym (after-item-of-check _ _ check)
-
-returns-2 : tie.Need-returns-2
-returns-2 c =
-    let byte = sym (c .before .before .is-check .ensures) ∙ c .before .if1 .left in
-    c .after-byte .ensures ∙ sym (after-item-of-byte _ _ byte)
-
 pub after-item-spec : {M : Type 1} → statement M
 after-item-spec =
-    tie.close (tie.spec (λ c κs. search needs) (λ c κs. search needs) returns (λ c κs. search needs) returns-2)
+    tie.close
+    (tie.spec (λ c. search needs) (λ c. search needs)
+    (λ c. c .after-check .ensures
+    ∙ sym (after-item-of-check _ _ (sym (c .before .before .is-check .ensures) ∙ c .before .if1 .taken))) (λ c. search needs)
+    (λ c. c .after-byte .ensures
+    ∙ sym (after-item-of-byte _ _ (sym (c .before .before .is-check .ensures) ∙ c .before .if1 .left))))

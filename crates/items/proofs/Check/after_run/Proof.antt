@@ -63,6 +63,6 @@ returns-2 c = ((c .before .loop .inv .0, c .before .loop .inv .1), kept-from-sta
 pub after-run-spec : {M : Type 1} → statement M
 after-run-spec =
     tie.close (tie.spec Inv-loop μ-loop (λ c. omega (arith, c .before .pre)) (λ c. search needs) (λ c. search needs)
-    (λ c κs. search needs) (λ c. search needs) loop-holds (λ c. search needs) (λ c. search needs) (λ c. search needs)
+    (λ c. search needs) (λ c. search needs) loop-holds (λ c. search needs) (λ c. search needs) (λ c. search needs)
     (λ c. search needs) (λ c. search needs) returns (λ c κs. both-small _ _ (omega (arith, c .if1 .left)))
     (λ c. search needs) (λ c. search needs) loop-again returns-2)

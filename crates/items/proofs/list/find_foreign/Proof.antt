@@ -11,7 +11,7 @@ use lib.ListN.{length, getD, drop}
 use Rattle.lists.specs.Place.{lowest}
 use Rattle.lists.proofs.PlaceLaws.{lowest-from-passing-is-here, lowest-from-failing-is-further, lowest-from-end-is-here}
 use Rattle.items.specs.Item.{isForeign}
-use Rattle.items.proofs.ItemLaws.{item-is-not-foreign, no-item-is-foreign}
+use Rattle.items.proofs.ItemLaws.{item-is-not-foreign}
 use Rattle.items.proofs.list.find_foreign.Statement.{statement}
 use Rattle.items.proofs.list.find_foreign.Tie as tie
 
@@ -35,12 +35,13 @@ loop-again c =
     (omega (arith, turn .loop-test .taken), sym further ∙ head .inv .1)
 
 returns : tie.Need-returns Inv-loop μ-loop
+unfolding isForeign
 returns c =
     let turn = c .before .before .before in
     let head = turn .before .loop in
     let items = now (entry-of (turn .before) .args .items) in
-    let foreign = no-item-is-foreign (getD items (head .k) 0) (sym (c .before .is-item .ensures) ∙ c .if1 .left) in
-    sym (lowest-from-passing-is-here isForeign items 0 (head .k) (turn .loop-test .taken) foreign) ∙ head .inv .1
+    let item = sym (c .before .is-item .ensures) ∙ c .if1 .left in
+    sym (lowest-from-passing-is-here isForeign items 0 (head .k) (turn .loop-test .taken) (rw item)) ∙ head .inv .1
 
 returns-2 : tie.Need-returns-2 Inv-loop μ-loop
 returns-2 c =
@@ -51,5 +52,5 @@ pub find-foreign-spec : {M : Type 1} → statement M
 find-foreign-spec =
     tie.close
     (tie.spec Inv-loop μ-loop (λ c. (zero-le, zero-add _)) (λ c. omega arith) (λ c. c .before .loop-test .taken)
-    (λ c κs. search needs) (λ c. omega arith) (λ c. falls _ _ (c .before .before .before .loop-test .taken)) loop-again
+    (λ c. search needs) (λ c. omega arith) (λ c. falls _ _ (c .before .before .before .loop-test .taken)) loop-again
     returns returns-2)

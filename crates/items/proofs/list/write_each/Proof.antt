@@ -10,7 +10,7 @@ use denote.Ref.{now}
 use lib.ListN.{length, getD, drop}
 use Rattle.lists.specs.Filled.{storedAt}
 use Rattle.lists.proofs.StoreLaws.{stored-none, stored-after-stored, stored-length}
-use Rattle.items.specs.Item.{bytesOf, writtenBytes}
+use Rattle.items.specs.Item.{writtenBytes}
 use Rattle.items.specs.Written.{itemBytes, afterBytes, afterItem, writtenFrom}
 use Rattle.items.specs.declared.Check.{Check}
 use Rattle.items.proofs.ItemLaws.{written-bytes-bounds, written-bytes-from, written-bytes-from-end}
@@ -18,27 +18,6 @@ use Rattle.items.proofs.CheckLaws.{after-bytes-of-append}
 use Rattle.items.proofs.WrittenLaws.{length-of-item-bytes, written-from-place, written-from-end}
 use Rattle.items.proofs.list.write_each.Statement.{statement}
 use Rattle.items.proofs.list.write_each.Tie as tie
-
--- an item's bytes stored, and then those of the rest, are those from the item on
-stored-then-rest :
-    (out next : List ℕ) (at size : ℕ) (items : List ℕ) (k : ℕ) (check after : Check) → k < length items
-    → size ≡ bytesOf (getD items k 0)
-    → next ≡ storedAt out at (itemBytes check (getD items k 0))
-    → after ≡ afterItem check (getD items k 0)
-    → storedAt next (at + size) (writtenFrom after (drop (k + 1) items)) ≡ storedAt out at (writtenFrom check (drop k items))
-stored-then-rest out next at size items k check after h p q r =
-    let bytes : List ℕ = itemBytes check (getD items k 0) in
-    let length-is-size = length-of-item-bytes check (getD items k 0) ∙ sym p in
-    rw (q, r, ← length-is-size, written-from-place check items k h) (stored-after-stored bytes _ out at _ refl)
-
--- the register after an item's bytes, and then after those of the rest
-passed-then-rest :
-    (items : List ℕ) (k : ℕ) (check after : Check) → k < length items
-    → after ≡ afterItem check (getD items k 0)
-    → afterBytes after (writtenFrom after (drop (k + 1) items)) ≡ afterBytes check (writtenFrom check (drop k items))
-unfolding afterItem
-passed-then-rest items k check after h r =
-    rw (r, written-from-place check items k h) (sym (after-bytes-of-append check _ _))
 
 after-no-bytes : (check : Check) → afterBytes check [] ≡ check
 unfolding afterBytes
@@ -70,17 +49,21 @@ add-at c =
     record { fits = room }
 
 loop-again : tie.Need-loop-again Inv-loop μ-loop
+unfolding afterItem
 loop-again c =
     let turn = turn-of c in
     let head = turn .before .loop in
     let items : List ℕ = now (entry-of (turn .before) .args .items) in
     let inside = turn .loop-test .taken in
-    let put = c .before .before .before .before .put-item .ensures in (
+    let bytes = itemBytes (head .check) (getD items (head .k) 0) in
+    let size : c .bytes-of .result ≡ length bytes = c .bytes-of .ensures ∙ sym (length-of-item-bytes _ _) in
+    let here = written-from-place (head .check) items (head .k) inside in (
       omega (arith, inside),
       omega (arith, c .bytes-of .ensures, head .inv .1, written-bytes-from items (head .k) inside),
-      stored-then-rest _ _ _ _ items _ _ _ inside (c .bytes-of .ensures) put (c .before .after-item .ensures)
-          ∙ head .inv .2,
-      passed-then-rest items (head .k) (head .check) _ inside (c .before .after-item .ensures) ∙ head .inv .3,
+      rw (c .before .before .before .before .put-item .ensures, c .before .after-item .ensures, size)
+          (stored-after-stored bytes _ (head .out) (head .at) _ refl ∙ (rw here at (head .inv .2))),
+      rw (c .before .after-item .ensures)
+          (sym (after-bytes-of-append (head .check) bytes _) ∙ (rw here at (head .inv .3))),
     )
 
 same-length : tie.Need-same-length Inv-loop μ-loop
@@ -103,5 +86,5 @@ returns c =
 pub write-each-spec : {M : Type 1} → statement M
 write-each-spec =
     tie.close (tie.spec Inv-loop μ-loop (λ c. (zero-le, zero-add _, refl, refl)) (λ c. omega arith)
-    (λ c. c .before .loop-test .taken) (λ c κs. search needs) (λ c κs. search needs) (λ c κs. search needs) add-at
+    (λ c. c .before .loop-test .taken) (λ c. search needs) (λ c. search needs) (λ c. search needs) add-at
     (λ c. omega arith) (λ c. falls _ _ (turn-of c .loop-test .taken)) loop-again same-length returns)

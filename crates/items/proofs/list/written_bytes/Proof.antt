@@ -46,5 +46,5 @@ pub written-bytes-spec : {M : Type 1} → statement M
 written-bytes-spec =
     tie.close
     (tie.spec Inv-loop μ-loop (λ c. (zero-le, zero-add _)) (λ c. omega arith) (λ c. c .before .loop-test .taken)
-    (λ c κs. search needs) add-count (λ c. omega arith) (λ c. falls _ _ (turn-of c .loop-test .taken)) loop-again
+    (λ c. search needs) add-count (λ c. omega arith) (λ c. falls _ _ (turn-of c .loop-test .taken)) loop-again
     returns)

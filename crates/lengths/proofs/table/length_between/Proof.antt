@@ -17,25 +17,6 @@ zeros-take-little {p} k zeros few =
     let three : zeros ≤ 3 = omega arith in
     mul-le-mul three t0
 
-mul-t8 : tie.Need-mul-t8
-mul-t8 c = let pre = c .before .pre in omega (arith, zeros-take-little (kept _ (pre .0)) _ (pre .1))
-
-add-t9 : tie.Need-add-t9
-add-t9 c =
-    let pre = c .before .before .pre in
-    let k = kept _ (pre .0) in
-    omega (arith, zeros-take-little k _ (pre .1), k)
-
-in-half-clocks-requires : tie.Need-in-half-clocks-requires
-in-half-clocks-requires c κs =
-    let k = kept _ (c .before .before .before .before .pre .0) in
-    omega (arith, answered-point-is-in-range k _ _ _ (c .before .point .ensures), k)
-
-in-half-clocks-requires-2 : tie.Need-in-half-clocks-requires-2
-in-half-clocks-requires-2 c κs =
-    let k = kept _ (c .before .before .before .before .before .pre .0) in
-    omega (arith, answered-point-is-in-range k _ _ _ (c .before .point2 .ensures), k)
-
 shifted-requires : tie.Need-shifted-requires
 shifted-requires c κs =
     let pre = c .before .before .before .before .before .before .pre in
@@ -55,5 +36,13 @@ returns c =
 
 pub length-between-spec : {M : Type 1} → statement M
 length-between-spec =
-    tie.close (tie.spec mul-t8 add-t9 (λ c κs. search needs) (λ c κs. search needs) in-half-clocks-requires
-    in-half-clocks-requires-2 shifted-requires returns)
+    tie.close
+    (tie.spec
+    (λ c. let pre = c .before .pre in omega (arith, zeros-take-little (kept _ (pre .0)) _ (pre .1)))
+    (λ c. let pre = c .before .before .pre in
+    let k = kept _ (pre .0) in
+    omega (arith, zeros-take-little k _ (pre .1), k)) (λ c. search needs) (λ c. search needs)
+    (λ c κs. let k = kept _ (c .before .before .before .before .pre .0) in
+    omega (arith, answered-point-is-in-range k _ _ _ (c .before .point .ensures), k))
+    (λ c κs. let k = kept _ (c .before .before .before .before .before .pre .0) in
+    omega (arith, answered-point-is-in-range k _ _ _ (c .before .point2 .ensures), k)) shifted-requires returns)

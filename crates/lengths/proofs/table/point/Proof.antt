@@ -1,8 +1,7 @@
 -- Why `lengths::table::point` answers `point`: after a 1 the symbol that follows decides between Normal and Early,
 -- after a 0 between Late and Normal. Rests on no axiom.
-use mathlib.Core.Path.{_≡_, refl, ap, _∙_}
+use mathlib.Core.Path.{_≡_, refl}
 use mathlib.Core.Bool.{Bool, true, false, cond}
-use Rattle.timing.specs.declared.Clocks.{Clocks}
 use Rattle.timing.specs.declared.Profile.{Profile}
 use Rattle.lengths.specs.Lengths.{point}
 use borrow.Author.Needs.{needs}
@@ -22,12 +21,12 @@ after-zero p false = refl
 returns : tie.Need-returns
 returns c =
     let args = c .before .before .args in
-    rw (c .before .if1 .taken) (ap (λ (e : Clocks). e .0) (c .either .ensures) ∙ after-one (args .p) (args .after))
+    rw (c .before .if1 .taken, c .either .ensures) (after-one (args .p) (args .after))
 
 returns-2 : tie.Need-returns-2
 returns-2 c =
     let args = c .before .before .args in
-    rw (c .before .if1 .left) (ap (λ (e : Clocks). e .0) (c .either2 .ensures) ∙ after-zero (args .p) (args .after))
+    rw (c .before .if1 .left, c .either2 .ensures) (after-zero (args .p) (args .after))
 
 pub point-spec : {M : Type 1} → statement M
-point-spec = tie.close (tie.spec (λ c κs. search needs) (λ c κs. search needs) returns returns-2)
+point-spec = tie.close (tie.spec (λ c. search needs) (λ c. search needs) returns returns-2)

@@ -14,20 +14,14 @@ use Rattle.lengths.proofs.table.shifted.Tie as tie
 use Rattle.lengths.proofs.table.shifted.Reads as reads
 use Rattle.lengths.proofs.table.shifted.Lts as lts
 
-sub-shift : tie.Need-sub-shift
-sub-shift c = shift-fits _ _ _ (c .before .before .pre .0) (c .before .before .pre .1)
-
-add-t6 : tie.Need-add-t6
-add-t6 c = shifted-fits _ _ _ (c .before .before .before .pre .0) (c .before .before .before .pre .1)
-
 cast-t7 : tie.Need-cast-t7
 cast-t7 c =
     subst⁻¹ (λ (z : ℤ). T (nonNeg z) × Fits w16 (natAbs z))
-    (shifted-reads-back _ _ _ (c .before .before .before .pre .0) (c .before .before .before .pre .1)) (tt, omega arith)
-
-returns : tie.Need-returns
-returns c = ap natAbs (shifted-reads-back _ _ _ (c .before .before .before .pre .0) (c .before .before .before .pre .1))
+    (shifted-reads-back _ _ _ (c .before .before .before .pre)) (tt, omega arith)
 
 pub shifted-spec : {M : Type 1} → statement M
 shifted-spec =
-    tie.close (tie.spec (λ c. search needs) (λ c. search needs) sub-shift (λ c. search needs) add-t6 cast-t7 returns)
+    tie.close
+    (tie.spec (λ c. search needs) (λ c. search needs) (λ c. shift-fits _ _ _ (c .before .before .pre)) (λ c. search needs)
+    (λ c. shifted-fits _ _ _ (c .before .before .before .pre)) cast-t7
+    (λ c. ap natAbs (shifted-reads-back _ _ _ (c .before .before .before .pre))))
