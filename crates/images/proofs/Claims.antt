@@ -4,7 +4,7 @@ use Prim.Native.Nat.{ℕ, _≤_}
 use mathlib.Core.Path.{_≡_, refl, sym, ap, _∙_}
 use mathlib.Core.Bool.{true}
 use mathlib.Core.List.{List}
-use lib.ListN.{length, take}
+use lib.ListN.{length}
 use Rattle.lists.specs.Place.{everywhere}
 use Rattle.refusal.specs.Answer.{Answer}
 use Rattle.items.specs.Item.{isByte}
@@ -13,16 +13,18 @@ use Rattle.items.specs.Rule.{listRule}
 use Rattle.items.proofs.ItemLaws.{bytes-have-no-check}
 use Rattle.items.proofs.RuleLaws.{listed, bytes-are-listed}
 use Rattle.items.proofs.WrittenLaws.{written-are-bytes, written-of-no-check, length-of-written}
-use Rattle.symbols.specs.Bits.{O}
-use Rattle.images.specs.Image.{imageOf, unrulyIn, bytesIn}
-use Rattle.images.specs.Rules.{makeRule, makeOutput, readImageRule}
+use Rattle.symbols.specs.Bits.{O, writtenBits}
+use Rattle.images.specs.Image.{imageOf, unrulyIn, bytesIn, bytesFrom}
+use Rattle.images.specs.Rules.{makeRule, readImageRule, wordsRule}
 use Rattle.images.specs.Claims.{ReadsAs, Images}
-use Rattle.images.proofs.CountLaws.{ones-are-transitions}
 use Rattle.images.proofs.DistanceLaws.{distances-are-cells}
-use Rattle.images.proofs.ImageLaws.{length-of-image, length-of-bytes, image-of-read, read-are-bytes}
-use Rattle.images.proofs.ImageLaws.{made-is-ruly, read-of-made, image-injective}
-use Rattle.images.proofs.RuleLaws.{made-of-accepted, front-of-made, words-of-accepted, accepted-of-words}
-use Rattle.images.proofs.RuleLaws.{read-of-accepted, reads-as-its-bytes}
+use Rattle.images.proofs.ImageLaws.{length-of-image, length-of-bytes, ruly-is-read}
+use Rattle.images.proofs.ImageLaws.{read-of-made}
+use Rattle.images.proofs.RuleLaws.{front-of-made, words-of-accepted, accepted-of-words, accepted-in-room}
+use Rattle.images.proofs.RuleLaws.{reads-as-its-bytes}
+use Rattle.words.specs.Words.{lastBit}
+use Rattle.images.proofs.WordLaws.{word-is-kept, last-bit-is-data, all-kept}
+use Rattle.images.proofs.CountLaws.{ones-of-word, cells-count}
 
 -- the image of at most 6,400 bytes reads as them
 image-reads-back : (ws output : List ℕ) → everywhere isByte ws ≡ true → length ws ≤ 6400 → length ws ≤ length output
@@ -30,49 +32,39 @@ image-reads-back : (ws output : List ℕ) → everywhere isByte ws ≡ true → 
 unfolding imageOf unrulyIn bytesIn
 image-reads-back ws output bytes few room =
     let count : length (imageOf ws) ≡ length ws = length-of-image O ws in
+    let (ruly, read) = read-of-made (all-kept O ws refl bytes) in
     reads-as-its-bytes (imageOf ws) output ws
-    (accepted-of-words (imageOf ws) (rw count few) (made-is-ruly O ws refl bytes)) (rw count room) (sym count)
-    (read-of-made O ws refl bytes)
-
-made-reads-back
-    : (items made output : List ℕ)
-    → makeRule items (length made) .number ≡ 0
-    → length (written items) ≤ length output
-    → ReadsAs (take (makeRule items (length made) .count) (makeOutput items made)) output (written items)
-made-reads-back items made output h room =
-    let list = listed items (made-of-accepted items (length made) h .0) in
-    rw (front-of-made items made h)
-    (image-reads-back (written items) output (written-are-bytes items (list .none-foreign))
-    (rw (length-of-written items) (list .few-bytes)) room)
-
-read-is-made
-    : (words output : List ℕ)
-    → readImageRule words (length output) .number ≡ 0
-    → (ws : List ℕ)
-    × (everywhere isByte ws ≡ true)
-    × (listRule ws .number ≡ 0)
-    × ReadsAs words output ws
-    × (imageOf (written ws) ≡ words)
-unfolding imageOf unrulyIn bytesIn
-read-is-made words output h =
-    let tests = read-of-accepted words (length output) h in
-    let ruly = words-of-accepted words (tests .0) in
-    let ws = bytesIn words in
-    let bytes = read-are-bytes O words refl (ruly .1) in
-    let count : length ws ≡ length words = length-of-bytes O words in (
-      ws,
-      bytes,
-      ap (λ (a : Answer). a .number) (bytes-are-listed ws bytes (rw count (ruly .0))),
-      reads-as-its-bytes words output ws (tests .0) (tests .1) count refl,
-      ap imageOf (written-of-no-check ws (bytes-have-no-check ws bytes)) ∙ image-of-read O words refl (ruly .1),
-    )
+    (accepted-of-words (imageOf ws) (rw count few) ruly) (rw count room) (sym count)
+    read
 
 pub images : Images
+unfolding imageOf unrulyIn bytesIn makeRule readImageRule
 images =
     record {
-      ones-are-transitions = ones-are-transitions;
+      ones-are-transitions = λ before w byte.
+          let kept = word-is-kept (lastBit before) w (last-bit-is-data before) byte in
+          ones-of-word (lastBit before) w kept
+          ∙ cells-count (lastBit before) (writtenBits w) (kept .letters-are-sound);
       distances-are-cells = distances-are-cells;
-      made-reads-back = made-reads-back;
-      read-is-made = read-is-made;
-      one-list = image-injective;
+      made-reads-back = λ items made output h room.
+          let list = listed items (accepted-in-room (listRule items) _ _ h .0) in
+          rw (front-of-made items made h)
+          (image-reads-back (written items) output (written-are-bytes items (list .none-foreign))
+          (rw (length-of-written items) (list .few-bytes)) room);
+      read-is-made = λ words output h.
+          let (ruly, room) = accepted-in-room (wordsRule words) _ _ h in
+          let (few, none) = words-of-accepted words ruly in
+          let read = ruly-is-read O words refl none in
+          let ws = bytesIn words in
+          let count : length ws ≡ length words = length-of-bytes O words in (
+            ws,
+            read .bytes,
+            ap (λ (a : Answer). a .number) (bytes-are-listed ws (read .bytes) (rw count few)),
+            reads-as-its-bytes words output ws ruly room count refl,
+            ap imageOf (written-of-no-check ws (bytes-have-no-check ws (read .bytes))) ∙ read .image,
+          );
+      one-list = λ us ws bytes-us bytes-ws e.
+          sym (read-of-made (all-kept O us refl bytes-us) .1)
+          ∙ ap (bytesFrom O) e
+          ∙ read-of-made (all-kept O ws refl bytes-ws) .1;
     }

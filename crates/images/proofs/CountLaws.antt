@@ -1,7 +1,7 @@
 -- The ones of a word are the distances that end in it, and so the cells; summed along a list they are the cells of the
 -- list, but for those that the closing 0s end. Rests on no axiom.
 use Prim.Native.Nat.{ℕ, suc, _+_, _%_}
-use mathlib.Core.Path.{_≡_, refl, sym, ap, ap₂, _∙_}
+use mathlib.Core.Path.{_≡_, refl, sym, ap, _∙_}
 use mathlib.Core.Bool.{true, false, cond}
 use mathlib.Core.List.{List, [], _∷_, _++_, append-assoc}
 use native.Mathlib.Nat.{zero-add}
@@ -10,20 +10,18 @@ use lib.Count.{ones, onesIn}
 use lib.Dec.{T, eqb}
 use lib.ListN.{length}
 use Rattle.lists.specs.Place.{everywhere}
-use Rattle.lists.proofs.PlaceLaws.{everywhere-passes-at-first}
 use Rattle.items.specs.Item.{isByte}
 use Rattle.symbols.specs.Bits.{Bit, O, I, G, writtenBits, allBits, bitsOf}
-use Rattle.symbols.specs.Bytes.{isGap}
-use Rattle.symbols.specs.Cells.{symbolsFrom, symbolsOf, cellsFrom, cellsOf, writtenSymbols, writtenCells}
+use Rattle.symbols.specs.Cells.{symbolsFrom, symbolsOf, cellsOf, writtenSymbols, writtenCells}
 use Rattle.symbols.proofs.CellLaws.{sound}
 use Rattle.symbols.proofs.HalfCells.{clockAfter, dataOf, cellsAfter, onesAmong}
 use Rattle.symbols.proofs.HalfLaws.{cells-after-append}
 use Rattle.symbols.proofs.NumberLaws.{ones-of-number}
 use Rattle.words.specs.Words.{clockBit, wordOf, lastBit}
 use Rattle.images.specs.Distances.{distancesFrom}
-use Rattle.images.proofs.WordLaws.{word-is-kept, last-bit-is-data}
-use Rattle.images.proofs.DistanceLaws.{unitsAt, distances-of-letters, last-of-first}
+use Rattle.images.proofs.DistanceLaws.{unitsAt, distances-of-letters}
 use Rattle.images.proofs.DistanceLaws.{bytes-are-sound}
+use Rattle.images.proofs.WordLaws.{Kept, all-kept}
 
 -- ---- ones among half cells
 
@@ -42,13 +40,10 @@ distances-count n (G ∷ bs) = let rest = distances-count (suc n) bs in omega ar
 
 -- ---- a word
 
-pub ones-of-word : (b : Bit) (w : ℕ) → isGap b ≡ false → isByte w ≡ true
-    → ones (wordOf b w) ≡ onesAmong (cellsAfter b (writtenBits w))
+pub ones-of-word : (b : Bit) (w : ℕ) → Kept b w → ones (wordOf b w) ≡ onesAmong (cellsAfter b (writtenBits w))
 unfolding ones onesIn
-ones-of-word b w d byte =
-    ap ones (word-is-kept b w d byte .number)
-    ∙ ones-of-number 0 (cellsAfter b (writtenBits w))
-    ∙ zero-add (onesAmong (cellsAfter b (writtenBits w)))
+ones-of-word b w kept =
+    ap ones (kept .number) ∙ ones-of-number 0 (cellsAfter b (writtenBits w)) ∙ zero-add _
 
 -- where the half cells stand so that the open cell has 2 units
 startAfter : Bit → ℕ
@@ -62,22 +57,12 @@ two-units O = refl
 two-units I = refl
 two-units G = refl
 
-cells-count : (b : Bit) (bs : List Bit) → T (sound b bs)
+pub cells-count : (b : Bit) (bs : List Bit) → T (sound b bs)
     → onesAmong (cellsAfter b bs) ≡ length (cellsOf (symbolsFrom b bs))
 unfolding cellsOf
 cells-count b bs t =
     sym (distances-count (startAfter b) (cellsAfter b bs))
-    ∙ ap length
-    (distances-of-letters b bs (startAfter b) t ∙ ap (λ (n : ℕ). cellsFrom n (symbolsFrom b bs)) (two-units b))
-
-pub ones-are-transitions
-    : (before w : ℕ)
-    → isByte w ≡ true
-    → ones (wordOf (lastBit before) w) ≡ length (cellsOf (symbolsFrom (lastBit before) (writtenBits w)))
-ones-are-transitions before w byte =
-    let kept = word-is-kept (lastBit before) w (last-bit-is-data before) byte in
-    ones-of-word (lastBit before) w (last-bit-is-data before) byte
-    ∙ cells-count (lastBit before) (writtenBits w) (kept .letters-are-sound)
+    ∙ ap length (rw (two-units b) at (distances-of-letters b bs (startAfter b) t))
 
 -- ---- a list
 
@@ -90,18 +75,18 @@ unfolding cellsLeft cellsAfter clockAfter clockBit dataOf allBits onesAmong last
 cells-left-of-none w =
     elim (eqb (w % 2) 1) as (λ t. cellsLeft (cond t I O) [] ≡ cond t 1 2) [ true ↦ refl | false ↦ refl ]
 
-pub cells-left-of-byte : (b : Bit) (w : ℕ) (ws : List ℕ) → isGap b ≡ false → everywhere isByte (w ∷ ws) ≡ true
+pub cells-left-of-byte : (b : Bit) (w : ℕ) (ws : List ℕ) → Kept b w
     → cellsLeft b (w ∷ ws) ≡ ones (wordOf b w) + cellsLeft (lastBit w) ws
 unfolding cellsLeft allBits
-cells-left-of-byte b w ws d bytes =
-    let rest = allBits ws ++ (O ∷ O ∷ []) in
-    ap (λ (l : List Bit). onesAmong (cellsAfter b l)) (append-assoc (writtenBits w) (allBits ws) (O ∷ O ∷ []))
-    ∙ ap onesAmong (cells-after-append b (writtenBits w) rest)
-    ∙ ones-of-append (cellsAfter b (writtenBits w)) _
-    ∙ ap₂ _+_ (sym (ones-of-word b w d (everywhere-passes-at-first isByte w ws bytes)))
-    (ap (λ (c : Bit). onesAmong (cellsAfter c rest)) (last-of-first w ws bytes b d))
+cells-left-of-byte b w ws kept =
+    rw (
+      append-assoc (writtenBits w),
+      cells-after-append b (writtenBits w),
+      ones-of-append (cellsAfter b (writtenBits w)),
+      ones-of-word b w kept,
+      kept .last-letter,
+    )
 
 pub cells-left-at-start : (ws : List ℕ) → everywhere isByte ws ≡ true → cellsLeft O ws ≡ length (writtenCells ws)
 unfolding cellsLeft writtenCells writtenSymbols bitsOf symbolsOf
-cells-left-at-start ws bytes =
-    cells-count O (allBits ws ++ (O ∷ O ∷ [])) (bytes-are-sound O ws refl bytes)
+cells-left-at-start ws bytes = cells-count O (allBits ws ++ (O ∷ O ∷ [])) (bytes-are-sound (all-kept O ws refl bytes))

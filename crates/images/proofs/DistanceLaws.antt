@@ -6,7 +6,6 @@ use mathlib.Core.Bool.{true, false, cond, true≢false}
 use mathlib.Core.List.{List, [], _∷_, _++_, append-assoc}
 use lib.Dec.{T}
 use Rattle.lists.specs.Place.{everywhere}
-use Rattle.lists.proofs.PlaceLaws.{everywhere-passes-at-first, everywhere-in-rest}
 use Rattle.items.specs.Item.{isByte}
 use Rattle.symbols.specs.Bits.{Bit, O, I, G, isOne, lastOf, writtenBits, allBits, bitsOf}
 use Rattle.symbols.specs.Bytes.{isGap}
@@ -17,7 +16,7 @@ use Rattle.symbols.proofs.HalfLaws.{cells-after-append}
 use Rattle.words.specs.Words.{clockBit, wordOf, lastBit}
 use Rattle.images.specs.Image.{imageFrom, imageOf}
 use Rattle.images.specs.Distances.{halfCells, imageCells, framed, distancesFrom, distances}
-use Rattle.images.proofs.WordLaws.{word-is-kept, last-bit-is-data}
+use Rattle.images.proofs.WordLaws.{word-is-kept, last-bit-is-data, AllKept, end, more, all-kept}
 
 -- ---- letters
 
@@ -33,11 +32,11 @@ pub distances-of-letters
     → distancesFrom n (cellsAfter b bs) ≡ cellsFrom (unitsAt b n) (symbolsFrom b bs)
 unfolding distancesFrom cellsAfter clockAfter clockBit dataOf unitsAt symbolsFrom pairSymbols cellsFrom sound follows
 distances-of-letters b [] n t = refl
-distances-of-letters O (O ∷ bs) n t = ap (λ (l : List ℕ). n ∷ l) (distances-of-letters O bs 2 t)
-distances-of-letters O (I ∷ bs) n t = ap (λ (l : List ℕ). suc n ∷ l) (distances-of-letters I bs 1 t)
-distances-of-letters O (G ∷ bs) n t = ap (λ (l : List ℕ). n ∷ l) (distances-of-letters G bs 2 t)
+distances-of-letters O (O ∷ bs) n t = ap (_∷_ n) (distances-of-letters O bs 2 t)
+distances-of-letters O (I ∷ bs) n t = ap (_∷_ (suc n)) (distances-of-letters I bs 1 t)
+distances-of-letters O (G ∷ bs) n t = ap (_∷_ n) (distances-of-letters G bs 2 t)
 distances-of-letters I (O ∷ bs) n t = distances-of-letters O bs (suc (suc n)) t
-distances-of-letters I (I ∷ bs) n t = ap (λ (l : List ℕ). suc n ∷ l) (distances-of-letters I bs 1 t)
+distances-of-letters I (I ∷ bs) n t = ap (_∷_ (suc n)) (distances-of-letters I bs 1 t)
 distances-of-letters I (G ∷ bs) n t = absurd t
 distances-of-letters G (O ∷ bs) n t = distances-of-letters O bs (suc (suc n)) t
 distances-of-letters G (I ∷ bs) n t = absurd t
@@ -56,52 +55,31 @@ zero-ends-none n (x ∷ xs) =
     elim (isOne x) as (λ t.
     cond t (n ∷ distancesFrom 1 (xs ++ (O ∷ []))) (distancesFrom (suc n) (xs ++ (O ∷ [])))
     ≡ cond t (n ∷ distancesFrom 1 xs) (distancesFrom (suc n) xs))
-    [ true ↦ ap (λ (l : List ℕ). n ∷ l) (zero-ends-none 1 xs) | false ↦ zero-ends-none (suc n) xs ]
+    [ true ↦ ap (_∷_ n) (zero-ends-none 1 xs) | false ↦ zero-ends-none (suc n) xs ]
 
 -- ---- bytes
 
-module _ (w : ℕ) (ws : List ℕ) (bytes : everywhere isByte (w ∷ ws) ≡ true) where
-  first-is-byte : isByte w ≡ true
-  first-is-byte = everywhere-passes-at-first isByte w ws bytes
-
-  others-are-bytes : everywhere isByte ws ≡ true
-  others-are-bytes = everywhere-in-rest isByte w ws bytes
-
-  -- the letters of the first byte end in its last bit
-  pub last-of-first : (b : Bit) → isGap b ≡ false → lastOf b (writtenBits w) ≡ lastBit w
-  last-of-first b d = word-is-kept b w d first-is-byte .last-letter
-
-pub last-of-bytes-is-data : (b : Bit) (ws : List ℕ) → isGap b ≡ false → everywhere isByte ws ≡ true
-    → isGap (lastOf b (allBits ws)) ≡ false
+last-of-bytes-is-data : {b : Bit} {ws : List ℕ} → AllKept b ws → isGap (lastOf b (allBits ws)) ≡ false
 unfolding allBits lastOf
-last-of-bytes-is-data b [] d bytes = d
-last-of-bytes-is-data b (w ∷ ws) d bytes =
-    ap isGap (last-append b (writtenBits w) (allBits ws)
-    ∙ ap (λ (c : Bit). lastOf c (allBits ws)) (last-of-first w ws bytes b d))
-    ∙ last-of-bytes-is-data (lastBit w) ws (last-bit-is-data w) (others-are-bytes w ws bytes)
+last-of-bytes-is-data (end d) = d
+last-of-bytes-is-data (more d kept rest) = rw (last-append, kept .last-letter) (last-of-bytes-is-data rest)
 
-pub bytes-are-sound : (b : Bit) (ws : List ℕ) → isGap b ≡ false → everywhere isByte ws ≡ true
-    → T (sound b (allBits ws ++ (O ∷ O ∷ [])))
+pub bytes-are-sound : {b : Bit} {ws : List ℕ} → AllKept b ws → T (sound b (allBits ws ++ (O ∷ O ∷ [])))
 unfolding allBits sound follows
-bytes-are-sound O [] d bytes = tt
-bytes-are-sound I [] d bytes = tt
-bytes-are-sound G [] d bytes = absurd (true≢false d)
-bytes-are-sound b (w ∷ ws) d bytes =
-    let rest = allBits ws ++ (O ∷ O ∷ []) in
-    rw (append-assoc (writtenBits w) (allBits ws) (O ∷ O ∷ []))
-    (sound-append b (writtenBits w) rest (word-is-kept b w d (first-is-byte w ws bytes) .letters-are-sound)
-    (rw (last-of-first w ws bytes b d)
-    (bytes-are-sound (lastBit w) ws (last-bit-is-data w) (others-are-bytes w ws bytes))))
+bytes-are-sound {b = O} (end d) = tt
+bytes-are-sound {b = I} (end d) = tt
+bytes-are-sound {b = G} (end d) = tt
+bytes-are-sound (more {b} {w} d kept rest) =
+    rw append-assoc
+    (sound-append b (writtenBits w) _ (kept .letters-are-sound) (rw (kept .last-letter) (bytes-are-sound rest)))
 
 -- an image's half cells are those of its bytes' letters
-pub cells-of-image : (b : Bit) (ws : List ℕ) → isGap b ≡ false → everywhere isByte ws ≡ true
-    → imageCells (imageFrom b ws) ≡ cellsAfter b (allBits ws)
+cells-of-image : {b : Bit} {ws : List ℕ} → AllKept b ws → imageCells (imageFrom b ws) ≡ cellsAfter b (allBits ws)
 unfolding imageCells imageFrom allBits cellsAfter
-cells-of-image b [] d bytes = refl
-cells-of-image b (w ∷ ws) d bytes =
-    ap₂ _++_ (word-is-kept b w d (first-is-byte w ws bytes) .half-cells)
-    (cells-of-image (lastBit w) ws (last-bit-is-data w) (others-are-bytes w ws bytes)
-    ∙ ap (λ (c : Bit). cellsAfter c (allBits ws)) (sym (last-of-first w ws bytes b d)))
+cells-of-image (end d) = refl
+cells-of-image (more {b} {w} {ws} d kept rest) =
+    ap₂ _++_ (kept .half-cells)
+    (cells-of-image rest ∙ ap (λ (c : Bit). cellsAfter c (allBits ws)) (sym (kept .last-letter)))
     ∙ sym (cells-after-append b (writtenBits w) (allBits ws))
 
 -- ---- an image between its ends
@@ -124,17 +102,18 @@ unfolding distances distancesFrom framed imageOf writtenCells writtenSymbols bit
 distances-are-cells ws bytes =
     let front = cellsAfter O (allBits ws) in
     let last = lastOf O (allBits ws) in
-    let cells : imageCells (imageFrom O ws) ≡ front = cells-of-image O ws refl bytes in
+    let kept = all-kept O ws refl bytes in
+    let cells : imageCells (imageFrom O ws) ≡ front = cells-of-image kept in
     let clock : clockBit (lastOf O (imageCells (imageFrom O ws))) O ≡ clockAfter last O =
     ap (λ (l : List Bit). clockBit (lastOf O l) O) cells
     ∙ ap (λ (c : Bit). clockBit c O) (last-half-cell O (allBits ws))
-    ∙ clock-for-zero last (last-of-bytes-is-data O ws refl bytes) in
+    ∙ clock-for-zero last (last-of-bytes-is-data kept) in
     ap₂ (λ (l : List Bit) (c : Bit). distancesFrom 2 (l ++ (c ∷ O ∷ I ∷ []))) cells clock
     ∙ sym (zero-ends-none 2 (front ++ (clockAfter last O ∷ O ∷ I ∷ [])))
     ∙ ap (distancesFrom 2) (append-assoc front (clockAfter last O ∷ O ∷ I ∷ []) (O ∷ [])
-    ∙ ap (λ (l : List Bit). front ++ l) (sym (closing-cells last))
+    ∙ ap (_++_ front) (sym (closing-cells last))
     ∙ sym (cells-after-append O (allBits ws) (O ∷ O ∷ [])))
-    ∙ distances-of-letters O (allBits ws ++ (O ∷ O ∷ [])) 2 (bytes-are-sound O ws refl bytes)
+    ∙ distances-of-letters O (allBits ws ++ (O ∷ O ∷ [])) 2 (bytes-are-sound kept)
 
 -- ---- what follows an image
 
@@ -145,7 +124,7 @@ distances-from-a-one
 unfolding distancesFrom
 distances-from-a-one n [] ys = refl
 distances-from-a-one n (O ∷ xs) ys = distances-from-a-one (suc n) xs ys
-distances-from-a-one n (I ∷ xs) ys = ap (λ (l : List ℕ). n ∷ l) (distances-from-a-one 1 xs ys)
+distances-from-a-one n (I ∷ xs) ys = ap (_∷_ n) (distances-from-a-one 1 xs ys)
 distances-from-a-one n (G ∷ xs) ys = distances-from-a-one (suc n) xs ys
 
 pub distances-and-more

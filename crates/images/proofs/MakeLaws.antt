@@ -5,19 +5,18 @@ use mathlib.Core.List.{List, _++_}
 use lib.ListN.{length, take, drop}
 use lib.Seq.{drop-append-seam}
 use Rattle.lists.specs.Filled.{filled, storedAt}
-use Rattle.lists.proofs.StoreLaws.{stored-at-front-fills}
-use Rattle.refusal.specs.Answer.{Answer, accepted, refused, settled}
-use Rattle.refusal.proofs.AnswerLaws.{acceptance-fills-the-buffer}
+use Rattle.lists.proofs.StoreLaws.{stored-at-front-fills, front-of-filled}
+use Rattle.refusal.specs.Answer.{accepted, refused}
 use Rattle.items.specs.Item.{writtenBytes}
 use Rattle.items.specs.Rule.{listRule}
 use Rattle.items.specs.Written.{freshCheck, writtenFrom, written}
 use Rattle.items.specs.declared.Check.{Check}
-use Rattle.items.proofs.WrittenLaws.{length-of-written, front-of-stored-bytes}
+use Rattle.items.proofs.WrittenLaws.{length-of-written}
 use Rattle.symbols.specs.Bits.{O}
 use Rattle.images.specs.Image.{imageOf}
 use Rattle.images.specs.Rules.{makeRule, makeOutput}
 use Rattle.images.proofs.ImageLaws.{length-of-image}
-use Rattle.images.proofs.RuleLaws.{accepted-with-room, refused-without-room, rule-of-made}
+use Rattle.images.proofs.RuleLaws.{room-refuses, room-accepts}
 
 module _ (items old : List ℕ) (listed : listRule items .number ≡ 0) where
   pub make-refuses
@@ -25,54 +24,40 @@ module _ (items old : List ℕ) (listed : listRule items .number ≡ 0) where
       → n ≡ writtenBytes items
       → length old < n
       → (refused 9 0 ≡ makeRule items (length old)) × (old ≡ makeOutput items old)
-  unfolding makeOutput
-  make-refuses n count h =
-      let full : length old < length (written items) = rw (length-of-written items) (rw count at h) in
-      let rule : refused 9 0 ≡ makeRule items (length old) =
-      sym (refused-without-room (length (written items)) (length old) full) ∙ rule-of-made items (length old) listed in
-      (rule, ap (λ (a : Answer). settled a (imageOf (written items)) old) rule)
+  unfolding makeRule makeOutput
+  make-refuses n count h = room-refuses (listRule items) _ _ old listed (rw (length-of-written items, ← count) h)
 
   -- the buffer after the written bytes, and the words that they become
   module _ (check : Check) (stored : List ℕ) (n : ℕ) (begins : check ≡ freshCheck) (count : n ≡ writtenBytes items)
       (stores : stored ≡ storedAt old 0 (writtenFrom check items)) (room : n ≤ length old) where
-    front-is-written : take n stored ≡ written items
-    unfolding written
-    front-is-written =
-        front-of-stored-bytes check items n stored old count stores (rw count at room)
-        ∙ ap (λ (c : Check). writtenFrom c items) begins
-
     written-count : length (written items) ≡ n
     written-count = length-of-written items ∙ sym count
 
+    fills : stored ≡ filled (written items) old
+    unfolding written
+    fills = rw (stores, begins) (stored-at-front-fills (written items) old (rw written-count room))
+
+    front-is-written : take n stored ≡ written items
+    front-is-written = rw (fills, ← written-count) (front-of-filled (written items) old)
+
     pub front-count : n ≡ length (take n stored)
-    front-count = sym written-count ∙ ap length (sym front-is-written)
+    front-count = rw (front-is-written, written-count)
 
     rest-is-kept : drop n stored ≡ drop n old
-    unfolding filled written
-    rest-is-kept =
-        let fits : length (written items) ≤ length old = rw written-count room in
-        let fills : stored ≡ written items ++ drop (length (written items)) old =
-        stores
-        ∙ ap (λ (c : Check). storedAt old 0 (writtenFrom c items)) begins
-        ∙ stored-at-front-fills (written items) old fits in
-        ap₂ drop (sym written-count) fills
-        ∙ drop-append-seam (written items) _
-        ∙ ap (λ (k : ℕ). drop k old) written-count
+    unfolding filled
+    rest-is-kept = rw (fills, ← written-count) (drop-append-seam (written items) _)
 
     pub make-accepts
         : (words : List ℕ)
         → words ≡ imageOf (take n stored)
         → (accepted n ≡ makeRule items (length old)) × (words ++ drop n stored ≡ makeOutput items old)
-    unfolding makeOutput filled imageOf
+    unfolding makeRule makeOutput filled imageOf
     make-accepts words turned =
-        let fits : length (written items) ≤ length old = rw written-count room in
-        let rule : accepted n ≡ makeRule items (length old) =
-        ap accepted (sym written-count)
-        ∙ sym (accepted-with-room (length (written items)) (length old) fits)
-        ∙ rule-of-made items (length old) listed in (
+        let image = imageOf (written items) in
+        let (rule, output) = room-accepts (listRule items) n image old listed room in
+        rw written-count (
           rule,
           ap₂ _++_ (turned ∙ ap imageOf front-is-written)
               (rest-is-kept ∙ ap (λ (k : ℕ). drop k old) (sym (length-of-image O (written items) ∙ written-count)))
-              ∙ sym (acceptance-fills-the-buffer (makeRule items (length old)) (imageOf (written items)) old
-              (sym (ap (λ (a : Answer). a .number) rule))),
+              ∙ output,
         )

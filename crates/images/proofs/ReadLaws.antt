@@ -6,7 +6,7 @@ use mathlib.Core.Bool.{Bool, true, false, cond, not, true≢false}
 use mathlib.Core.Logic.{⊎-elim}
 use native.Mathlib.Omega.{arith}
 use lib.Bits.{bitOr, mask-lt}
-use lib.Dec.{eqb}
+use lib.Dec.{eqb, lit<}
 use lib.ListN.{length, getD, List·getD-append}
 use borrow.Author.Tests.{eqb-true, not-false}
 use Rattle.lists.specs.Place.{anywhere, everywhere, lowest}
@@ -48,14 +48,14 @@ data-are-there w h =
 
 among-all : (f : ℕ → Bool) (w : ℕ) → isByte w ≡ true → f w ≡ true → anywhere f allBytes ≡ true
 among-all f w byte e =
-    ⊎-elim
-    (λ (h : w < 256). anywhere-of-entry f allBytes 0 w (rw count-of-all (omega arith)) (rw (data-are-there w h) e))
-    (λ m.
-    ⊎-elim
-    (λ q. anywhere-of-entry f allBytes 0 256 (rw count-of-all (omega arith)) (rw (marks-are-there .0) (rw q at e)))
-    (λ q. anywhere-of-entry f allBytes 0 257 (rw count-of-all (omega arith)) (rw (marks-are-there .1) (rw q at e)))
+    ⊎-elim (λ (h : w < 256). at w (omega arith) (data-are-there w h))
+    (λ m. ⊎-elim (λ q. at 256 (lit< tt) (marks-are-there .0 ∙ sym q))
+    (λ q. at 257 (lit< tt) (marks-are-there .1 ∙ sym q))
     (mark-is-A1-or-C2 w m))
     (byte-is-data-or-mark w byte)
+  where
+    at : (k : ℕ) → k < 258 → getD allBytes k 0 ≡ w → anywhere f allBytes ≡ true
+    at k h q = anywhere-of-entry f allBytes 0 k (rw count-of-all h) (rw q e)
 
 -- ---- the candidate
 

@@ -1,10 +1,10 @@
 -- A tally along a list: it is a fold, it only grows, and with what the closing 0s end it is the number of cells, so
 -- that it stays small. Rests on no axiom.
-use Prim.Native.Nat.{ℕ, _+_, _*_, _%_, _≤_, _<_}
+use Prim.Native.Nat.{ℕ, _+_, _%_, _≤_, _<_}
 use mathlib.Core.Path.{_≡_, refl, sym, ap, _∙_}
 use mathlib.Core.Bool.{true, false, cond}
 use mathlib.Core.List.{List, [], _∷_, _++_}
-use native.Mathlib.Nat.{zero-add, add-assoc}
+use native.Mathlib.Nat.{zero-add}
 use native.Mathlib.Omega.{arith}
 use native.Mathlib.Numerals.{add-one}
 use lib.Count.{ones, onesIn, ones-le}
@@ -12,7 +12,7 @@ use lib.Dec.{eqb}
 use lib.ListN.{length, getD, drop}
 use lib.Seq.{drop-cons}
 use Rattle.lists.specs.Place.{everywhere}
-use Rattle.lists.proofs.PlaceLaws.{everywhere-in-rest}
+use Rattle.lists.proofs.PlaceLaws.{everywhere-in-rest, everywhere-passes-at-first}
 use Rattle.items.specs.Item.{isByte, isMark}
 use Rattle.items.specs.Rule.{listRule}
 use Rattle.items.specs.Written.{written}
@@ -26,7 +26,7 @@ use Rattle.symbols.proofs.NumberLaws.{ones-of-number}
 use Rattle.words.specs.Words.{clocked, dataWord, markWord, wordOf, lastBit}
 use Rattle.images.specs.machine.Tally.{noTally, talliedByte, tallied}
 use Rattle.images.specs.declared.count.Tally.{Tally}
-use Rattle.images.proofs.WordLaws.{last-bit-is-data}
+use Rattle.images.proofs.WordLaws.{last-bit-is-data, word-is-kept}
 use Rattle.images.proofs.CountLaws.{cellsLeft, cells-left-of-none, cells-left-of-byte, cells-left-at-start}
 
 -- ---- a fold
@@ -87,10 +87,11 @@ unfolding tallied talliedByte
 cells-with-the-rest t [] bytes = refl
 cells-with-the-rest t (w ∷ ws) bytes =
     let rest = cells-with-the-rest (talliedByte t w) ws (everywhere-in-rest isByte w ws bytes) in
-    let first = cells-left-of-byte (lastBit (t .previous)) w ws (last-bit-is-data (t .previous)) bytes in
-    rest
-    ∙ add-assoc (t .cells) (ones (wordOf (lastBit (t .previous)) w)) (cellsLeft (lastBit w) ws)
-    ∙ ap (λ (n : ℕ). t .cells + n) (sym first)
+    let before = lastBit (t .previous) in
+    let first =
+    cells-left-of-byte before w ws (word-is-kept before w (last-bit-is-data (t .previous))
+    (everywhere-passes-at-first isByte w ws bytes)) in
+    rest ∙ omega arith
 
 pub tally-is-count : (ws : List ℕ) → everywhere isByte ws ≡ true
     → tallied noTally ws .cells + cond (eqb (tallied noTally ws .previous % 2) 1) 1 2 ≡ length (writtenCells ws)

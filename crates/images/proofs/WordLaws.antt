@@ -3,11 +3,14 @@
 use Prim.Native.Nat.{ℕ, _%_}
 use mathlib.Core.Path.{_≡_, refl}
 use mathlib.Core.Bool.{Bool, true, false, cond, _&&_, true≢false}
+use mathlib.Core.List.{List, [], _∷_}
 use lib.Dec.{T, eqb, eqb→eq}
+use Rattle.lists.specs.Place.{everywhere}
+use Rattle.lists.proofs.PlaceLaws.{everywhere-passes-at-first, everywhere-in-rest}
 use Rattle.items.specs.Item.{isMark, isByte}
 use Rattle.symbols.specs.Bits.{Bit, O, I, G, byteBits, withGaps, markBits, writtenBits, lastOf}
 use Rattle.symbols.specs.Bytes.{numberFrom, isGap}
-use Rattle.symbols.proofs.TestLaws.{left-of, right-of, holds}
+use Rattle.symbols.proofs.TestLaws.{holds, parts}
 use Rattle.symbols.proofs.RowLaws.{sameBit, sameBits, same-bit, same-bits, passesBelow, overBytes, over-bytes}
 use Rattle.symbols.proofs.CellLaws.{follows, sound}
 use Rattle.symbols.proofs.HalfCells.{clockAfter, dataOf, cellsAfter}
@@ -49,36 +52,34 @@ pub record Kept (before : Bit) (w : ℕ) : Type 0 where
 kept-of-test : (before : Bit) (w : ℕ) → T (wordKept before w) → Kept before w
 unfolding wordKept
 kept-of-test before w t =
-    let p = eqb (candidate (wordOf before w)) w in
-    let q = sameBits (halfCells (wordOf before w)) (cellsAfter before (writtenBits w)) in
-    let r = eqb (wordOf before w) (numberFrom 0 (cellsAfter before (writtenBits w))) in
-    let s = sound before (writtenBits w) in
-    let u = sameBit (lastOf before (writtenBits w)) (lastBit w) in
-    let v = sameBits (topBits 16 (wordOf before w)) (halfCells (wordOf before w)) in
-    let pqrsu = left-of (p && q && r && s && u) v t in
-    let pqrs = left-of (p && q && r && s) u pqrsu in
-    let pqr = left-of (p && q && r) s pqrs in
-    let pq = left-of (p && q) r pqr in
     record {
-      candidate-is-byte = eqb→eq _ _ (left-of p q pq);
-      half-cells = same-bits _ _ (right-of p q pq);
-      number = eqb→eq _ _ (right-of (p && q) r pqr);
-      letters-are-sound = right-of (p && q && r) s pqrs;
-      last-letter = same-bit _ _ (right-of (p && q && r && s) u pqrsu);
-      top-bits = same-bits _ _ (right-of (p && q && r && s && u) v t);
+      candidate-is-byte = eqb→eq _ _ (search parts);
+      half-cells = same-bits _ _ (search parts);
+      number = eqb→eq _ _ (search parts);
+      letters-are-sound = search parts;
+      last-letter = same-bit _ _ (search parts);
+      top-bits = same-bits _ _ (search parts);
     }
 
 pub word-is-kept : (before : Bit) (w : ℕ) → isGap before ≡ false → isByte w ≡ true → Kept before w
 unfolding bothKept
-word-is-kept O w d b =
-    kept-of-test O w
-    (left-of (wordKept O w) (wordKept I w) (over-bytes bothKept all-words-kept w (holds (isByte w) b)))
-word-is-kept I w d b =
-    kept-of-test I w
-    (right-of (wordKept O w) (wordKept I w) (over-bytes bothKept all-words-kept w (holds (isByte w) b)))
+word-is-kept O w d b = kept-of-test O w (search (parts, over-bytes bothKept all-words-kept w (holds (isByte w) b)))
+word-is-kept I w d b = kept-of-test I w (search (parts, over-bytes bothKept all-words-kept w (holds (isByte w) b)))
 word-is-kept G w d b = absurd (true≢false d)
 
 pub last-bit-is-data : (w : ℕ) → isGap (lastBit w) ≡ false
 unfolding lastBit
 last-bit-is-data w =
     elim (eqb (w % 2) 1) as (λ t. isGap (cond t I O) ≡ false) [ true ↦ refl | false ↦ refl ]
+
+-- ---- what it says of each word of a list
+
+pub data AllKept : Bit → List ℕ → Type 0 where
+  end : {b : Bit} → isGap b ≡ false → AllKept b []
+  more : {b : Bit} {w : ℕ} {ws : List ℕ} → isGap b ≡ false → Kept b w → AllKept (lastBit w) ws → AllKept b (w ∷ ws)
+
+pub all-kept : (b : Bit) (ws : List ℕ) → isGap b ≡ false → everywhere isByte ws ≡ true → AllKept b ws
+all-kept b [] d bytes = end d
+all-kept b (w ∷ ws) d bytes =
+    more d (word-is-kept b w d (everywhere-passes-at-first isByte w ws bytes))
+    (all-kept (lastBit w) ws (last-bit-is-data w) (everywhere-in-rest isByte w ws bytes))

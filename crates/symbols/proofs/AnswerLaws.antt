@@ -1,8 +1,8 @@
 -- What a caller learns from the reading machine: the number of bits and of bytes and whether they are whole bytes, by
 -- their units; and the lowest gap out of place, also one on the last letter, which the register shows.
 use Prim.Native.Nat.{ℕ, _+_, _-_, _*_, _/_, _%_, _≤_, _<_}
-use mathlib.Core.Path.{_≡_, refl, ap, sym, subst, _∙_}
-use mathlib.Core.Bool.{Bool, true, false, cond, not, _&&_, _||_, true≢false}
+use mathlib.Core.Path.{_≡_, refl, ap, sym, _∙_}
+use mathlib.Core.Bool.{Bool, true, false, cond, not, _||_, true≢false, or-false}
 use mathlib.Core.Logic.{inl, inr}
 use mathlib.Core.List.{List, [], _∷_, _++_, append-assoc}
 use native.Mathlib.Nat.{add-zero}
@@ -14,7 +14,7 @@ use lib.Pow.{mod-mod-pow}
 use lib.ListN.{length, getD, length-map}
 use Rattle.lists.specs.Place.{anywhere, lowest, passed}
 use Rattle.lists.proofs.PlaceLaws.{anywhere-of-append}
-use Rattle.refusal.specs.Answer.{accepted, refuseIf}
+use Rattle.refusal.specs.Answer.{refuseIf, Answer}
 use Rattle.symbols.specs.Bits.{Bit, O, I, G, lastOf}
 use Rattle.symbols.specs.Bytes.{digit, numberFrom, isGap, itemOf, rowsOf, itemsRead, straysRead}
 use Rattle.symbols.specs.Reading.{readFrom, readBits, sources}
@@ -22,16 +22,16 @@ use Rattle.symbols.specs.Strip.{isRagged, bytesRead, strayPlace, isStray
 use Rattle.symbols.specs.machine.Step.{freshReading, endsInGap, strayNow, placeNow, stripAnswer}
 use Rattle.symbols.specs.declared.Cell.{Cell}
 use Rattle.symbols.specs.declared.Reading.{Reading}
-use Rattle.symbols.proofs.TestLaws.{same-test, or-false, holds, left-of, right-of}
+use Rattle.symbols.proofs.TestLaws.{same-test, holds, parts}
 use Rattle.symbols.proofs.ReadingLaws.{last-is-no-gap}
-use Rattle.symbols.proofs.PlaceLaws.{lowest-in-front, lowest-past-front}
 use Rattle.symbols.proofs.UnitLaws.{unitsIn, bits-known, length-by-units, ragged-by-units}
 use Rattle.symbols.proofs.CellLaws.{follows, sound, sound-rest, read-is-sound, last-append}
-use Rattle.symbols.proofs.HalfCells.{clockAfter, dataOf, cellsAfter, track, clockAtEnd}
+use Rattle.symbols.proofs.HalfCells.{clockAfter, dataOf, cellsAfter, track}
 use Rattle.symbols.proofs.HalfLaws.{cells-after-append, track-of-letters}
 use Rattle.symbols.proofs.NumberLaws.{number-append, last-digit-is-data}
 use Rattle.symbols.proofs.SourceLaws.{place-by-ones}
 use Rattle.symbols.proofs.ReadsLaws.{Open, Held, Reads, front-length, letters-count, strays-so-far}
+use Rattle.symbols.proofs.PlaceLaws.{rows-of-few, lowest-of-append, by-rows}
 
 -- Counts
 
@@ -53,15 +53,9 @@ counted m cs (inr so-far) =
 
 rows-count : (xs : List Bit) → length (rowsOf xs) ≡ length xs / 8
 unfolding rowsOf
-rows-count [] = refl
-rows-count (a ∷ []) = refl
-rows-count (a ∷ b ∷ []) = refl
-rows-count (a ∷ b ∷ c ∷ []) = refl
-rows-count (a ∷ b ∷ c ∷ d ∷ []) = refl
-rows-count (a ∷ b ∷ c ∷ d ∷ e ∷ []) = refl
-rows-count (a ∷ b ∷ c ∷ d ∷ e ∷ f ∷ []) = refl
-rows-count (a ∷ b ∷ c ∷ d ∷ e ∷ f ∷ g ∷ []) = refl
-rows-count (a ∷ b ∷ c ∷ d ∷ e ∷ f ∷ g ∷ h ∷ xs) = omega (arith, rows-count xs)
+rows-count =
+    by-rows (λ xs. length (rowsOf xs) ≡ length xs / 8) (λ xs few. rw (rows-of-few xs few) (omega arith))
+    (λ a b c d e f g h xs more. omega arith)
 
 pub items-count : (bs : List Bit) → length (itemsRead bs) ≡ (length bs - 1) / 8
 unfolding itemsRead
@@ -110,10 +104,15 @@ module _ (m : Reading) (cs : List Cell) (so-far : Held m cs) where
   abbrev a : Bit
   a = lastOf (o .lead) (o .before)
 
+  abbrev known : List Bit
+  known = o .lead ∷ o .before
+
+  letters-with : (rest : List Bit) → o .rest ≡ rest → readBits cs ≡ known ++ rest
+  letters-with rest e = o .letters ∙ ap (_++_ known) e
+
   last-letter : (rest : List Bit) → o .rest ≡ rest → lastOf O (readBits cs) ≡ lastOf a rest
   unfolding lastOf
-  last-letter rest e =
-      ap (lastOf O) (o .letters) ∙ last-append O (o .lead ∷ o .before) (o .rest) ∙ ap (lastOf a) e
+  last-letter rest e = ap (lastOf O) (letters-with rest e) ∙ last-append O known rest
 
   held-by-letters : m .held + digit (lastOf O (readBits cs)) ≡ 2 + 2 * length (o .rest)
   held-by-letters = omega (arith, bits-known cs, letters-count m cs o, o .held)
@@ -122,19 +121,13 @@ module _ (m : Reading) (cs : List Cell) (so-far : Held m cs) where
   gap-by-register : o .rest ≡ O ∷ [] → isGap a ≡ eqb (m .bits % 16) 1
   unfolding lastOf cellsAfter dataOf
   gap-by-register e =
-      let front = cellsAfter O (o .lead ∷ o .before) in
+      let front = cellsAfter O known in
       let digits : track cs ≡ front ++ (clockAfter a O ∷ O ∷ I ∷ []) =
-      track-of-letters cs
-      ∙ ap (λ (z : Bit). cellsAfter O (readBits cs) ++ clockAtEnd z) (last-letter (O ∷ []) e)
-      ∙ ap (λ (l : List Bit). cellsAfter O l ++ (I ∷ [])) (o .letters)
-      ∙ ap (λ (l : List Bit). cellsAfter O (o .lead ∷ o .before ++ l) ++ (I ∷ [])) e
-      ∙ ap (λ (l : List Bit). l ++ (I ∷ [])) (cells-after-append O (o .lead ∷ o .before) (O ∷ []))
-      ∙ append-assoc front (clockAfter a O ∷ O ∷ []) (I ∷ []) in
+      rw (track-of-letters cs, last-letter (O ∷ []) e, letters-with (O ∷ []) e)
+      (ap (λ (l : List Bit). l ++ (I ∷ [])) (cells-after-append O known (O ∷ [])) ∙ append-assoc front _ _) in
       gap-by-digits a (numberFrom 0 front) (last-digit-is-data 0 O (o .lead) (o .before))
-      ∙ ap (λ (n : ℕ). eqb (n % 16) 1)
-      (sym (number-append 0 front (clockAfter a O ∷ O ∷ I ∷ [])) ∙ ap (numberFrom 0) (sym digits))
-      ∙ ap (λ (n : ℕ). eqb n 1)
-      (sym (mod-mod-pow (numberFrom 0 (track cs)) 28 4) ∙ ap (λ (n : ℕ). n % 16) (sym (o .bits)))
+      ∙ ap (λ (n : ℕ). eqb (n % 16) 1) (sym (ap (numberFrom 0) digits ∙ number-append 0 front _))
+      ∙ ap (λ (n : ℕ). eqb n 1) (sym (ap (λ (n : ℕ). n % 16) (o .bits) ∙ mod-mod-pow (numberFrom 0 (track cs)) 28 4))
 
   last-gap : (rest : List Bit) → o .rest ≡ rest → m .held ≤ 4 → isGap a ≡ endsInGap m
   unfolding lastOf
@@ -148,33 +141,26 @@ module _ (m : Reading) (cs : List Cell) (so-far : Held m cs) where
   last-gap (I ∷ []) e few =
       let held = held-by-letters in
       let none =
-      no-gap-before-one a (subst (λ (l : List Bit). T (sound a l)) e
-      (sound-rest O (o .lead ∷ o .before) (o .rest)
-      (subst (λ (l : List Bit). T (sound O l)) (o .letters) (read-is-sound cs)))) in
+      no-gap-before-one a (sound-rest O known (I ∷ []) (rw (letters-with (I ∷ []) e) at (read-is-sound cs))) in
       rw (none, ne-eqb (m .held) 4 (λ h. omega (arith, ap length e, ap digit (last-letter (I ∷ []) e))))
   last-gap (G ∷ []) e few = absurd (true≢false (ap isGap (sym (last-letter (G ∷ []) e)) ∙ last-is-no-gap cs))
   last-gap (b ∷ c ∷ rest) e few =
       absurd (omega (arith, ap length e, letters-count m cs o, length-by-units cs, o .held))
 
   open-strays : m .held ≤ 4 → straysRead (readBits cs) ≡ o .front ++ (endsInGap m ∷ [])
-  open-strays few = strays-so-far m cs so-far ∙ ap (λ (t : Bool). o .front ++ (t ∷ [])) (last-gap (o .rest) refl few)
+  open-strays few = rw (strays-so-far m cs so-far, last-gap (o .rest) refl few)
 
   open-stray : m .held ≤ 4 → strayNow m ≡ isStray (readBits cs)
   unfolding isStray anywhere
-  open-stray few =
-      sym (ap (anywhere passed) (open-strays few)
-      ∙ anywhere-of-append passed (o .front) (endsInGap m ∷ [])
-      ∙ ap (λ (t : Bool). anywhere passed (o .front) || t) (or-false (endsInGap m))
-      ∙ ap (λ (t : Bool). t || endsInGap m) (sym (o .stray)))
+  open-stray few = rw (open-strays few, anywhere-of-append, or-false, o .stray)
 
   -- its cell is the last
   place-of-last : endsInGap m ≡ true → length cs - 1 ≡ getD (sources cs) (8 * m .words) 0
   unfolding ones onesIn
   place-of-last h =
-      let p : Bool = eqb (m .held) 4 in
-      let q : Bool = eqb (m .bits % 16) 1 in
-      let four : m .held ≡ 4 = eqb→eq _ _ (left-of p q (holds (p && q) h)) in
-      let one : m .bits % 16 ≡ 1 = eqb→eq _ _ (right-of p q (holds (p && q) h)) in
+      let t = holds (endsInGap m) h in
+      let four : m .held ≡ 4 = eqb→eq _ _ (search parts) in
+      let one : m .bits % 16 ≡ 1 = eqb→eq _ _ (search parts) in
       let counted =
       place-by-ones cs (8 * m .words) 3 (omega (arith, letters-count m cs o)) (omega (arith, o .held)) (omega arith) .1
       in
@@ -186,14 +172,9 @@ module _ (m : Reading) (cs : List Cell) (so-far : Held m cs) where
       → cond s (m .place) (length cs - 1) ≡ getD (sources cs) (lowest passed (o .front ++ (t ∷ []))) 0
   unfolding lowest
   open-place true t es et h =
-      rw (lowest-in-front passed (o .front) (t ∷ []) (sym (o .stray) ∙ es)) (o .place es)
+      rw (lowest-of-append, sym (o .stray) ∙ es) (o .place es)
   open-place false true es et h =
-      rw (
-        lowest-past-front passed (o .front) (true ∷ []) (sym (o .stray) ∙ es),
-        front-length m cs o,
-        add-zero (8 * m .words),
-      )
-      (place-of-last et)
+      rw (lowest-of-append, sym (o .stray) ∙ es, front-length m cs o, add-zero (8 * m .words)) (place-of-last et)
   open-place false false es et h = absurd (true≢false (sym h))
 
 -- What the machine holds at the end, where at most one letter follows the whole bytes
@@ -213,15 +194,12 @@ reads-place m cs (inr so-far) few h =
     rw (open-strays m cs so-far few)
     (open-place m cs so-far (m .stray) (endsInGap m) refl refl (open-stray m cs so-far few ∙ h))
 
--- the tests in their turn: the number of bytes and the gaps count where the bytes are whole, the place where a gap is
--- out of place
-same-rule :
-    (t u u′ : Bool) (p p′ n n′ : ℕ) → (t ≡ false → (n ≡ n′) × (u ≡ u′)) → (t ≡ false → u ≡ true → p ≡ p′)
-    → refuseIf t 7 0 (refuseIf (ltb 6400 n) 4 0 (refuseIf u 8 p (accepted n)))
-    ≡ refuseIf t 7 0 (refuseIf (ltb 6400 n′) 4 0 (refuseIf u′ 8 p′ (accepted n′)))
-same-rule true u u′ p p′ n n′ e ep = refl
-same-rule false true u′ p p′ n n′ e ep = rw (e refl .0, sym (e refl .1), ep refl refl)
-same-rule false false u′ p p′ n n′ e ep = rw (e refl .0, sym (e refl .1))
+-- a test in its turn: the place counts where it refuses, what comes after it where it does not
+same-refusal :
+    (t : Bool) (n p p′ : ℕ) (a a′ : Answer) → (t ≡ true → p ≡ p′) → (t ≡ false → a ≡ a′)
+    → refuseIf t n p a ≡ refuseIf t n p′ a′
+same-refusal true n p p′ a a′ place later = rw (place refl)
+same-refusal false n p p′ a a′ place later = later refl
 
 -- the strip reader's answer
 pub rule-of-reads : (m : Reading) (cs : List Cell) → Reads m cs → stripRule cs ≡ stripAnswer m (length cs - 1)
@@ -230,7 +208,7 @@ rule-of-reads m cs r =
     let ragged = reads-ragged m cs r in
     let four : isRagged (readBits cs) ≡ false → m .held ≡ 4 =
     (λ h. eqb-true (m .held) 4 (not-false _ (sym ragged ∙ h))) in
-    rw (← ragged) (same-rule (isRagged (readBits cs)) (isStray (readBits cs)) (strayNow m) (strayPlace cs)
-    (placeNow m (length cs - 1)) (bytesRead (readBits cs)) (m .words)
-    (λ h. let held = four h in (reads-bytes m cs r held, sym (reads-stray m cs r (omega arith))))
-    (λ h s. let held = four h in sym (reads-place m cs r (omega arith) s)))
+    rw (← ragged) (same-refusal (isRagged (readBits cs)) 7 0 0 _ _ (λ h. refl)
+    (λ h. let held = four h in
+    rw (reads-bytes m cs r held, reads-stray m cs r (omega arith)) (ap (refuseIf (ltb 6400 (m .words)) 4 0)
+    (same-refusal _ 8 _ _ _ _ (λ s. sym (reads-place m cs r (omega arith) s)) (λ s. refl)))))

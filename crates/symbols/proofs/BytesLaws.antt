@@ -2,7 +2,7 @@
 -- without a gap out of place are the letters of the bytes that they read as.
 use Prim.Native.Nat.{ℕ, _*_, _%_, _<_}
 use mathlib.Core.Path.{_≡_, refl, ap, sym, _∙_}
-use mathlib.Core.Bool.{Bool, true, false, cond}
+use mathlib.Core.Bool.{true, false, cond}
 use mathlib.Core.List.{List, [], _∷_, _++_, map, append-assoc}
 use native.Mathlib.Omega.{arith}
 use lib.ListN.{length, length-append}
@@ -13,30 +13,22 @@ use Rattle.items.specs.Item.{isMark, isByte}
 use Rattle.symbols.specs.Bits.{Bit, O, byteBits, markBits, withGaps, writtenBits, allBits}
 use Rattle.symbols.specs.Bytes.{itemOf, rowStrays, rowsOf, straysOf, itemsRead, straysRead}
 use Rattle.symbols.proofs.TestLaws.{neither, holds, held}
-use Rattle.symbols.proofs.PlaceLaws.{by-rows}
+use Rattle.symbols.proofs.PlaceLaws.{by-rows, rows-append, one-row}
 use Rattle.symbols.proofs.RowLaws.{item-of-written-byte, written-byte-has-no-stray}
-use Rattle.symbols.proofs.RowLaws.{row-is-a-byte, written-of-row}
+use Rattle.symbols.proofs.RowLaws.{row, row-is-a-byte, written-of-row}
 
 -- From bytes to rows
 
 -- the letters of a written byte are a row of eight
-written-row : (w : ℕ) (bs : List Bit) → rowsOf (writtenBits w ++ bs) ≡ writtenBits w ∷ rowsOf bs
-unfolding rowsOf writtenBits markBits withGaps byteBits
-written-row w bs = by (isMark w)
-  where
-    by :
-        (t : Bool)
-        → rowsOf (cond t (markBits (w % 256)) (byteBits w) ++ bs) ≡ cond t (markBits (w % 256)) (byteBits w) ∷ rowsOf bs
-    by true = refl
-    by false = refl
-
-pub written-row-is-eight : (w : ℕ) → length (writtenBits w) ≡ 8
+written-row-is-eight : (w : ℕ) → length (writtenBits w) ≡ 8
 unfolding writtenBits markBits withGaps byteBits
-written-row-is-eight w = by (isMark w)
-  where
-    by : (t : Bool) → length (cond t (markBits (w % 256)) (byteBits w)) ≡ 8
-    by true = refl
-    by false = refl
+written-row-is-eight w =
+    elim (isMark w) as (λ t. length (cond t (markBits (w % 256)) (byteBits w)) ≡ 8) [ true ↦ refl | false ↦ refl ]
+
+written-row : (w : ℕ) (bs : List Bit) → rowsOf (writtenBits w ++ bs) ≡ writtenBits w ∷ rowsOf bs
+written-row w bs =
+    let eight = written-row-is-eight w in
+    rw (rows-append (writtenBits w) bs (rw eight), one-row (writtenBits w) eight)
 
 pub length-of-bits : (ws : List ℕ) → length (allBits ws) ≡ 8 * length ws
 unfolding allBits
@@ -49,8 +41,7 @@ pub bits-of-append : (vs ws : List ℕ) → allBits (vs ++ ws) ≡ allBits vs ++
 unfolding allBits
 bits-of-append [] ws = refl
 bits-of-append (v ∷ vs) ws =
-    ap (λ (bs : List Bit). writtenBits v ++ bs) (bits-of-append vs ws)
-    ∙ sym (append-assoc (writtenBits v) (allBits vs) (allBits ws))
+    rw (bits-of-append vs ws, append-assoc)
 
 pub rows-of-bytes : (ws : List ℕ) → rowsOf (allBits ws ++ (O ∷ [])) ≡ map writtenBits ws
 unfolding allBits rowsOf
@@ -102,20 +93,14 @@ pub record Whole (bs : List Bit) : Type 0 where
 
 -- a row without a gap out of place in front of such letters
 whole-row :
-    (a b c d e f g h : Bit) (bs : List Bit) → anywhere passed (rowStrays (a ∷ b ∷ c ∷ d ∷ e ∷ f ∷ g ∷ h ∷ [])) ≡ false
-    → Whole bs
-    → Whole (a ∷ b ∷ c ∷ d ∷ e ∷ f ∷ g ∷ h ∷ bs)
+    (a b c d e f g h : Bit) (bs : List Bit) → anywhere passed (rowStrays (row a b c d e f g h)) ≡ false → Whole bs
+    → Whole (row a b c d e f g h ++ bs)
 unfolding rowsOf allBits
 whole-row a b c d e f g h bs fair w =
     record {
       last = w .last;
-      letters =
-          rw (written-of-row a b c d e f g h fair)
-          (ap (λ (x : List Bit). a ∷ b ∷ c ∷ d ∷ e ∷ f ∷ g ∷ h ∷ x) (w .letters));
-      bytes =
-          everywhere-of-passing isByte (itemOf (a ∷ b ∷ c ∷ d ∷ e ∷ f ∷ g ∷ h ∷ [])) (map itemOf (rowsOf bs))
-          (held _ (row-is-a-byte a b c d e f g h fair))
-          ∙ w .bytes;
+      letters = rw (written-of-row a b c d e f g h fair) (ap (_++_ (row a b c d e f g h)) (w .letters));
+      bytes = everywhere-of-passing isByte _ _ (held _ (row-is-a-byte a b c d e f g h fair)) ∙ w .bytes;
     }
 
 one-letter :
@@ -130,8 +115,5 @@ unfolding rowsOf straysOf
 whole =
     by-rows (λ bs. length bs % 8 ≡ 1 → anywhere passed (straysOf (rowsOf bs)) ≡ false → Whole bs) one-letter
     λ a b c d e f g h bs more n fair.
-    let row = a ∷ b ∷ c ∷ d ∷ e ∷ f ∷ g ∷ h ∷ [] in
-    let parts =
-    neither (anywhere passed (rowStrays row)) (anywhere passed (straysOf (rowsOf bs)))
-    (sym (anywhere-of-append passed (rowStrays row) (straysOf (rowsOf bs))) ∙ fair) in
+    let parts = neither _ _ (sym (anywhere-of-append passed (rowStrays (row a b c d e f g h)) _) ∙ fair) in
     whole-row a b c d e f g h bs (parts .0) (more (omega arith) (parts .1))

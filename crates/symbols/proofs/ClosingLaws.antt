@@ -2,7 +2,7 @@
 -- the gaps that it shows are those of the definitions, and of all gaps out of place the machine keeps the lowest.
 use Prim.Native.Nat.{ℕ, _+_, _-_, _*_, _/_, _%_, _^_, _≤_, _<_}
 use mathlib.Core.Path.{_≡_, refl, ap, ap₂, sym, _∙_}
-use mathlib.Core.Bool.{Bool, true, false, cond, not, _&&_, _||_, true≢false}
+use mathlib.Core.Bool.{Bool, true, false, cond, not, _&&_, _||_, true≢false, or-comm}
 use mathlib.Core.List.{List, [], _∷_, _++_, map, append-assoc, append-nil, map-append}
 use native.Mathlib.Nat.{mod-eq-of-lt}
 use native.Mathlib.Omega.{arith}
@@ -22,7 +22,7 @@ use Rattle.symbols.specs.declared.Cell.{Cell}
 use Rattle.symbols.specs.declared.Reading.{Reading}
 use Rattle.symbols.proofs.TestLaws.{neither}
 use Rattle.symbols.proofs.CellLaws.{last-append, sound-front, sound-rest, read-is-sound}
-use Rattle.symbols.proofs.PlaceLaws.{lowest-in-front, lowest-past-front, rows-append, strays-append, one-row}
+use Rattle.symbols.proofs.PlaceLaws.{rows-append, strays-append, one-row, lowest-of-append}
 use Rattle.symbols.proofs.HalfCells.{cellsAfter, track, clockAtEnd}
 use Rattle.symbols.proofs.HalfLaws.{cells-after-append, cells-after-length, halves-length, track-of-letters}
 use Rattle.symbols.proofs.WordLaws.{wordAfter, shownTests, Verdict, word-verdict, row-strays-end}
@@ -30,12 +30,6 @@ use Rattle.symbols.proofs.NumberLaws.{number-append, last-digit-is-data
 use Rattle.symbols.proofs.SourceLaws.{place-by-ones}
 use Rattle.symbols.proofs.ReadsLaws.{Open, Held, whole-rows, front-length, letters-count}
 use Rattle.symbols.proofs.ReadsLaws.{items-so-far, strays-so-far}
-
-either-order : (a b : Bool) → (a || b) ≡ (b || a)
-either-order true true = refl
-either-order true false = refl
-either-order false true = refl
-either-order false false = refl
 
 -- m has a word whole: of the letters that are left the first eight are its row
 module _
@@ -64,7 +58,7 @@ module _
     eight = length-take-le 8 (o .rest) (rows .0)
 
     letters : readBits cs ≡ (lead ∷ before) ++ (row ++ rest)
-    letters = o .letters ∙ ap (λ (l : List Bit). (lead ∷ before) ++ l) (sym (take-append-drop 8 (o .rest)))
+    letters = o .letters ∙ ap (_++_ (lead ∷ before)) (sym (take-append-drop 8 (o .rest)))
 
     abbrev tail : List Bit
     tail = cellsAfter (lastOf a row) rest ++ clockAtEnd (lastOf O (readBits cs))
@@ -86,12 +80,8 @@ module _
     tail-length =
         omega (
           arith,
-          ap length track-split,
+          rw (length-append, length-append, cells-after-length, cells-after-length) at (ap length track-split),
           halves-length cs,
-          length-append (cellsAfter O (lead ∷ before)) (cellsAfter a row ++ tail),
-          length-append (cellsAfter a row) tail,
-          cells-after-length O (lead ∷ before),
-          cells-after-length a row,
           o .held,
           o .whole,
           eight,
@@ -113,14 +103,14 @@ module _
         ∙ ap (λ (x : ℕ). x % 2 ^ 32)
         (ap (numberFrom 0) track-split ∙ number-append 0 front (cellsAfter a row ++ tail)) in
         ap₂ (λ (x k : ℕ). x / 2 ^ k % 2 ^ 17) digits surplus-is-tail
-        ∙ word-of-digits n a row tail (15 - length tail) (last-digit-is-data 0 O lead before) eight
+        ∙ word-of-digits 32 n a row tail (15 - length tail) (last-digit-is-data 0 O lead before) eight
         (let r = range .1 in omega (arith, tail-length))
 
-    pub verdict : Verdict a row
+    verdict : Verdict a row (wordOf m)
     unfolding lastOf
     verdict =
-        word-verdict a row eight (sound-front a row rest
-        (sound-rest O (lead ∷ before) (row ++ rest) (rw letters at (read-is-sound cs))))
+        rw word-is-row (word-verdict a row eight (sound-front a row rest
+        (sound-rest O (lead ∷ before) (row ++ rest) (rw letters at (read-is-sound cs)))))
 
     -- The gaps that it shows
 
@@ -130,30 +120,28 @@ module _
     pub rows-grown : rowsOf (before ++ row) ≡ rowsOf before ++ (row ∷ [])
     rows-grown =
         rows-append before row (whole-rows m cs o)
-        ∙ ap (λ (x : List (List Bit)). rowsOf before ++ x) (one-row row eight)
+        ∙ ap (_++_ (rowsOf before)) (one-row row eight)
 
     strays-grown :
         isGap lead ∷ straysOf (rowsOf (before ++ row))
         ≡ (front ++ tests) ++ (isGap (lastOf lead (before ++ row)) ∷ [])
     unfolding straysOf
     strays-grown =
-        ap (λ (x : List (List Bit)). isGap lead ∷ straysOf x) rows-grown
-        ∙ ap (λ (x : List Bool). isGap lead ∷ x) (strays-append (rowsOf before) (row ∷ []))
-        ∙ ap (λ (x : List Bool). isGap lead ∷ straysOf (rowsOf before) ++ x) (append-nil (rowStrays row))
-        ∙ ap (λ (x : List Bool). x ++ rowStrays row) (o .strays)
+        rw (
+          rows-grown,
+          strays-append (rowsOf before) (row ∷ []),
+          append-nil (rowStrays row),
+          last-append lead before row,
+        )
+        (ap (λ (x : List Bool). x ++ rowStrays row) (o .strays)
         ∙ append-snoc front (isGap a) (rowStrays row)
-        ∙ ap (λ (x : List Bool). front ++ x) (row-strays-end a row eight)
-        ∙ sym (append-assoc front tests (isGap (lastOf a row) ∷ []))
-        ∙ ap (λ (b : Bit). (front ++ tests) ++ (isGap b ∷ [])) (sym (last-append lead before row))
-
-    pub misfit-of-row : anywhere passed tests ≡ misfits (wordOf m)
-    misfit-of-row = verdict .stray ∙ ap misfits (sym word-is-row)
+        ∙ ap (_++_ front) (row-strays-end a row eight)
+        ∙ sym (append-assoc front tests (isGap (lastOf a row) ∷ [])))
 
     stray-grown : (misfits (wordOf m) || m .stray) ≡ anywhere passed (front ++ tests)
     stray-grown =
-        either-order (misfits (wordOf m)) (m .stray)
-        ∙ ap (λ (t : Bool). t || misfits (wordOf m)) (o .stray)
-        ∙ ap (λ (t : Bool). anywhere passed front || t) (sym misfit-of-row)
+        or-comm (misfits (wordOf m)) (m .stray)
+        ∙ ap₂ _||_ (o .stray) (sym (verdict .stray))
         ∙ sym (anywhere-of-append passed front tests)
 
     -- the first gap that it shows is the lowest, where none was out of place before
@@ -164,15 +152,13 @@ module _
     unfolding cellsSince firstOfCells shownTests
     lowest-here none here =
         let k = lowest passed tests in
-        let zeros : leadingZeros 32 (missing (wordOf m)) ≡ 15 + 2 * k =
-        ap (λ (x : ℕ). leadingZeros 32 (missing x)) word-is-row
-        ∙ verdict .place (ap misfits (sym word-is-row) ∙ here) in
+        let zeros : leadingZeros 32 (missing (wordOf m)) ≡ 15 + 2 * k = verdict .place here in
         let few : k < 8 =
-        omega (arith, lowest-of-some passed tests (misfit-of-row ∙ here), length-take 7 (rowStrays row)) in
+        omega (arith, lowest-of-some passed tests (verdict .stray ∙ here), length-take 7 (rowStrays row)) in
         let i : ℕ = 8 * m .words + k in
         let q : ℕ = length tail + 16 - 2 * k in
         let at : lowest passed (front ++ tests) ≡ i =
-        lowest-past-front passed front tests none ∙ ap (λ (n : ℕ). n + k) (front-length m cs o) in
+        rw (lowest-of-append passed front tests, none, front-length m cs o) in
         let exponent : (surplus m + 32 - leadingZeros 32 (missing (wordOf m))) % 32 ≡ q + 1 =
         ap (λ (n : ℕ). n % 32) (omega (arith, surplus-is-tail))
         ∙ mod-eq-of-lt (let r = range .1 in omega (arith, tail-length)) in
@@ -190,8 +176,8 @@ module _
         → cond (t && not s)
         (firstOfCells (length cs - 1) (cellsSince (m .bits) (surplus m) (missing (wordOf m)))) (m .place)
         ≡ getD (sources cs) (lowest passed (front ++ tests)) 0
-    lowest-grown true true es et h = rw (lowest-in-front passed front tests (sym (o .stray) ∙ es)) (o .place es)
-    lowest-grown true false es et h = rw (lowest-in-front passed front tests (sym (o .stray) ∙ es)) (o .place es)
+    lowest-grown true true es et h = rw (lowest-of-append, sym (o .stray) ∙ es) (o .place es)
+    lowest-grown true false es et h = rw (lowest-of-append, sym (o .stray) ∙ es) (o .place es)
     lowest-grown false true es et h = lowest-here (sym (o .stray) ∙ es) et
     lowest-grown false false es et h = absurd (true≢false (sym h))
 
@@ -231,11 +217,7 @@ module _
         let a-is-none = neither (isGap a) (anywhere passed (take 7 (rowStrays row))) (shown .1) .0 in
         let item : itemOf row ≡ candidate (codeWord m) =
         verdict .item (sym (verdict .stray) ∙ shown .1)
-        (ap isGap (sym (last-append lead before row)) ∙ neither last false (apart .1) .0)
-        ∙ ap (λ (x : ℕ). candidate (x % 65536)) (sym word-is-row) in (
+        (ap isGap (sym (last-append lead before row)) ∙ neither last false (apart .1) .0) in (
           rw (anywhere-of-append passed front (isGap a ∷ []), shown .0, a-is-none),
-          items-so-far (closed m (length cs - 1)) cs after
-              ∙ ap (map itemOf) rows-grown
-              ∙ map-append itemOf (rowsOf before) (row ∷ [])
-              ∙ ap (λ (n : ℕ). map itemOf (rowsOf before) ++ (n ∷ [])) item,
+          rw (items-so-far (closed m (length cs - 1)) cs after, rows-grown, map-append, item),
         )

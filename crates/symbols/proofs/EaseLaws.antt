@@ -1,29 +1,19 @@
 -- A word that is whole stands unchanged above the cells that are shifted in after it, as long as the register holds
 -- them; so it may be taken later, and left behind later. Rests on no axiom.
 use Prim.Native.Nat.{ℕ, _+_, _-_, _*_, _/_, _%_, _^_, _≤_, _<_}
-use mathlib.Core.Path.{_≡_, refl, ap, ap₂}
+use mathlib.Core.Path.{_≡_, refl}
 use mathlib.Core.Bool.{false}
-use native.Mathlib.Nat.{add-zero, mod-lt, mod-eq-of-lt, mul-mod-left}
+use native.Mathlib.Nat.{add-zero, mod-eq-of-lt, mul-mod-left}
 use native.Mathlib.Decide.{decLt}
 use native.Mathlib.Omega.{arith}
 use borrow.Author.Tests.{lt-leb, le-leb}
 use lib.Bits.{bitOr, or-shifted}
-use lib.Pow.{pow-pos, pow-lt, shl-shr, shr-shr, high, low, mod-pow-add}
+use lib.Pow.{pow-lt, shl-shr, shr-shr, high, field, mod-pow-add, mod-mod-pow}
 use Rattle.half_cells.specs.machine.Word.{misfits}
 use Rattle.symbols.specs.machine.Step.{shifted, surplus, wordOf, closed, eased}
 use Rattle.symbols.specs.declared.Reading.{Reading}
 
 -- ---- the digits of a word
-
--- the low digits of a number have the same 17 from a place on
-low-digits : (b r s : ℕ) → b % 2 ^ (r + 17 + s) / 2 ^ s % 2 ^ 17 ≡ b / 2 ^ s % 2 ^ 17
-low-digits b r s =
-    rw (
-      mod-pow-add b (r + 17) s,
-      high (b / 2 ^ s % 2 ^ (r + 17)) s (mod-lt b (pow-pos s)),
-      mod-pow-add (b / 2 ^ s) r 17,
-    )
-    (low (b / 2 ^ s / 2 ^ 17 % 2 ^ r) 17 (omega arith))
 
 -- what a shift leaves of a number
 pub shifted-out : (w b r u : ℕ) → w ≡ r + u → b * 2 ^ u % 2 ^ w ≡ b % 2 ^ r * 2 ^ u
@@ -37,13 +27,16 @@ higher-digits
     → bitOr (b * 2 ^ u % 2 ^ w) 1 / 2 ^ (u + s) % 2 ^ 17 ≡ b / 2 ^ s % 2 ^ 17
 higher-digits w b u r s e some =
     let one : 1 < 2 ^ u = pow-lt some in
-    rw (shifted-out w b (r + 17 + s) u e, or-shifted (b % 2 ^ (r + 17 + s)) u 1 one, ← shr-shr _ u s, high (b % 2 ^ (r + 17 + s)) u one)
-    (low-digits b r s)
+    rw (
+      shifted-out w b (r + 17 + s) u e,
+      or-shifted (b % 2 ^ (r + 17 + s)) u 1 one,
+      ← shr-shr _ u s,
+      high (b % 2 ^ (r + 17 + s)) u one,
+      field b (r + 17) s,
+    )
+    (mod-mod-pow (b / 2 ^ s) r 17)
 
 -- ---- a cell more
-
-abbrev counted : Reading → ℕ → ℕ → ℕ → Reading
-counted m bits held words = record { bits = bits; held = held; words = words; place = m .place; stray = m .stray }
 
 module _ (m : Reading) (u : ℕ) (room : m .held + u ≤ 32) where
   pub held-by-shift : shifted m u .held ≡ m .held + u
@@ -66,8 +59,7 @@ module _ (m : Reading) (u : ℕ) (room : m .held + u ≤ 32) where
         let more : 17 ≤ (m .held + u) % 2 ^ 32 = omega arith in
         let held : ((m .held + u) % 2 ^ 32 + (2 ^ 32 - 16)) % 2 ^ 32 ≡ ((m .held + (2 ^ 32 - 16)) % 2 ^ 32 + u) % 2 ^ 32 =
         omega arith in
-        rw (le-leb 17 ((m .held + u) % 2 ^ 32) more, le-leb 17 (m .held) whole)
-        (ap (λ (h : ℕ). counted m (shifted m u .bits) h ((m .words + 1) % 2 ^ 32)) held)
+        rw (le-leb 17 ((m .held + u) % 2 ^ 32) more, le-leb 17 (m .held) whole, held)
 
 module _ (m : Reading) (small : m .words < 2 ^ 32) where
   pub ease-of-open : m .held < 17 → eased m ≡ m
@@ -75,13 +67,13 @@ module _ (m : Reading) (small : m .words < 2 ^ 32) where
   ease-of-open few =
       let held : (m .held + 2 ^ 32) % 2 ^ 32 ≡ m .held = omega arith in
       let words : (m .words + 0) % 2 ^ 32 ≡ m .words = omega arith in
-      rw (lt-leb 17 (m .held) few) (ap₂ (counted m (m .bits)) held words)
+      rw (lt-leb 17 (m .held) few, held, words)
 
   pub ease-of-whole : (at : ℕ) → 17 ≤ m .held → m .held ≤ 32 → misfits (wordOf m) ≡ false → closed m at ≡ eased m
   unfolding eased closed
   ease-of-whole at whole room fit =
       let held : m .held - 16 ≡ (m .held + (2 ^ 32 - 16)) % 2 ^ 32 = omega arith in
-      rw (le-leb 17 (m .held) whole, fit) (ap (λ (h : ℕ). counted m (m .bits) h ((m .words + 1) % 2 ^ 32)) held)
+      rw (le-leb 17 (m .held) whole, fit, held)
 
   -- what is left in the register, one word more or none
   pub eased-whole

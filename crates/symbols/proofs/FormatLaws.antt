@@ -1,7 +1,7 @@
 -- The cells of the bytes that a track is laid out with, 00, 4E and the mark A1, whatever bytes come before and after:
 -- by computing one byte, and by induction on how many there are.
 use Prim.Native.Nat.{ℕ, zero, suc, _*_}
-use mathlib.Core.Path.{_≡_, refl, sym, ap, _∙_}
+use mathlib.Core.Path.{_≡_, refl}
 use mathlib.Core.Bool.{false, true≢false}
 use mathlib.Core.List.{List, [], _∷_, _++_, map, append-assoc}
 use native.Mathlib.Omega.{arith}
@@ -13,8 +13,8 @@ use Rattle.symbols.specs.Cells.{writtenCells}
 use Rattle.symbols.specs.Reading.{units, readFrom}
 use Rattle.symbols.specs.Bytes.{isGap}
 use Rattle.symbols.specs.declared.Cell.{Cell}
-use Rattle.symbols.proofs.ReadingLaws.{cells-read-after-one, cells-read-after-zero}
 use Rattle.symbols.proofs.MiddleLaws.{cells-of-zero-byte}
+use Rattle.symbols.proofs.ReadingLaws.{cells-read-after}
 
 -- a sync of bytes 00
 pub cells-of-zero-bytes : (n : ℕ) (ws : List ℕ)
@@ -22,8 +22,7 @@ pub cells-of-zero-bytes : (n : ℕ) (ws : List ℕ)
 cells-of-zero-bytes zero ws = refl
 cells-of-zero-bytes (suc n) ws =
     let eight : 8 * suc n ≡ suc (suc (suc (suc (suc (suc (suc (suc (8 * n)))))))) = omega arith in
-    rw eight (cells-of-zero-byte (replicate n 0x00 ++ ws)
-    ∙ ap (λ (us : List ℕ). 2 ∷ 2 ∷ 2 ∷ 2 ∷ 2 ∷ 2 ∷ 2 ∷ 2 ∷ us) (cells-of-zero-bytes n ws))
+    rw (eight, cells-of-zero-byte, cells-of-zero-bytes n ws)
 
 -- a mark A1
 pub cells-of-mark-A1 : (ws : List ℕ)
@@ -36,6 +35,9 @@ cells-of-mark-A1 ws = (cellsFrom 2 (symbolsFrom I (allBits ws ++ (O ∷ O ∷ []
 
 abbrev closed : List ℕ → List Bit
 closed ws = allBits ws ++ (O ∷ O ∷ [])
+
+closed-letters : (ws : List ℕ) (bs : List Bit) → bs ≡ allBits ws ++ (O ∷ []) → bs ++ (O ∷ []) ≡ closed ws
+closed-letters ws bs e = rw (e, append-assoc)
 
 -- the cells of bytes that follow a 4E: one symbol 0 stands before them
 afterGap : List ℕ → List ℕ
@@ -51,16 +53,7 @@ cells-of-filler : (n : ℕ) (ws : List ℕ)
 unfolding afterGap fillerCells allBits writtenBits byteBits isMark symbolsFrom pairSymbols cellsFrom writtenCells
     writtenSymbols cellsOf symbolsOf bitsOf
 cells-of-filler zero ws = refl
-cells-of-filler (suc n) ws = ap (λ (us : List ℕ). 3 ∷ 3 ∷ 3 ∷ 3 ∷ 2 ∷ 2 ∷ us) (cells-of-filler n ws)
-
--- the first 4E after a bit that is 0 or 1
-gap-after-zero : (ws : List ℕ) → cellsFrom 2 (symbolsOf (closed (0x4e ∷ ws))) ≡ 3 ∷ 3 ∷ 3 ∷ 2 ∷ 2 ∷ afterGap ws
-unfolding afterGap allBits writtenBits byteBits isMark symbolsOf symbolsFrom pairSymbols cellsFrom
-gap-after-zero ws = refl
-
-gap-after-one : (ws : List ℕ) → cellsFrom 2 (symbolsFrom I (closed (0x4e ∷ ws))) ≡ 4 ∷ 3 ∷ 3 ∷ 2 ∷ 2 ∷ afterGap ws
-unfolding afterGap allBits writtenBits byteBits isMark symbolsFrom pairSymbols cellsFrom
-gap-after-one ws = refl
+cells-of-filler (suc n) ws = rw (← cells-of-filler n ws)
 
 -- the first cell of a gap, by the bit before it
 abbrev pub firstOfFiller : Bit → ℕ
@@ -76,19 +69,9 @@ fillerAfter b n = firstOfFiller b ∷ 3 ∷ 3 ∷ 2 ∷ 2 ∷ fillerCells n
 pub filler-is-read : (b : Bit) (n : ℕ) (ws : List ℕ) (cs : List Cell) → isGap b ≡ false
     → readFrom b cs ≡ allBits (replicate (suc n) 0x4e ++ (0x00 ∷ ws)) ++ (O ∷ [])
     → map units cs ≡ fillerAfter b n ++ (replicate 7 2 ++ writtenCells ws)
-unfolding fillerAfter
+unfolding fillerAfter afterGap allBits writtenBits byteBits isMark symbolsOf symbolsFrom pairSymbols cellsFrom
 filler-is-read O n ws cs e read =
-    let us : List ℕ = replicate (suc n) 0x4e ++ (0x00 ∷ ws) in
-    sym (cells-read-after-zero cs)
-    ∙ ap (λ (bs : List Bit). cellsFrom 2 (symbolsOf (bs ++ (O ∷ [])))) read
-    ∙ ap (λ (bs : List Bit). cellsFrom 2 (symbolsOf bs)) (append-assoc (allBits us) (O ∷ []) (O ∷ []))
-    ∙ gap-after-zero (replicate n 0x4e ++ (0x00 ∷ ws))
-    ∙ ap (λ (vs : List ℕ). 3 ∷ 3 ∷ 3 ∷ 2 ∷ 2 ∷ vs) (cells-of-filler n ws)
+    rw (← cells-read-after cs .0, closed-letters (replicate (suc n) 0x4e ++ (0x00 ∷ ws)) _ read, cells-of-filler n ws)
 filler-is-read I n ws cs e read =
-    let us : List ℕ = replicate (suc n) 0x4e ++ (0x00 ∷ ws) in
-    sym (cells-read-after-one cs)
-    ∙ ap (λ (bs : List Bit). cellsFrom 2 (symbolsFrom I (bs ++ (O ∷ [])))) read
-    ∙ ap (λ (bs : List Bit). cellsFrom 2 (symbolsFrom I bs)) (append-assoc (allBits us) (O ∷ []) (O ∷ []))
-    ∙ gap-after-one (replicate n 0x4e ++ (0x00 ∷ ws))
-    ∙ ap (λ (vs : List ℕ). 4 ∷ 3 ∷ 3 ∷ 2 ∷ 2 ∷ vs) (cells-of-filler n ws)
+    rw (← cells-read-after cs .1, closed-letters (replicate (suc n) 0x4e ++ (0x00 ∷ ws)) _ read, cells-of-filler n ws)
 filler-is-read G n ws cs e read = absurd (true≢false e)

@@ -1,49 +1,45 @@
 -- Cells that are shifted into an empty register and then joined are shifted in one after the other: by induction on the
 -- cells, since a cell more may be shifted in before the joining or after it. Rests on no axiom.
-use Prim.Native.Nat.{ℕ, _+_, _-_, _*_, _/_, _%_, _^_, _≤_, _<_}
-use mathlib.Core.Path.{_≡_, refl, sym, ap, ap₂, _∙_}
+use Prim.Native.Nat.{ℕ, _+_, _-_, _*_, _%_, _^_, _≤_, _<_}
+use mathlib.Core.Path.{_≡_, refl, ap, _∙_}
 use mathlib.Core.List.{List, [], _∷_}
-use native.Mathlib.Nat.{add-zero, add-mod-mod, mod-add-mod, zero-mul, mul-assoc, mod-lt, mod-eq-of-lt, lt-of-lt-of-le}
+use native.Mathlib.Nat.{add-zero, add-mod-mod, mod-add-mod, zero-mul, mul-assoc, mod-eq-of-lt, lt-of-lt-of-le}
 use native.Mathlib.Omega.{arith}
 use lib.Bits.{bitOr, or-lt, or-shifted, or-block, or-mod}
 use lib.ListN.{length}
-use lib.Pow.{pow-add, pow-lt, pow-mono, pow-pos, shl-exact, shl-lt, low, mod-pow-add}
+use lib.Pow.{pow-add, pow-lt, pow-mono, pow-pos, shl-exact, shl-lt, mod-mod-pow}
 use Rattle.symbols.specs.machine.Step.{AllCells, shifted, shiftedAll, emptyReading, joined}
 use Rattle.symbols.specs.declared.Reading.{Reading}
 use Rattle.symbols.proofs.EaseLaws.{shifted-out, held-by-shift}
-
-low-of-low : (x j k : ℕ) → x % 2 ^ (j + k) % 2 ^ k ≡ x % 2 ^ k
-low-of-low x j k = rw (mod-pow-add x j k) (low (x / 2 ^ k % 2 ^ j) k (mod-lt x (pow-pos k)))
+use native.Mathlib.Nat.{add-assoc}
 
 -- the half cells, shifted by a cell more
 join-then-shift
     : (w b p h u r : ℕ)
-    → w ≡ u + r
     → w ≡ r + u
     → 0 < u
     → p < 2 ^ r
     → bitOr (b * 2 ^ (h + u) % 2 ^ w) (bitOr (p * 2 ^ u % 2 ^ w) 1)
     ≡ bitOr (bitOr (b * 2 ^ h % 2 ^ w) p * 2 ^ u % 2 ^ w) 1
-join-then-shift w b p h u r e f some small =
+join-then-shift w b p h u r f some small =
+    let e : w ≡ u + r = omega arith in
     let one : 1 < 2 ^ u = pow-lt some in
     let x = b * 2 ^ h % 2 ^ r in
-    let more : b * 2 ^ (h + u) ≡ b * 2 ^ h * 2 ^ u = rw (pow-add 2 h u) (sym (mul-assoc b (2 ^ h) (2 ^ u))) in
-    let inner : bitOr (b * 2 ^ h % 2 ^ w) p % 2 ^ r ≡ bitOr x p =
-    or-mod (b * 2 ^ h % 2 ^ w) p r
-    ∙ ap₂ bitOr (ap (λ (k : ℕ). b * 2 ^ h % 2 ^ k % 2 ^ r) e ∙ low-of-low (b * 2 ^ h) u r) (mod-eq-of-lt small) in
-    ap₂ bitOr (ap (λ (z : ℕ). z % 2 ^ w) more ∙ shifted-out w (b * 2 ^ h) r u f ∙ sym (add-zero (x * 2 ^ u)))
-    (ap (λ (z : ℕ). bitOr z 1) (shifted-out w p r u f ∙ ap (λ (z : ℕ). z * 2 ^ u) (mod-eq-of-lt small))
-    ∙ or-shifted p u 1 one)
-    ∙ or-block u x p 0 1 (pow-pos u) one
-    ∙ sym (ap (λ (z : ℕ). bitOr z 1)
-    (shifted-out w (bitOr (b * 2 ^ h % 2 ^ w) p) r u f ∙ ap (λ (z : ℕ). z * 2 ^ u) inner)
-    ∙ or-shifted (bitOr x p) u 1 one)
-
-counted : (a b c : ℕ) → (a + (b + c) % 2 ^ 32) % 2 ^ 32 ≡ ((a + b) % 2 ^ 32 + c) % 2 ^ 32
-counted a b c = add-mod-mod a (b + c) (2 ^ 32) ∙ ap (λ (n : ℕ). n % 2 ^ 32) (omega arith) ∙ sym (mod-add-mod (a + b) (2 ^ 32) c)
-
-abbrev holding : Reading → ℕ → ℕ → Reading
-holding m bits held = record { bits = bits; held = held; words = m .words; place = m .place; stray = m .stray }
+    let more : b * 2 ^ (h + u) ≡ b * 2 ^ h * 2 ^ u = rw (pow-add 2 h u, mul-assoc b) in
+    let within : p % 2 ^ r ≡ p = mod-eq-of-lt small in
+    let inner : bitOr (b * 2 ^ h % 2 ^ w) p % 2 ^ r ≡ bitOr x p = rw (or-mod, within, e, mod-mod-pow (b * 2 ^ h) u r) in
+    rw (
+      more,
+      shifted-out w (b * 2 ^ h) r u f,
+      shifted-out w p r u f,
+      shifted-out w (bitOr (b * 2 ^ h % 2 ^ w) p) r u f,
+      inner,
+      within,
+      or-shifted p u 1 one,
+      or-shifted (bitOr x p) u 1 one,
+      ← add-zero (x * 2 ^ u),
+    )
+    (or-block u x p 0 1 (pow-pos u) one)
 
 -- a register that holds no more than its half cells
 abbrev Bounded : Reading → Type 0
@@ -63,8 +59,8 @@ module _ (m p : Reading) (u : ℕ) (some : 2 ≤ u) (few : u ≤ 4) (small : Bou
   below : p .bits < 2 ^ (32 - u)
   below = lt-of-lt-of-le small (pow-mono (omega arith))
 
-  in-two : (32 ≡ u + (32 - u)) × (32 ≡ 32 - u + u) × (0 < u)
-  in-two = (omega arith, omega arith, omega arith)
+  in-two : (32 ≡ 32 - u + u) × (0 < u)
+  in-two = (omega arith, omega arith)
 
   join-of-shift : joined m (shifted p u) ≡ shifted (joined m p) u
   unfolding joined shifted
@@ -72,9 +68,9 @@ module _ (m p : Reading) (u : ℕ) (some : 2 ≤ u) (few : u ≤ 4) (small : Bou
       let apart : (p .held + u) % 2 ^ 32 % 32 ≡ p .held + u = omega arith in
       let alone : p .held % 32 ≡ p .held = omega arith in
       let held : (m .held + (p .held + u) % 2 ^ 32) % 2 ^ 32 ≡ ((m .held + p .held) % 2 ^ 32 + u) % 2 ^ 32 =
-      counted (m .held) (p .held) u in
-      rw (by, apart, alone) (ap₂ (holding m)
-      (join-then-shift 32 (m .bits) (p .bits) (p .held) u (32 - u) (in-two .0) (in-two .1) (in-two .2) below) held)
+      rw (add-mod-mod, mod-add-mod, add-assoc) in
+      let bits = join-then-shift 32 (m .bits) (p .bits) (p .held) u (32 - u) (in-two .0) (in-two .1) below in
+      rw (by, apart, alone, held, bits)
 
 join-of-all
     : (us : List ℕ) (m p : Reading)
@@ -85,10 +81,9 @@ join-of-all
 unfolding AllCells shiftedAll
 join-of-all [] m p cells small room = refl
 join-of-all (u ∷ us) m p cells small room =
-    let some = cells .0 in
-    let few = cells .1 in
+    let (some, few, others) = cells in
     let held = held-by-shift p u (omega arith) in
-    join-of-all us m (shifted p u) (cells .2) (bounded-by-shift m p u some few small (omega arith)) (omega (arith, held))
+    join-of-all us m (shifted p u) others (bounded-by-shift m p u some few small (omega arith)) (omega (arith, held))
     ∙ ap (λ (r : Reading). shiftedAll r us) (join-of-shift m p u some few small (omega arith))
 
 join-of-one : (m : Reading) (u : ℕ) → joined m (shifted emptyReading u) ≡ shifted m u
@@ -108,9 +103,8 @@ pub join-is-shift
 unfolding AllCells shiftedAll
 join-is-shift [] m cells some-cell few-cells = absurd (omega arith)
 join-is-shift (u ∷ us) m cells some-cell few-cells =
-    let some = cells .0 in
-    let few = cells .1 in
+    let (some, few, others) = cells in
     let held = held-by-shift emptyReading u (omega arith) in
-    join-of-all us m (shifted emptyReading u) (cells .2)
+    join-of-all us m (shifted emptyReading u) others
     (bounded-by-shift m emptyReading u some few (omega arith) (omega arith)) (omega (arith, held))
     ∙ ap (λ (r : Reading). shiftedAll r us) (join-of-one m u)

@@ -1,15 +1,15 @@
 -- Reading from the middle: after two 0 bits a transition stands before the second, so the cells of what follows are
 -- the same as if that 0 were the lead of a list of their own.
 use Prim.Native.Nat.{ℕ, zero, suc, _/_, _%_, _<_}
-use mathlib.Core.Path.{_≡_, refl, ap, sym, _∙_}
+use mathlib.Core.Path.{_≡_, refl}
 use mathlib.Core.Bool.{Bool, true, false}
 use mathlib.Core.List.{List, [], _∷_, _++_, map, append-assoc, append-nil}
 use native.Mathlib.Omega.{arith}
 use borrow.Author.Tests.{ne-eqb}
-use lib.ListN.{length, drop}
+use lib.ListN.{length, take, drop}
 use lib.Seq.{append-snoc, drop-append-seam}
 use Rattle.items.specs.Item.{isMark}
-use Rattle.symbols.specs.Bits.{Bit, O, bitOf, byteBits, writtenBits, allBits, bitsOf}
+use Rattle.symbols.specs.Bits.{Bit, O, byteBits, writtenBits, allBits, bitsOf}
 use Rattle.symbols.specs.Cells.{pairSymbols, symbolsFrom, symbolsOf, cellsFrom}
 use Rattle.symbols.specs.Cells.{cellsOf, writtenSymbols, writtenCells}
 use Rattle.symbols.specs.Reading.{units, readBits}
@@ -28,7 +28,7 @@ cells-append :
     (u : ℕ) (ss ts : List Bool) → cellsFrom u (ss ++ (true ∷ ts)) ≡ cellsFrom u (ss ++ (true ∷ [])) ++ cellsFrom 2 ts
 unfolding cellsFrom
 cells-append u [] ts = refl
-cells-append u (true ∷ ss) ts = ap (λ (x : List ℕ). u ∷ x) (cells-append 2 ss ts)
+cells-append u (true ∷ ss) ts = rw (cells-append 2 ss ts)
 cells-append u (false ∷ ss) ts = cells-append (suc u) ss ts
 
 -- a transition stands between two 0s
@@ -60,7 +60,7 @@ data-bits-end-in-zeros w h e =
     let no-c2 = ne-eqb w 0x1c2 (λ q. omega arith) in
     let zero-2 = ne-eqb (w / 2 % 2) 1 (λ q. omega arith) in
     let zero-1 = ne-eqb (w / 1 % 2) 1 (λ q. omega arith) in
-    (bitOf w 128 ∷ bitOf w 64 ∷ bitOf w 32 ∷ bitOf w 16 ∷ bitOf w 8 ∷ bitOf w 4 ∷ [], rw (no-a1, no-c2, zero-2, zero-1))
+    (take 6 (byteBits w), rw (no-a1, no-c2, zero-2, zero-1))
 
 -- the cells after such a byte are those of a list of their own
 pub cells-after-byte :
@@ -69,11 +69,8 @@ pub cells-after-byte :
 unfolding allBits
 cells-after-byte us ws w h e =
     let z = data-bits-end-in-zeros w h e in
-    let ends =
-    bits-of-append us (w ∷ []) ∙ ap (λ (x : List Bit). allBits us ++ x) (append-nil (writtenBits w) ∙ z .1)
-    ∙ sym (append-assoc (allBits us) (z .0) (O ∷ O ∷ []))
-    in
-    rw (← append-snoc us w ws) (cells-after-zeros (us ++ (w ∷ [])) ws (allBits us ++ z .0) ends)
+    rw (← append-snoc us w ws) (cells-after-zeros (us ++ (w ∷ [])) ws (allBits us ++ z .0)
+    (rw (bits-of-append us (w ∷ []), append-nil, z .1, append-assoc)))
 
 map-drop : (n : ℕ) (cs : List Cell) → map units (drop n cs) ≡ drop n (map units cs)
 map-drop zero cs = refl
@@ -86,7 +83,7 @@ pub read-from-the-middle :
     → readBits (drop (length front) cs) ≡ O ∷ allBits ws ++ (O ∷ [])
 read-from-the-middle front ws cs h =
     read-of-write ws (drop (length front) cs)
-    (map-drop (length front) cs ∙ ap (drop (length front)) h ∙ drop-append-seam front (writtenCells ws))
+    (rw (map-drop (length front) cs, h, drop-append-seam))
 
 -- a byte 00 is eight cells of 2 units
 pub cells-of-zero-byte : (ws : List ℕ) → writtenCells (0 ∷ ws) ≡ 2 ∷ 2 ∷ 2 ∷ 2 ∷ 2 ∷ 2 ∷ 2 ∷ 2 ∷ writtenCells ws

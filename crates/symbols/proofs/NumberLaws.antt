@@ -1,6 +1,6 @@
 -- Half cells as a number, most significant first: a part of the list is a part of the digits.
 use Prim.Native.Nat.{ℕ, _+_, _*_, _/_, _%_, _^_, _<_}
-use mathlib.Core.Path.{_≡_, refl, ap, sym, _∙_}
+use mathlib.Core.Path.{_≡_, refl, ap, _∙_}
 use mathlib.Core.List.{List, [], _∷_, _++_}
 use native.Mathlib.Nat.{add-mul, mul-assoc, one-mul, pow-succ'}
 use native.Mathlib.Omega.{arith}
@@ -46,9 +46,7 @@ number-shifts n (b ∷ bs) =
 ones-of-digit : (n : ℕ) (b : Bit) → ones (n * 2 + digit b) ≡ digit b + ones n
 ones-of-digit n b =
     let small : digit b < 2 = omega (arith, digit-is-small b) in
-    ones-step (n * 2 + digit b)
-    ∙ ap (λ (x : ℕ). x + ones ((n * 2 + digit b) / 2)) (digits-mod n small)
-    ∙ ap (λ (x : ℕ). digit b + ones x) (digits-div n small)
+    rw (ones-step (n * 2 + digit b), digits-mod n small, digits-div n small)
 
 pub ones-of-number : (n : ℕ) (bs : List Bit) → ones (numberFrom n bs) ≡ ones n + onesAmong bs
 unfolding numberFrom onesAmong
@@ -58,8 +56,7 @@ ones-of-number n (b ∷ bs) = omega (arith, ones-of-number (n * 2 + digit b) bs,
 -- the last digits of a number
 pub last-digits : (n : ℕ) (xs ys : List Bit) → numberFrom n (xs ++ ys) % 2 ^ length ys ≡ numberFrom 0 ys
 last-digits n xs ys =
-    ap (λ (x : ℕ). x % 2 ^ length ys) (number-append n xs ys ∙ number-shifts (numberFrom n xs) ys)
-    ∙ low (numberFrom n xs) (length ys) (number-fits ys)
+    rw (number-append n xs ys, number-shifts (numberFrom n xs) ys) (low (numberFrom n xs) (length ys) (number-fits ys))
 
 digit-of-data : (b : Bit) → digit (dataOf b) ≡ digit b
 unfolding dataOf
@@ -74,29 +71,30 @@ last-digit-is-data n b x [] =
     digits-mod (n * 2 + digit (clockAfter b x)) (omega (arith, digit-is-small (dataOf x))) ∙ digit-of-data x
 last-digit-is-data n b x (y ∷ xs) = last-digit-is-data ((n * 2 + digit (clockAfter b x)) * 2 + digit (dataOf x)) x y xs
 
--- a word among the digits of a register of 32: after a number that ends in its first data bit, before a tail
+-- a word among the digits of a register: after a number that ends in its first data bit, before a tail
 pub word-of-digits :
-    (n : ℕ) (a : Bit) (row tail : List Bit) (j : ℕ) → n % 2 ≡ digit a → length row ≡ 8 → j + 17 + length tail ≡ 32
-    → numberFrom n (cellsAfter a row ++ tail) % 2 ^ 32 / 2 ^ length tail % 2 ^ 17 ≡ wordAfter a row
+    (size n : ℕ) (a : Bit) (row tail : List Bit) (j : ℕ) → n % 2 ≡ digit a → length row ≡ 8
+    → size ≡ j + 17 + length tail
+    → numberFrom n (cellsAfter a row ++ tail) % 2 ^ size / 2 ^ length tail % 2 ^ 17 ≡ wordAfter a row
 unfolding wordAfter
-word-of-digits n a row tail j e eight room =
+word-of-digits size n a row tail j e eight room =
     let t = length tail in
     let cells = cellsAfter a row in
     let w : ℕ = numberFrom n cells in
-    let all : ℕ = numberFrom n (cells ++ tail) in
     let sixteen : length cells ≡ 16 = omega (arith, cells-after-length a row) in
-    let above : all ≡ w * 2 ^ t + numberFrom 0 tail = number-append n cells tail ∙ number-shifts w tail in
-    let whole : w ≡ n * 2 ^ 16 + numberFrom 0 cells =
-    number-shifts n cells ∙ ap (λ (k : ℕ). n * 2 ^ k + numberFrom 0 cells) sixteen in
     let small : numberFrom 0 cells < 2 ^ 16 = rw sixteen at (number-fits cells) in
-    ap (λ (k : ℕ). all % 2 ^ k / 2 ^ t % 2 ^ 17) (sym room)
-    ∙ ap (λ (x : ℕ). x % 2 ^ 17) (field all (j + 17) t ∙ ap (λ (x : ℕ). x / 2 ^ t % 2 ^ (j + 17)) above
-    ∙ ap (λ (x : ℕ). x % 2 ^ (j + 17)) (high w t (number-fits tail)))
-    ∙ mod-mod-pow w j 17
-    ∙ mod-pow-add w 1 16
-    ∙ ap (λ (x : ℕ). x / 2 ^ 16 % 2 ^ 1 * 2 ^ 16 + x % 2 ^ 16) whole
-    ∙ ap (λ (x : ℕ). x % 2 ^ 1 * 2 ^ 16 + (n * 2 ^ 16 + numberFrom 0 cells) % 2 ^ 16) (high n 16 small)
-    ∙ ap (λ (x : ℕ). n % 2 * 2 ^ 16 + x) (low n 16 small)
-    ∙ ap (λ (x : ℕ). x * 2 ^ 16 + numberFrom 0 cells) e
-    ∙ ap (λ (k : ℕ). digit a * 2 ^ k + numberFrom 0 cells) (sym sixteen)
-    ∙ sym (number-shifts (digit a) cells)
+    rw (
+      room,
+      field (numberFrom n (cells ++ tail)) (j + 17) t,
+      number-append n cells tail,
+      number-shifts w tail,
+      high w t (number-fits tail),
+      mod-mod-pow w j 17,
+      mod-pow-add w 1 16,
+      number-shifts n cells,
+      number-shifts (digit a) cells,
+      sixteen,
+      high n 16 small,
+      low n 16 small,
+      e,
+    )

@@ -1,8 +1,8 @@
 -- Places in lists that grow at the end: the lowest place, whole rows and the tests of their letters, and the cells that
 -- gave the letters.
 use Prim.Native.Nat.{ℕ, suc, _+_, _%_, _<_}
-use mathlib.Core.Path.{_≡_, refl, ap, sym}
-use mathlib.Core.Bool.{Bool, true, false, cond, _||_, true≢false}
+use mathlib.Core.Path.{_≡_, refl, ap, sym, _∙_}
+use mathlib.Core.Bool.{Bool, true, false, cond, _||_}
 use mathlib.Core.List.{List, [], _∷_, _++_, append-assoc, append-nil}
 use native.Mathlib.Nat.{add-zero, zero-add, suc-add, add-suc}
 use native.Mathlib.Omega.{arith}
@@ -16,31 +16,21 @@ use Rattle.symbols.proofs.ReadingLaws.{last-of-given}
 
 -- The lowest place
 
-pub lowest-in-front :
-    {A : Type 0} (f : A → Bool) (xs ys : List A) → anywhere f xs ≡ true → lowest f (xs ++ ys) ≡ lowest f xs
+pub lowest-of-append :
+    {A : Type 0} (f : A → Bool) (xs ys : List A)
+    → lowest f (xs ++ ys) ≡ cond (anywhere f xs) (lowest f xs) (length xs + lowest f ys)
 unfolding anywhere lowest
-lowest-in-front f [] ys h = absurd (true≢false (sym h))
-lowest-in-front f (x ∷ xs) ys h = by (f x) h (lowest-in-front f xs ys)
-  where
-    by :
-        (t : Bool) → (t || anywhere f xs) ≡ true → (anywhere f xs ≡ true → lowest f (xs ++ ys) ≡ lowest f xs)
-        → cond t 0 (suc (lowest f (xs ++ ys))) ≡ cond t 0 (suc (lowest f xs))
-    by true h more = refl
-    by false h more = ap suc (more h)
-
-pub lowest-past-front :
-    {A : Type 0} (f : A → Bool) (xs ys : List A) → anywhere f xs ≡ false
-    → lowest f (xs ++ ys) ≡ length xs + lowest f ys
-unfolding anywhere lowest
-lowest-past-front f [] ys h = sym (zero-add _)
-lowest-past-front f (x ∷ xs) ys h = by (f x) h (lowest-past-front f xs ys)
-  where
-    by :
-        (t : Bool) → (t || anywhere f xs) ≡ false
-        → (anywhere f xs ≡ false → lowest f (xs ++ ys) ≡ length xs + lowest f ys)
-        → cond t 0 (suc (lowest f (xs ++ ys))) ≡ suc (length xs) + lowest f ys
-    by true h more = absurd (true≢false h)
-    by false h more = let l = more h in omega arith
+lowest-of-append f [] ys = sym (zero-add _)
+lowest-of-append f (x ∷ xs) ys =
+    elim (f x) as (λ t.
+    cond t 0 (suc (lowest f (xs ++ ys)))
+    ≡ cond (t || anywhere f xs) (cond t 0 (suc (lowest f xs))) (suc (length xs) + lowest f ys)) [
+      | true ↦ refl
+      | false ↦
+          ap suc (lowest-of-append f xs ys) ∙ (elim (anywhere f xs) as (λ t.
+          suc (cond t (lowest f xs) (length xs + lowest f ys))
+          ≡ cond t (suc (lowest f xs)) (suc (length xs) + lowest f ys)) [ true ↦ refl | false ↦ omega arith ])
+    ]
 
 -- Rows of eight letters
 
@@ -79,9 +69,7 @@ pub rows-append : (xs ys : List Bit) → length xs % 8 ≡ 0 → rowsOf (xs ++ y
 unfolding rowsOf
 rows-append xs ys =
     by-rows (λ xs. length xs % 8 ≡ 0 → rowsOf (xs ++ ys) ≡ rowsOf xs ++ rowsOf ys) (λ xs n e. rw (none-of-few xs n e))
-    (λ a b c d e f g h xs more n.
-    ap (λ (r : List (List Bit)). (a ∷ b ∷ c ∷ d ∷ e ∷ f ∷ g ∷ h ∷ []) ∷ r) (more (omega arith)))
-    xs
+    (λ a b c d e f g h xs more n. rw (more (omega arith))) xs
 
 pub one-row : (row : List Bit) → length row ≡ 8 → rowsOf row ≡ row ∷ []
 unfolding rowsOf
@@ -111,12 +99,7 @@ pub sources-length : (k : ℕ) (b : Bit) (cs : List Cell) → length (sourcesFro
 unfolding sourcesFrom readFrom
 sources-length k b [] = refl
 sources-length k b (c ∷ cs) =
-    rw (
-      length-append (sourceOf k (given b c)),
-      length-append (given b c),
-      source-length k (given b c),
-      sources-length (suc k) (lastAfter b c) cs,
-    )
+    rw (length-append, length-append, source-length, sources-length (suc k) (lastAfter b c) cs)
 
 pub sources-append :
     (k : ℕ) (b : Bit) (cs : List Cell) (c : Cell)
@@ -133,5 +116,4 @@ pub source-kept :
 unfolding sources readBits
 source-kept cs c i h =
     rw (sources-append 0 O cs c)
-    (List·getD-append (sourcesFrom 0 O cs) (sourceOf (0 + length cs) (given (lastOf O (readFrom O cs)) c)) 0 i
-    (omega (arith, sources-length 0 O cs)))
+    (List·getD-append (sourcesFrom 0 O cs) _ 0 i (omega (arith, sources-length 0 O cs)))

@@ -1,39 +1,32 @@
 -- Cells and the letters that reading them gives. Reading stands at a transition: before a 0 that follows a 0 (state O)
 -- or after a 1 (state I). So the pairs of the letters read, with one closing 0 more, have just the cells that were
 -- read, for every list of cells.
-use mathlib.Core.Path.{_≡_, refl}
-use mathlib.Core.Bool.{Bool, true, false}
+use mathlib.Core.Path.{_≡_, refl, sym, ap, _∙_}
+use mathlib.Core.Bool.{Bool, true, false, cond}
 use mathlib.Core.List.{List, [], _∷_, _++_, map, append-assoc}
-use Prim.Native.Nat.{ℕ}
-use native.Mathlib.Omega.{arith}
+use Prim.Native.Nat.{ℕ, _+_, _*_}
 use Rattle.symbols.specs.Bits.{Bit, O, I, G, isOne, lastOf}
 use Rattle.symbols.specs.Cells.{pairSymbols, symbolsFrom, symbolsOf, cellsFrom, cellsOf}
-use Rattle.symbols.specs.Bytes.{isGap}
+use Rattle.symbols.specs.Bytes.{isGap, digit}
 use Rattle.symbols.specs.Reading.{units, given, lastAfter, readFrom, readBits}
 use Rattle.symbols.specs.declared.Cell.{Cell}
 use Rattle.symbols.specs.declared.Cell.the-variants.{Short, Medium, Long}
+use lib.ListN.{length}
+use lib.Dec.{eqb}
 
 -- Cells and units
 
-same-unit : (c d : Cell) → units c ≡ units d → c ≡ d
-same-unit Short Short h = refl
-same-unit Short Medium h = absurd (omega arith)
-same-unit Short Long h = absurd (omega arith)
-same-unit Medium Short h = absurd (omega arith)
-same-unit Medium Medium h = refl
-same-unit Medium Long h = absurd (omega arith)
-same-unit Long Short h = absurd (omega arith)
-same-unit Long Medium h = absurd (omega arith)
-same-unit Long Long h = refl
+abbrev cellOf : ℕ → Cell
+cellOf n = cond (eqb n 2) Short (cond (eqb n 3) Medium Long)
+
+cells-again : (cs : List Cell) → map cellOf (map units cs) ≡ cs
+cells-again [] = refl
+cells-again (Short ∷ cs) = rw (cells-again cs)
+cells-again (Medium ∷ cs) = rw (cells-again cs)
+cells-again (Long ∷ cs) = rw (cells-again cs)
 
 pub units-injective : (cs ds : List Cell) → map units cs ≡ map units ds → cs ≡ ds
-units-injective [] [] h = refl
-units-injective [] (d ∷ ds) h = absurd (let q : _≡_ {A = ℕ} 0 1 = cc in omega arith)
-units-injective (c ∷ cs) [] h = absurd (let q : _≡_ {A = ℕ} 0 1 = cc in omega arith)
-units-injective (c ∷ cs) (d ∷ ds) h =
-    let p = same-unit c d (cc) in
-    let q = units-injective cs ds (cc) in
-    cc
+units-injective cs ds h = sym (cells-again cs) ∙ ap (map cellOf) h ∙ cells-again ds
 
 -- The cells of what was read
 
@@ -49,25 +42,21 @@ zero-then-read (Short ∷ cs) = refl
 zero-then-read (Medium ∷ cs) = refl
 zero-then-read (Long ∷ cs) = refl
 
-mutual
-  unfolding readFrom given lastAfter symbolsFrom symbolsOf pairSymbols cellsFrom
-
-  pub cells-read-after-one : (cs : List Cell) → cellsFrom 2 (symbolsFrom I (readFrom I cs ++ closing)) ≡ map units cs
-  cells-read-after-one [] = refl
-  cells-read-after-one (Short ∷ cs) = rw (cells-read-after-one cs)
-  cells-read-after-one (Medium ∷ cs) = rw (zero-then-read cs, cells-read-after-zero cs)
-  cells-read-after-one (Long ∷ cs) = rw (cells-read-after-one cs)
-
-  pub cells-read-after-zero : (cs : List Cell) → cellsFrom 2 (symbolsOf (readFrom O cs ++ closing)) ≡ map units cs
-  cells-read-after-zero [] = refl
-  cells-read-after-zero (Short ∷ cs) = rw (zero-then-read cs, cells-read-after-zero cs)
-  cells-read-after-zero (Medium ∷ cs) = rw (cells-read-after-one cs)
-  cells-read-after-zero (Long ∷ cs) = rw (zero-then-read cs, cells-read-after-zero cs)
+-- after a 0 and after a 1
+pub cells-read-after :
+    (cs : List Cell)
+    → (cellsFrom 2 (symbolsOf (readFrom O cs ++ closing)) ≡ map units cs)
+    × (cellsFrom 2 (symbolsFrom I (readFrom I cs ++ closing)) ≡ map units cs)
+unfolding readFrom given lastAfter symbolsFrom symbolsOf pairSymbols cellsFrom
+cells-read-after [] = (refl, refl)
+cells-read-after (Short ∷ cs) = let (zero, one) = cells-read-after cs in (rw (zero-then-read cs, zero), rw one)
+cells-read-after (Medium ∷ cs) = let (zero, one) = cells-read-after cs in (rw one, rw (zero-then-read cs, zero))
+cells-read-after (Long ∷ cs) = let (zero, one) = cells-read-after cs in (rw (zero-then-read cs, zero), rw one)
 
 -- for every list of cells
 pub cells-of-read : (cs : List Cell) → cellsOf (symbolsOf (readBits cs ++ (O ∷ []))) ≡ map units cs
 unfolding readBits cellsOf
-cells-of-read cs = cells-read-after-zero cs
+cells-of-read cs = cells-read-after cs .0
 
 -- The first letter that is read
 
@@ -83,37 +72,35 @@ no-one-after-zero (Short ∷ cs) = refl
 no-one-after-zero (Medium ∷ cs) = refl
 no-one-after-zero (Long ∷ cs) = refl
 
--- The last letter that was read
+-- What a cell gives: its letters end in the last bit known after it, whatever was before, and that begins no gap; two
+-- units make a letter, and after a 1 one unit of the next is already there
+
+pub cell-gives :
+    (b : Bit) (c : Cell)
+    → ((x : Bit) (bs : List Bit) → lastOf x (given b c ++ bs) ≡ lastOf (lastAfter b c) bs)
+    × (isGap (lastAfter b c) ≡ false)
+    × (2 * length (given b c) + digit b ≡ units c + digit (lastAfter b c))
+unfolding given lastAfter lastOf
+cell-gives O Short = (λ x bs. refl, refl, refl)
+cell-gives O Medium = (λ x bs. refl, refl, refl)
+cell-gives O Long = (λ x bs. refl, refl, refl)
+cell-gives I Short = (λ x bs. refl, refl, refl)
+cell-gives I Medium = (λ x bs. refl, refl, refl)
+cell-gives I Long = (λ x bs. refl, refl, refl)
+cell-gives G Short = (λ x bs. refl, refl, refl)
+cell-gives G Medium = (λ x bs. refl, refl, refl)
+cell-gives G Long = (λ x bs. refl, refl, refl)
 
 pub last-of-given : (b : Bit) (c : Cell) (bs : List Bit) → lastOf b (given b c ++ bs) ≡ lastOf (lastAfter b c) bs
-unfolding given lastAfter lastOf
-last-of-given O Short bs = refl
-last-of-given O Medium bs = refl
-last-of-given O Long bs = refl
-last-of-given I Short bs = refl
-last-of-given I Medium bs = refl
-last-of-given I Long bs = refl
-last-of-given G Short bs = refl
-last-of-given G Medium bs = refl
-last-of-given G Long bs = refl
+last-of-given b c = cell-gives b c .0 b
 
-last-after-is-no-gap : (b : Bit) (c : Cell) → isGap (lastAfter b c) ≡ false
-unfolding lastAfter
-last-after-is-no-gap O Short = refl
-last-after-is-no-gap O Medium = refl
-last-after-is-no-gap O Long = refl
-last-after-is-no-gap I Short = refl
-last-after-is-no-gap I Medium = refl
-last-after-is-no-gap I Long = refl
-last-after-is-no-gap G Short = refl
-last-after-is-no-gap G Medium = refl
-last-after-is-no-gap G Long = refl
+-- The last letter that was read
 
 pub last-read-is-no-gap : (b : Bit) (cs : List Cell) → isGap b ≡ false → isGap (lastOf b (readFrom b cs)) ≡ false
 unfolding readFrom lastOf
 last-read-is-no-gap b [] h = h
 last-read-is-no-gap b (c ∷ cs) h =
-    rw (last-of-given b c) (last-read-is-no-gap (lastAfter b c) cs (last-after-is-no-gap b c))
+    rw (last-of-given b c) (last-read-is-no-gap (lastAfter b c) cs (cell-gives b c .1))
 
 pub last-is-no-gap : (cs : List Cell) → isGap (lastOf O (readBits cs)) ≡ false
 unfolding readBits

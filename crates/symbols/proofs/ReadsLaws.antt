@@ -52,14 +52,13 @@ module _ (m : Reading) (cs : List Cell) (o : Open m cs) where
   front-length =
       omega (
         arith,
-        ap length (o .strays),
-        length-append (o .front) (isGap (lastOf (o .lead) (o .before)) ∷ []),
+        rw length-append at (ap length (o .strays)),
         strays-length (o .before) whole-rows,
         o .whole,
       )
 
   pub letters-count : length (readBits cs) ≡ 1 + 8 * m .words + length (o .rest)
-  letters-count = omega (arith, ap length (o .letters), length-append (o .before) (o .rest), o .whole)
+  letters-count = omega (arith, rw length-append at (ap length (o .letters)), o .whole)
 
 module _ (m : Reading) (cs : List Cell) (so-far : Held m cs) where
   abbrev o : Open m cs
@@ -68,8 +67,8 @@ module _ (m : Reading) (cs : List Cell) (so-far : Held m cs) where
   rows-so-far : rowsOf (o .before ++ o .rest) ≡ rowsOf (o .before)
   rows-so-far =
       rows-append (o .before) (o .rest) (whole-rows m cs o)
-      ∙ ap (λ (x : List (List Bit)). rowsOf (o .before) ++ x) (rows-of-few (o .rest) (so-far .1))
-      ∙ append-nil (rowsOf (o .before))
+      ∙ ap (_++_ (rowsOf (o .before))) (rows-of-few (o .rest) (so-far .1))
+      ∙ append-nil _
 
   pub items-so-far : itemsRead (readBits cs) ≡ map itemOf (rowsOf (o .before))
   unfolding itemsRead

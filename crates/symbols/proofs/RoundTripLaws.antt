@@ -3,16 +3,15 @@
 -- cell or a byte: it follows from the laws of reading (letters and cells) and of bytes (letters and rows).
 use Prim.Native.Nat.{ℕ, _+_, _*_, _%_, _≤_}
 use mathlib.Core.Path.{_≡_, refl, ap, sym, _∙_}
-use mathlib.Core.Bool.{Bool, true, false, not, true≢false}
+use mathlib.Core.Bool.{true, false, not, true≢false}
 use mathlib.Core.List.{List, [], _∷_, _++_, map, append-assoc}
-use mathlib.Mathlib.Data.Bool.Basic.{or-eq-false-eq-eq-false-and-eq-false}
 use native.Mathlib.Omega.{arith}
 use borrow.Author.Tests.{le-ltb, eq-eqb, eqb-true, ltb-false, not-false}
 use lib.Dec.{eqb, ltb}
 use lib.ListN.{length, length-append}
 use Rattle.lists.specs.Place.{anywhere, everywhere}
 use Rattle.items.specs.Item.{isByte}
-use Rattle.refusal.specs.Answer.{accepted, refuseIf}
+use Rattle.refusal.specs.Answer.{accepted}
 use Rattle.symbols.specs.Bits.{Bit, O, I, G, isOne, lastOf, allBits, bitsOf}
 use Rattle.symbols.specs.Cells.{writtenSymbols, writtenCells}
 use Rattle.symbols.specs.Reading.{units, given, lastAfter, readFrom, readBits}
@@ -21,9 +20,11 @@ use Rattle.symbols.specs.Strip.{isRagged, endsInOne, bytesRead, isStray,
 use Rattle.symbols.specs.declared.Cell.{Cell}
 use Rattle.symbols.specs.declared.Cell.the-variants.{Short, Medium, Long}
 use Rattle.symbols.proofs.ReadingLaws.{units-injective, cells-of-read, last-is-no-gap, last-of-snoc}
+use Rattle.symbols.proofs.TestLaws.{neither}
 use Rattle.symbols.proofs.TokenLaws.{written-bits-are-read}
 use Rattle.symbols.proofs.BytesLaws.{length-of-bits, rows-of-bytes, items-of-rows}
 use Rattle.symbols.proofs.BytesLaws.{rows-have-no-stray, Whole, whole}
+use Rattle.refusal.proofs.AnswerLaws.{refuse-if-accepts}
 
 -- cells that give the letters of bytes, with lead and first closing 0, are the cells of those bytes
 written-cells-of-read :
@@ -35,15 +36,13 @@ written-cells-of-read ws cs h = rw (← cells-of-read cs, h, append-assoc)
 
 pub cells-are-read : (ws : List ℕ) → (cs : List Cell) × (map units cs ≡ writtenCells ws)
 cells-are-read ws =
-    let r = written-bits-are-read ws in
-    (r .0, sym (written-cells-of-read ws (r .0) (r .1)))
+    let (cs, e) = written-bits-are-read ws in (cs, sym (written-cells-of-read ws cs e))
 
 pub read-of-write :
     (ws : List ℕ) (cs : List Cell) → map units cs ≡ writtenCells ws → readBits cs ≡ O ∷ allBits ws ++ (O ∷ [])
 read-of-write ws cs h =
-    let r = written-bits-are-read ws in
-    let e = units-injective cs (r .0) (h ∙ written-cells-of-read ws (r .0) (r .1)) in
-    ap readBits e ∙ r .1
+    let (ds, e) = written-bits-are-read ws in
+    ap readBits (units-injective cs ds (h ∙ written-cells-of-read ws ds e)) ∙ e
 
 pub bits-count : (ws : List ℕ) → length (O ∷ allBits ws ++ (O ∷ [])) ≡ 8 * length ws + 2
 bits-count ws = simp (length-append, length-of-bits) (omega arith)
@@ -88,24 +87,9 @@ pub cells-injective :
     → writtenCells ws ≡ writtenCells ws′
     → ws ≡ ws′
 cells-injective ws ws′ t t′ h =
-    let r = cells-are-read ws in
-    sym (read-back ws (r .0) t (r .1) .items) ∙ read-back ws′ (r .0) t′ (r .1 ∙ h) .items
+    let (cs, e) = cells-are-read ws in sym (read-back ws cs t e .items) ∙ read-back ws′ cs t′ (e ∙ h) .items
 
 -- Writing what was read
-
--- three tests passed
-record Passed (a b c : Bool) : Type 0 where
-  first : a ≡ false
-  second : b ≡ false
-  third : c ≡ false
-
-all-passed :
-    (a b c : Bool) (p n : ℕ) → refuseIf a 7 0 (refuseIf b 4 0 (refuseIf c 8 p (accepted n))) .number ≡ 0
-    → Passed a b c
-all-passed true b c p n h = absurd (omega arith)
-all-passed false true c p n h = absurd (omega arith)
-all-passed false false true p n h = absurd (omega arith)
-all-passed false false false p n h = record { first = refl; second = refl; third = refl }
 
 -- the lead is a 0
 lead-is-zero :
@@ -113,8 +97,8 @@ lead-is-zero :
     → (bs : List Bit) × (readBits cs ≡ O ∷ bs)
 unfolding isRagged isStray straysRead anywhere readBits readFrom given lastAfter
 lead-is-zero [] whole-bytes in-place = absurd (true≢false whole-bytes)
-lead-is-zero (Short ∷ cs) whole-bytes in-place = (readFrom O cs, refl)
-lead-is-zero (Medium ∷ cs) whole-bytes in-place = (I ∷ readFrom I cs, refl)
+lead-is-zero (Short ∷ cs) whole-bytes in-place = (_, refl)
+lead-is-zero (Medium ∷ cs) whole-bytes in-place = (_, refl)
 lead-is-zero (Long ∷ cs) whole-bytes in-place = absurd (true≢false in-place)
 
 zero-of : (b : Bit) → isOne b ≡ false → isGap b ≡ false → b ≡ O
@@ -128,7 +112,7 @@ module _
   where
     ends : (not (eqb (length (O ∷ bs) % 8) 2) ≡ false) × (endsInOne (O ∷ bs) ≡ false)
     unfolding isRagged
-    ends = or-eq-false-eq-eq-false-and-eq-false (not (eqb (length (O ∷ bs) % 8) 2)) (endsInOne (O ∷ bs)) .0 whole-bytes
+    ends = neither (not (eqb (length (O ∷ bs) % 8) 2)) (endsInOne (O ∷ bs)) whole-bytes
 
     rows : Whole bs
     unfolding isStray straysRead anywhere
@@ -138,14 +122,13 @@ module _
     unfolding endsInOne lastOf
     closing-is-zero =
         let e : lastOf O bs ≡ rows .last =
-        ap (lastOf O) (rows .letters) ∙ last-of-snoc O (rows .last) (allBits (map itemOf (rowsOf bs)))
-        in
+        ap (lastOf O) (rows .letters) ∙ last-of-snoc O (rows .last) (allBits (map itemOf (rowsOf bs))) in
         zero-of (rows .last) (rw e at (ends .1)) (rw e at no-gap)
 
     read-letters :
         (O ∷ bs ≡ O ∷ allBits (itemsRead (O ∷ bs)) ++ (O ∷ [])) × (everywhere isByte (itemsRead (O ∷ bs)) ≡ true)
     unfolding itemsRead
-    read-letters = (ap (λ (x : List Bit). O ∷ x) (rw closing-is-zero at (rows .letters)), rows .bytes)
+    read-letters = (ap (_∷_ O) (rw closing-is-zero at (rows .letters)), rows .bytes)
 
 -- what the cells of an accepted strip are
 pub record Accepted (cs : List Cell) : Type 0 where
@@ -168,12 +151,14 @@ pub write-of-read : (cs : List Cell) → stripRule cs .number ≡ 0 → Accepted
 unfolding stripRule
 write-of-read cs h =
     let bs = readBits cs in
-    let p = all-passed (isRagged bs) (ltb 6400 (bytesRead bs)) (isStray bs) (strayPlace cs) (bytesRead bs) h in
-    let l = accepted-letters cs (p .first) (p .third) in
+    let (whole-bytes, later) = refuse-if-accepts (isRagged bs) 6 0 _ h in
+    let (few, last) = refuse-if-accepts (ltb 6400 (bytesRead bs)) 3 0 _ later in
+    let (in-place, done) = refuse-if-accepts (isStray bs) 7 (strayPlace cs) _ last in
+    let l = accepted-letters cs whole-bytes in-place in
     record {
       cells = written-cells-of-read (stripItems cs) cs (l .0);
       bytes = l .1;
-      in-place = p .third;
+      in-place = in-place;
       count = omega (arith, bits-count (stripItems cs), ap length (l .0));
-      few = ltb-false 6400 (bytesRead bs) (p .second);
+      few = ltb-false 6400 (bytesRead bs) few;
     }

@@ -9,22 +9,16 @@ use native.Mathlib.Decide.{decLt}
 use lib.Dec.{T, eqb, eqb→eq, ltb, ltb→lt}
 use Rattle.lists.specs.Place.{anywhere, passed}
 use Rattle.items.specs.Item.{isMark, isByte}
-use Rattle.symbols.specs.Bits.{Bit, O, I, G, byteBits, markBits, withGaps, writtenBits}
-use Rattle.symbols.specs.Bytes.{numberFrom, gapInPlace, straysFrom, rowStrays, itemOf}
-use Rattle.symbols.proofs.TestLaws.{either-of, fails, left-of, right-of}
+use Rattle.symbols.specs.Bits.{Bit, O, I, G, byteBits, markBits, withGaps, writtenBits, isOne}
+use Rattle.symbols.specs.Bytes.{numberFrom, gapInPlace, straysFrom, rowStrays, itemOf, isGap}
+use Rattle.symbols.proofs.TestLaws.{either-of, fails, right-of, parts}
 
 -- Tests
 
 unfoldable pub sameBit : Bit → Bit → Bool
-sameBit O O = true
-sameBit O I = false
-sameBit O G = false
-sameBit I O = false
-sameBit I I = true
-sameBit I G = false
-sameBit G O = false
-sameBit G I = false
-sameBit G G = true
+sameBit O y = not (isOne y || isGap y)
+sameBit I y = isOne y
+sameBit G y = isGap y
 
 unfoldable pub sameBits : List Bit → List Bit → Bool
 sameBits [] [] = true
@@ -50,8 +44,8 @@ same-bits [] [] t = refl
 same-bits [] (y ∷ ys) t = absurd t
 same-bits (x ∷ xs) [] t = absurd t
 same-bits (x ∷ xs) (y ∷ ys) t =
-    let p = same-bit x y (left-of (sameBit x y) (sameBits xs ys) t) in
-    let q = same-bits xs ys (right-of (sameBit x y) (sameBits xs ys) t) in
+    let p = same-bit x y (search parts) in
+    let q = same-bits xs ys (search parts) in
     cc
 
 -- From a byte to its row and back
@@ -98,57 +92,50 @@ unfolding passesBelow
 below f zero k t h = absurd (omega arith)
 below f (suc n) k t h =
     elim (decLt k n) [
-      | yes l ↦ below f n k (right-of (f n) (passesBelow f n) t) l
-      | no l ↦ let e : k ≡ n = omega arith in rw e (left-of (f n) (passesBelow f n) t)
+      | yes l ↦ below f n k (search parts) l
+      | no l ↦ let e : k ≡ n = omega arith in rw e (search parts)
     ]
 
 pub over-bytes : (f : ℕ → Bool) → T (overBytes f) → (w : ℕ) → T (isByte w) → T (f w)
 unfolding overBytes isByte isMark
 over-bytes f t w b =
-    let with-A1 = left-of (passesBelow f 256 && f 0x1a1) (f 0x1c2) t in
-    either-of (ltb w 256) (isMark w) b
-    (λ l. below f 256 w (left-of (passesBelow f 256) (f 0x1a1) with-A1) (ltb→lt w 256 l))
-    (λ m. either-of (eqb w 0x1a1) (eqb w 0x1c2) m
-    (λ e. rw (eqb→eq w 0x1a1 e) (right-of (passesBelow f 256) (f 0x1a1) with-A1))
-    (λ e. rw (eqb→eq w 0x1c2 e) (right-of (passesBelow f 256 && f 0x1a1) (f 0x1c2) t)))
-
-byte-kept : (w : ℕ) → T (isByte w) → T (byteKept w)
-byte-kept = over-bytes byteKept all-bytes-kept
+    either-of (ltb w 256) (isMark w) b (λ l. below f 256 w (search parts) (ltb→lt w 256 l))
+    (λ m. either-of (eqb w 0x1a1) (eqb w 0x1c2) m (λ e. rw (eqb→eq w 0x1a1 e) (search parts))
+    (λ e. rw (eqb→eq w 0x1c2 e) (search parts)))
 
 pub over-letters : (f : Bit → Bool) → T (overLetters f) → (b : Bit) → T (f b)
 unfolding overLetters
-over-letters f t O = left-of (f O) (f I) (left-of (f O && f I) (f G) t)
-over-letters f t I = right-of (f O) (f I) (left-of (f O && f I) (f G) t)
-over-letters f t G = right-of (f O && f I) (f G) t
-
-row-kept : (a b c d e f g h : Bit) → T (rowKept (a ∷ b ∷ c ∷ d ∷ e ∷ f ∷ g ∷ h ∷ []))
-row-kept a b c d e f g h =
-    over-letters _ (over-letters _ (over-letters _ (over-letters _
-    (over-letters _ (over-letters _ (over-letters _ (over-letters _
-    all-rows-kept a) b) c) d) e) f) g) h
+over-letters f t O = search parts
+over-letters f t I = search parts
+over-letters f t G = search parts
 
 -- The laws
 
 pub item-of-written-byte : (w : ℕ) → T (isByte w) → itemOf (writtenBits w) ≡ w
 unfolding byteKept
-item-of-written-byte w t = eqb→eq _ _ (left-of (eqb (itemOf (writtenBits w)) w) _ (byte-kept w t))
+item-of-written-byte w t = eqb→eq _ _ (search (parts, over-bytes byteKept all-bytes-kept w t))
 
 pub written-byte-has-no-stray : (w : ℕ) → T (isByte w) → anywhere passed (rowStrays (writtenBits w)) ≡ false
 unfolding byteKept
-written-byte-has-no-stray w t = fails _ (right-of (eqb (itemOf (writtenBits w)) w) _ (byte-kept w t))
+written-byte-has-no-stray w t = fails _ (search (parts, over-bytes byteKept all-bytes-kept w t))
 
-module _ (a b c d e f g h : Bit) (fair : anywhere passed (rowStrays (a ∷ b ∷ c ∷ d ∷ e ∷ f ∷ g ∷ h ∷ [])) ≡ false) where
-  row : List Bit
+module _ (a b c d e f g h : Bit) where
+  abbrev pub row : List Bit
   row = a ∷ b ∷ c ∷ d ∷ e ∷ f ∷ g ∷ h ∷ []
 
-  kept : T (isByte (itemOf row) && sameBits (writtenBits (itemOf row)) row)
-  unfolding row rowKept
-  kept = rw fair at (row-kept a b c d e f g h)
+  row-kept : T (rowKept row)
+  row-kept =
+      over-letters _ (over-letters _ (over-letters _ (over-letters _
+      (over-letters _ (over-letters _ (over-letters _ (over-letters _
+      all-rows-kept a) b) c) d) e) f) g) h
 
-  pub row-is-a-byte : T (isByte (itemOf (a ∷ b ∷ c ∷ d ∷ e ∷ f ∷ g ∷ h ∷ [])))
-  unfolding row
-  row-is-a-byte = left-of (isByte (itemOf row)) (sameBits (writtenBits (itemOf row)) row) kept
+  module _ (fair : anywhere passed (rowStrays row) ≡ false) where
+    kept : T (isByte (itemOf row) && sameBits (writtenBits (itemOf row)) row)
+    unfolding rowKept
+    kept = rw fair at row-kept
 
-  pub written-of-row : writtenBits (itemOf (a ∷ b ∷ c ∷ d ∷ e ∷ f ∷ g ∷ h ∷ [])) ≡ a ∷ b ∷ c ∷ d ∷ e ∷ f ∷ g ∷ h ∷ []
-  unfolding row
-  written-of-row = same-bits _ _ (right-of (isByte (itemOf row)) (sameBits (writtenBits (itemOf row)) row) kept)
+    pub row-is-a-byte : T (isByte (itemOf row))
+    row-is-a-byte = search (parts, kept)
+
+    pub written-of-row : writtenBits (itemOf row) ≡ row
+    written-of-row = same-bits _ _ (right-of (isByte (itemOf row)) _ kept)

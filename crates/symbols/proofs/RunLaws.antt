@@ -1,7 +1,7 @@
 -- The machine run over many cells keeps what it holds, and gives their items where no gap is out of place; over a whole
 -- strip it gives the strip's answer and, where that accepts, its items.
 use Prim.Native.Nat.{ℕ, suc, _+_, _-_, _^_, _≤_}
-use mathlib.Core.Path.{_≡_, ap, sym, _∙_}
+use mathlib.Core.Path.{_≡_, sym}
 use mathlib.Core.Bool.{false}
 use mathlib.Core.Logic.{inr}
 use mathlib.Core.List.{List, [], _∷_, _++_, map, append-assoc, append-nil, map-append}
@@ -36,11 +36,7 @@ machine-runs m cs [] r h =
     record {
       reads = rw (append-nil cs) r;
       words = omega arith;
-      items = λ fair.
-          let same = append-nil cs in (
-            rw same at fair,
-            ap (λ (l : List Cell). itemsRead (readBits l)) same ∙ sym (append-nil (itemsRead (readBits cs))),
-          );
+      items = rw (append-nil cs) (λ fair. (fair, sym (append-nil _)));
     }
 machine-runs m cs (d ∷ ds) r h =
     let next = stepped m d (length cs) in
@@ -50,29 +46,20 @@ machine-runs m cs (d ∷ ds) r h =
     let rest : List ℕ = ranWords next (suc (length cs)) ds in
     record {
       reads = rw (append-snoc cs d ds, n) at (run .reads);
-      words =
-          (rw n at (run .words))
-          ∙ ap (λ (k : ℕ). k + length rest) (after .words)
-          ∙ omega (arith, length-append (wordClosed m d) rest);
+      words = omega (arith, rw n at (run .words), after .words, length-append (wordClosed m d) rest);
       items = λ fair.
           let later = rw (append-snoc cs d ds, n) at (run .items (rw (append-snoc cs d ds) fair)) in
           let here = after .items (later .0) in (
             here .0,
-            later .1
-                ∙ ap (λ (l : List ℕ). l ++ map candidate rest) (here .1)
-                ∙ append-assoc (itemsRead (readBits cs)) (map candidate (wordClosed m d)) (map candidate rest)
-                ∙ ap (λ (l : List ℕ). itemsRead (readBits cs) ++ l) (sym (map-append candidate (wordClosed m d) rest)),
+            rw (later .1, here .1, append-assoc, map-append),
           );
     }
 
-module _ (m : Reading) (cs ds : List Cell) (r : Reads m cs) (few : length cs + length ds ≤ 2 ^ 32) where
-  pub reads-ran : Reads (ran m (length cs) ds) (cs ++ ds)
-  reads-ran = machine-runs m cs ds r few .reads
-
-  pub items-ran :
-      isStray (readBits (cs ++ ds)) ≡ false
-      → itemsRead (readBits (cs ++ ds)) ≡ itemsRead (readBits cs) ++ map candidate (ranWords m (length cs) ds)
-  items-ran fair = machine-runs m cs ds r few .items fair .1
+pub items-ran :
+    (m : Reading) (cs ds : List Cell) → Reads m cs → length cs + length ds ≤ 2 ^ 32
+    → isStray (readBits (cs ++ ds)) ≡ false
+    → itemsRead (readBits (cs ++ ds)) ≡ itemsRead (readBits cs) ++ map candidate (ranWords m (length cs) ds)
+items-ran m cs ds r few fair = machine-runs m cs ds r few .items fair .1
 
 -- a whole strip
 pub strip-by-ran :
@@ -81,6 +68,6 @@ pub strip-by-ran :
     × (stripRule cs .number ≡ 0 → stripItems cs ≡ map candidate (ranWords freshReading 0 cs))
 unfolding stripItems itemsRead readBits readFrom
 strip-by-ran cs h = (
-  rule-of-reads (ran freshReading 0 cs) cs (reads-ran freshReading [] cs reads-fresh (omega arith)),
+  rule-of-reads (ran freshReading 0 cs) cs (machine-runs freshReading [] cs reads-fresh (omega arith) .reads),
   λ accepts. items-ran freshReading [] cs reads-fresh (omega arith) (write-of-read cs accepts .in-place),
 )

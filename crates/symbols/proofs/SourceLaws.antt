@@ -21,9 +21,9 @@ use Rattle.symbols.proofs.NumberLaws.{ones-of-number, last-digits}
 ends-in-one : (n : ℕ) (cs : List Cell) → numberFrom (n * 2 + 1) (halves cs) % 2 ≡ 1
 unfolding halves numberFrom
 ends-in-one n [] = digits-mod n (omega arith)
-ends-in-one n (Short ∷ cs) = ends-in-one ((n * 2 + 1) * 2 + 0) cs
-ends-in-one n (Medium ∷ cs) = ends-in-one (((n * 2 + 1) * 2 + 0) * 2 + 0) cs
-ends-in-one n (Long ∷ cs) = ends-in-one ((((n * 2 + 1) * 2 + 0) * 2 + 0) * 2 + 0) cs
+ends-in-one n (Short ∷ cs) = ends-in-one _ cs
+ends-in-one n (Medium ∷ cs) = ends-in-one _ cs
+ends-in-one n (Long ∷ cs) = ends-in-one _ cs
 
 -- the half cells before the data bit of a letter
 cells-before :
@@ -34,8 +34,7 @@ cells-before i [] h = absurd (omega arith)
 cells-before zero (c ∷ hs) h = (c ∷ [], refl, refl)
 cells-before (suc i) (c ∷ []) h = absurd (omega arith)
 cells-before (suc i) (c ∷ d ∷ hs) h =
-    let r = cells-before i hs (omega arith) in
-    (c ∷ d ∷ r .0, ap (λ (l : List Bit). c ∷ d ∷ l) (r .1), let n = r .2 in omega arith)
+    let (front, e, n) = cells-before i hs (omega arith) in (c ∷ d ∷ front, rw (← e), omega arith)
 
 module _ (cs : List Cell) (i q : ℕ) (inside : i < length (readBits cs)) (size : unitsIn cs ≡ i + i + (q + 1)) where
   abbrev all : ℕ
@@ -50,12 +49,11 @@ module _ (cs : List Cell) (i q : ℕ) (inside : i < length (readBits cs)) (size 
 
   rest-number : all % 2 ^ (q + 1) ≡ numberFrom 0 rest
   rest-number =
-      let front = cells-before i (track cs) (omega (arith, long)) in
-      let n : q + 1 ≡ length rest =
-      (let e = front .2 in omega (arith, long, ap length (front .1), length-append (front .0) rest)) in
-      ap (λ (k : ℕ). all % 2 ^ k) n
-      ∙ ap (λ (l : List Bit). numberFrom 0 l % 2 ^ length rest) (front .1)
-      ∙ last-digits 0 (front .0) rest
+      let (front, e, n) = cells-before i (track cs) (omega (arith, long)) in
+      let left : q + 1 ≡ length rest = omega (arith, long, rw length-append at (ap length e)) in
+      ap (λ (k : ℕ). all % 2 ^ k) left
+      ∙ ap (λ (l : List Bit). numberFrom 0 l % 2 ^ length rest) e
+      ∙ last-digits 0 front rest
 
   odd : numberFrom 0 rest % 2 ≡ 1
   unfolding track numberFrom

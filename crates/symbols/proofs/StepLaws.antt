@@ -5,7 +5,7 @@ use mathlib.Core.Path.{_≡_, refl, ap, sym, _∙_}
 use mathlib.Core.Bool.{true, false, true≢false}
 use mathlib.Core.Logic.{inl, inr}
 use mathlib.Core.List.{List, [], _∷_, _++_, map, append-assoc, append-nil}
-use native.Mathlib.Nat.{mod-eq-of-lt}
+use native.Mathlib.Nat.{mod-eq-of-lt, add-comm}
 use native.Mathlib.Omega.{arith}
 use native.Mathlib.Decide.{decLt}
 use borrow.Author.Tests.{lt-leb, le-leb}
@@ -25,12 +25,14 @@ use Rattle.symbols.specs.declared.Cell.the-variants.{Short, Medium, Long
 use Rattle.symbols.specs.declared.Reading.{Reading}
 use Rattle.symbols.proofs.CellLaws.{more, bits-grown}
 use Rattle.symbols.proofs.PlaceLaws.{source-kept}
-use Rattle.symbols.proofs.UnitLaws.{unitsIn, length-by-units}
+use Rattle.symbols.proofs.UnitLaws.{unitsIn, length-by-units, units-range}
 use Rattle.symbols.proofs.HalfCells.{halves, track}
 use Rattle.symbols.proofs.HalfLaws.{halves-append}
 use Rattle.symbols.proofs.NumberLaws.{number-append}
 use Rattle.symbols.proofs.ReadsLaws.{Open, Held, Reads, front-length, letters-count, items-so-far, strays-so-far}
 use Rattle.symbols.proofs.ClosingLaws.{word-closed, fair-word}
+use lib.Pow.{pow-lt, high, low, mod-pow-add, mod-mod-pow}
+use Rattle.symbols.proofs.EaseLaws.{shifted-out}
 
 -- what a cell more makes of the machine m after the cells cs
 pub record After (m : Reading) (cs : List Cell) (c : Cell) (next : Reading) : Type 0 where
@@ -44,36 +46,27 @@ pub record After (m : Reading) (cs : List Cell) (c : Cell) (next : Reading) : Ty
 
 -- The half cells of a cell, shifted in
 
-shift-two : (n : ℕ) → bitOr (n % 2 ^ 32 * 4 % 2 ^ 32) 1 ≡ (n * 4 + 1) % 2 ^ 32
-shift-two n =
-    let e : n % 2 ^ 32 * 4 % 2 ^ 32 ≡ n % 2 ^ 30 * 4 = omega arith in
-    let f : (n * 4 + 1) % 2 ^ 32 ≡ n % 2 ^ 30 * 4 + 1 = omega arith in
-    rw (e, f) (or-shifted (n % 2 ^ 30) 2 1 (omega arith))
-
-shift-three : (n : ℕ) → bitOr (n % 2 ^ 32 * 8 % 2 ^ 32) 1 ≡ (n * 8 + 1) % 2 ^ 32
-shift-three n =
-    let e : n % 2 ^ 32 * 8 % 2 ^ 32 ≡ n % 2 ^ 29 * 8 = omega arith in
-    let f : (n * 8 + 1) % 2 ^ 32 ≡ n % 2 ^ 29 * 8 + 1 = omega arith in
-    rw (e, f) (or-shifted (n % 2 ^ 29) 3 1 (omega arith))
-
-shift-four : (n : ℕ) → bitOr (n % 2 ^ 32 * 16 % 2 ^ 32) 1 ≡ (n * 16 + 1) % 2 ^ 32
-shift-four n =
-    let e : n % 2 ^ 32 * 16 % 2 ^ 32 ≡ n % 2 ^ 28 * 16 = omega arith in
-    let f : (n * 16 + 1) % 2 ^ 32 ≡ n % 2 ^ 28 * 16 + 1 = omega arith in
-    rw (e, f) (or-shifted (n % 2 ^ 28) 4 1 (omega arith))
+shifted-in :
+    (n r u : ℕ) → 0 < u → bitOr (n % 2 ^ (r + u) * 2 ^ u % 2 ^ (r + u)) 1 ≡ (n * 2 ^ u + 1) % 2 ^ (r + u)
+shifted-in n r u some =
+    let one : 1 < 2 ^ u = pow-lt some in
+    let inner : n % 2 ^ (r + u) % 2 ^ r ≡ n % 2 ^ r = rw (add-comm r u) (mod-mod-pow n u r) in
+    rw (
+      shifted-out (r + u) (n % 2 ^ (r + u)) r u refl,
+      inner,
+      or-shifted (n % 2 ^ r) u 1 one,
+      mod-pow-add (n * 2 ^ u + 1) r u,
+      high n u one,
+      low n u one,
+    )
 
 shifted-number :
     (n : ℕ) (c : Cell)
     → bitOr (n % 2 ^ 32 * 2 ^ (units c % 32) % 2 ^ 32) 1 ≡ numberFrom n (halves (c ∷ [])) % 2 ^ 32
 unfolding halves numberFrom
-shifted-number n Short = shift-two n ∙ ap (λ (x : ℕ). x % 2 ^ 32) (omega arith)
-shifted-number n Medium = shift-three n ∙ ap (λ (x : ℕ). x % 2 ^ 32) (omega arith)
-shifted-number n Long = shift-four n ∙ ap (λ (x : ℕ). x % 2 ^ 32) (omega arith)
-
-units-range : (c : Cell) → (2 ≤ units c) × (units c ≤ 4)
-units-range Short = (omega arith, omega arith)
-units-range Medium = (omega arith, omega arith)
-units-range Long = (omega arith, omega arith)
+shifted-number n Short = shifted-in n 30 2 (omega arith) ∙ ap (λ (x : ℕ). x % 2 ^ 32) (omega arith)
+shifted-number n Medium = shifted-in n 29 3 (omega arith) ∙ ap (λ (x : ℕ). x % 2 ^ 32) (omega arith)
+shifted-number n Long = shifted-in n 28 4 (omega arith) ∙ ap (λ (x : ℕ). x % 2 ^ 32) (omega arith)
 
 units-at-most : (cs : List Cell) → unitsIn cs ≤ 4 * length cs
 unfolding unitsIn
@@ -117,22 +110,30 @@ first-opens m c lead rest letters few none held bits fair = (
   few,
 )
 
-first-open : (c : Cell) → Held (stepped freshReading c 0) (c ∷ [])
-unfolding stepped steppedBy shifted freshReading readBits readFrom given lastAfter unitsIn track halves
-    numberFrom
-first-open Short = first-opens _ Short _ _ refl (omega arith) refl refl refl refl
-first-open Medium = first-opens _ Medium _ _ refl (omega arith) refl refl refl refl
-first-open Long = first-opens _ Long _ _ refl (omega arith) refl refl refl refl
-
 first-after : (c : Cell) → After freshReading [] c (stepped freshReading c 0)
 unfolding stepped steppedBy wordBy wordClosed shifted freshReading isStray straysRead itemsRead rowsOf anywhere readBits
-    readFrom given lastAfter
+    readFrom given lastAfter unitsIn track halves numberFrom
 first-after Short =
-    record { reads = first-open Short; words = refl; few = λ h. absurd (omega arith); items = λ h. (refl, refl) }
+    record {
+      reads = first-opens _ Short _ _ refl (omega arith) refl refl refl refl;
+      words = refl;
+      few = λ h. absurd (omega arith);
+      items = λ h. (refl, refl);
+    }
 first-after Medium =
-    record { reads = first-open Medium; words = refl; few = λ h. absurd (omega arith); items = λ h. (refl, refl) }
+    record {
+      reads = first-opens _ Medium _ _ refl (omega arith) refl refl refl refl;
+      words = refl;
+      few = λ h. absurd (omega arith);
+      items = λ h. (refl, refl);
+    }
 first-after Long =
-    record { reads = first-open Long; words = refl; few = λ h. absurd (omega arith); items = λ h. (refl, refl) }
+    record {
+      reads = first-opens _ Long _ _ refl (omega arith) refl refl refl refl;
+      words = refl;
+      few = λ h. absurd (omega arith);
+      items = λ h. (refl, refl);
+    }
 
 -- Every other cell
 
@@ -151,8 +152,7 @@ module _ (m : Reading) (cs : List Cell) (so-far : Held m cs) (room : length cs <
 
   letters-grown : readBits cs′ ≡ (o .lead ∷ o .before) ++ all
   letters-grown =
-      bits-grown cs c ∙ ap (λ (l : List Bit). l ++ more cs c) (o .letters)
-      ∙ append-assoc (o .lead ∷ o .before) (o .rest) (more cs c)
+      rw (bits-grown cs c, o .letters) (append-assoc (o .lead ∷ o .before) (o .rest) _)
 
   few-words : m .words + 1 < 2 ^ 32
   few-words = omega (arith, letters-count m cs o, length-by-units cs, units-at-most cs)
@@ -174,8 +174,7 @@ module _ (m : Reading) (cs : List Cell) (so-far : Held m cs) (room : length cs <
         arith,
         held-counts,
         length-by-units cs′,
-        ap length letters-grown,
-        length-append (o .lead ∷ o .before) all,
+        rw length-append at (ap length letters-grown),
         o .whole,
       )
 
@@ -202,19 +201,11 @@ module _ (m : Reading) (cs : List Cell) (so-far : Held m cs) (room : length cs <
         place = place-kept;
       }
 
-  none-closed : m₁ .held < 17 → wordClosed m c ≡ []
-  unfolding wordClosed wordBy
-  none-closed h = rw (lt-leb 17 (m₁ .held) h)
-
-  one-closed : 17 ≤ m₁ .held → wordClosed m c ≡ codeWord m₁ ∷ []
-  unfolding wordClosed wordBy
-  one-closed h = rw (le-leb 17 (m₁ .held) h)
-
   after-open : m₁ .held < 17 → After m cs c m₁
-  unfolding shifted isStray grown
+  unfolding shifted wordClosed wordBy isStray grown
   after-open h =
       let few : length all < 8 = omega (arith, letters-held) in
-      let none = none-closed h in
+      let none : wordClosed m c ≡ [] = rw (lt-leb 17 (m₁ .held) h) in
       record {
         reads = (grown, few);
         words = rw none (omega arith);
@@ -228,14 +219,14 @@ module _ (m : Reading) (cs : List Cell) (so-far : Held m cs) (room : length cs <
       }
 
   after-closed : 17 ≤ m₁ .held → After m cs c (closed m₁ (length cs))
-  unfolding closed shifted isStray grown
+  unfolding closed shifted wordClosed wordBy isStray grown
   after-closed h =
       let more-cells : length cs′ ≡ length cs + 1 = omega (arith, length-append cs (c ∷ [])) in
       let last : length cs′ - 1 ≡ length cs = omega arith in
       let range : (17 ≤ m₁ .held) × (m₁ .held ≤ 20) = (h, omega (arith, held-grown, held-before, units-range c .1)) in
       let rows : (8 ≤ length all) × (length all < 16) =
       (omega (arith, letters-held), (let r = range .1 in omega (arith, letters-held))) in
-      let one = one-closed h in
+      let one : wordClosed m c ≡ codeWord m₁ ∷ [] = rw (le-leb 17 (m₁ .held) h) in
       record {
         reads = rw last at (word-closed m₁ cs′ grown range (omega arith) rows few-words);
         words = rw one (mod-eq-of-lt few-words);

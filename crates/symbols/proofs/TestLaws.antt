@@ -3,7 +3,7 @@ use Prim.Native.Nat.{ℕ}
 use mathlib.Core.Path.{_≡_, refl, sym, _∙_}
 use mathlib.Core.Bool.{Bool, true, false, not, _&&_, _||_, true≢false}
 use native.Mathlib.Decide.{ℕ-discrete}
-use borrow.Author.Tests.{eq-eqb, ne-eqb}
+use borrow.Author.Tests.{eq-eqb, ne-eqb, not-true}
 use lib.Dec.{T, eqb}
 
 pub both : (a b : Bool) → T a → T b → T (a && b)
@@ -18,41 +18,26 @@ pub right-of : (a b : Bool) → T (a && b) → T b
 right-of true b t = t
 right-of false b t = absurd t
 
+-- each of several tests joined
+pub ruleset parts = (left-of, right-of)
+
 pub either-of : {C : Type 0} (a b : Bool) → T (a || b) → (T a → C) → (T b → C) → C
 either-of true b t f g = f t
 either-of false b t f g = g t
 
 pub holds : (a : Bool) → a ≡ true → T a
-holds true h = tt
-holds false h = true≢false (sym h)
+holds a h = rw h tt
 
 pub held : (a : Bool) → T a → a ≡ true
 held true t = refl
 held false t = absurd t
 
 pub fails : (a : Bool) → T (not a) → a ≡ false
-fails true t = absurd t
-fails false t = refl
-
-pub implied : (a b : Bool) → T a → T (not a || b) → T b
-implied true b s t = t
-implied false b s t = absurd s
+fails a t = not-true a (held (not a) t)
 
 pub neither : (a b : Bool) → (a || b) ≡ false → (a ≡ false) × (b ≡ false)
 neither true b h = absurd (true≢false h)
 neither false b h = (refl, h)
-
-pub or-true : (t : Bool) → (t || true) ≡ true
-or-true true = refl
-or-true false = refl
-
-pub or-false : (t : Bool) → (t || false) ≡ t
-or-false true = refl
-or-false false = refl
-
-pub and-false : (t : Bool) → (t && false) ≡ false
-and-false true = refl
-and-false false = refl
 
 -- two tests of numbers that hold together
 pub same-test : (a b c d : ℕ) → (a ≡ b → c ≡ d) → (c ≡ d → a ≡ b) → eqb a b ≡ eqb c d

@@ -80,14 +80,9 @@ tokens-of-data w s = at 128 (at 64 (at 32 (at 16 (at 8 (at 4 (at 2 (at 1 s))))))
 -- the letters of A1 and of C2 as marks
 tokens-of-mark : {bs : List Bit} (w : ℕ) → T (isMark w) → Tokens bs → Tokens (markBits (w % 256) ++ bs)
 unfolding isMark markBits withGaps byteBits
-tokens-of-mark {bs} w m s =
-    either-of (eqb w 0x1a1) (eqb w 0x1c2) m (λ e. rw (eqb→eq w 0x1a1 e) a1) (λ e. rw (eqb→eq w 0x1c2 e) c2)
-  where
-    a1 : Tokens (markBits 0xa1 ++ bs)
-    a1 = one (zero (mark (one s)))
-
-    c2 : Tokens (markBits 0xc2 ++ bs)
-    c2 = one (mark (one (zero s)))
+tokens-of-mark w m s =
+    either-of (eqb w 0x1a1) (eqb w 0x1c2) m (λ e. rw (eqb→eq w 0x1a1 e) (one (zero (mark (one s)))))
+    (λ e. rw (eqb→eq w 0x1c2 e) (one (mark (one (zero s)))))
 
 tokens-of-byte : {bs : List Bit} (w : ℕ) → Tokens bs → Tokens (writtenBits w ++ bs)
 unfolding writtenBits

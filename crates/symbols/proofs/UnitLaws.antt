@@ -1,14 +1,13 @@
 -- How many units, cells and bits go together: a cell of u units gives half as many bits, and half a bit is owed after
 -- a 1. So the units alone say how many bits cells give, whether the last is 1, and whether they are whole bytes.
 use Prim.Native.Nat.{ℕ, _+_, _*_, _/_, _%_, _≤_}
-use mathlib.Core.Path.{_≡_, refl, sym, ap, _∙_}
-use mathlib.Core.Bool.{not, _||_}
+use mathlib.Core.Path.{_≡_, refl, ap, _∙_}
+use mathlib.Core.Bool.{not, _||_, or-false, or-true}
 use mathlib.Core.List.{List, [], _∷_, map}
 use native.Mathlib.Omega.{arith}
 use native.Mathlib.Decide.{ℕ-discrete}
 use borrow.Author.Tests.{eq-eqb, ne-eqb}
 use lib.Dec.{eqb}
-use lib.Arith.{digits-mod}
 use lib.ListN.{length, length-append, length-map}
 use Rattle.lists.specs.Sum.{sumOf}
 use Rattle.symbols.specs.Bits.{Bit, O, I, G, isOne, lastOf, allBits}
@@ -18,31 +17,20 @@ use Rattle.symbols.specs.Bytes.{digit}
 use Rattle.symbols.specs.Strip.{isRagged, endsInOne}
 use Rattle.symbols.specs.declared.Cell.{Cell}
 use Rattle.symbols.specs.declared.Cell.the-variants.{Short, Medium, Long}
-use Rattle.symbols.proofs.TestLaws.{or-false, or-true, same-test}
-use Rattle.symbols.proofs.ReadingLaws.{last-of-given, last-of-snoc}
+use Rattle.symbols.proofs.TestLaws.{same-test}
+use Rattle.symbols.proofs.ReadingLaws.{last-of-given, last-of-snoc, cell-gives}
 use Rattle.symbols.proofs.RoundTripLaws.{cells-are-read, read-of-write, bits-count}
+use lib.Arith.{digits-mod}
 
 -- the sum of some cells in units
 unfoldable pub unitsIn : List Cell → ℕ
 unitsIn [] = 0
 unitsIn (c ∷ cs) = units c + unitsIn cs
 
-pub units-of-cell : (b : Bit) (c : Cell) → 2 * length (given b c) + digit b ≡ units c + digit (lastAfter b c)
-unfolding given lastAfter
-units-of-cell O Short = refl
-units-of-cell O Medium = refl
-units-of-cell O Long = refl
-units-of-cell I Short = refl
-units-of-cell I Medium = refl
-units-of-cell I Long = refl
-units-of-cell G Short = refl
-units-of-cell G Medium = refl
-units-of-cell G Long = refl
-
 sum-of-units : (cs : List Cell) → sumOf (map units cs) ≡ unitsIn cs
 unfolding sumOf unitsIn
 sum-of-units [] = refl
-sum-of-units (c ∷ cs) = ap (λ (n : ℕ). units c + n) (sum-of-units cs)
+sum-of-units (c ∷ cs) = rw (sum-of-units cs)
 
 -- two units to a bit; after a 1 one unit of the next bit is already there
 pub units-of-bits :
@@ -51,12 +39,17 @@ unfolding unitsIn readFrom lastOf
 units-of-bits b [] = omega arith
 units-of-bits b (c ∷ cs) =
     rw (length-append (given b c), last-of-given b c)
-    (omega (arith, units-of-cell b c, units-of-bits (lastAfter b c) cs))
+    (omega (arith, cell-gives b c .2, units-of-bits (lastAfter b c) cs))
 
 pub digit-is-small : (b : Bit) → digit b ≤ 1
 digit-is-small O = omega arith
 digit-is-small I = omega arith
 digit-is-small G = omega arith
+
+pub units-range : (c : Cell) → (2 ≤ units c) × (units c ≤ 4)
+units-range Short = (omega arith, omega arith)
+units-range Medium = (omega arith, omega arith)
+units-range Long = (omega arith, omega arith)
 
 -- a 1 is the digit 1
 one-by-digit : (b : Bit) (n : ℕ) → n ≡ digit b → isOne b ≡ eqb n 1
@@ -64,11 +57,9 @@ one-by-digit O n h = rw h
 one-by-digit I n h = rw h
 one-by-digit G n h = rw h
 
-four-of-sixteen : (l u : ℕ) → u ≡ 2 * l → l % 8 ≡ 2 → u % 16 ≡ 4
-four-of-sixteen l u double e = let q : u ≡ l / 8 * 16 + 4 = omega arith in rw q (digits-mod (l / 8) (omega arith))
-
-two-of-eight : (l u : ℕ) → u ≡ 2 * l → u % 16 ≡ 4 → l % 8 ≡ 2
-two-of-eight l u double e = let q : l ≡ u / 16 * 8 + 2 = omega arith in rw q (digits-mod (u / 16) (omega arith))
+twice-mod : (l u : ℕ) → u ≡ 2 * l → u % 16 ≡ 2 * (l % 8)
+twice-mod l u double =
+    let q : u ≡ l / 8 * 16 + 2 * (l % 8) = omega arith in rw q (digits-mod (l / 8) (omega arith))
 
 -- l bits of u units, l the half of u rounded up
 by-units : (l u : ℕ) → l ≡ (u + 1) / 2 → (not (eqb (l % 8) 2) || eqb (u % 2) 1) ≡ not (eqb (u % 16) 4)
@@ -76,9 +67,9 @@ by-units l u h =
     elim (ℕ-discrete (u % 2) 1) [
       | yes odd ↦ rw (eq-eqb (u % 2) 1 odd, ne-eqb (u % 16) 4 (λ e. omega arith)) (or-true (not (eqb (l % 8) 2)))
       | no even ↦
-          let double : u ≡ 2 * l = omega arith in
+          let twice = twice-mod l u (omega arith) in
           rw (ne-eqb (u % 2) 1 even) (or-false (not (eqb (l % 8) 2))
-          ∙ ap not (same-test (l % 8) 2 (u % 16) 4 (four-of-sixteen l u double) (two-of-eight l u double)))
+          ∙ ap not (same-test (l % 8) 2 (u % 16) 4 (λ e. omega arith) (λ e. omega arith)))
     ]
 
 module _ (cs : List Cell) where
@@ -103,9 +94,7 @@ module _ (cs : List Cell) where
 -- Counts
 
 pub given-at-least-one : (b : Bit) (c : Cell) → 1 ≤ length (given b c)
-given-at-least-one b Short = omega (arith, units-of-cell b Short, digit-is-small b)
-given-at-least-one b Medium = omega (arith, units-of-cell b Medium, digit-is-small b)
-given-at-least-one b Long = omega (arith, units-of-cell b Long, digit-is-small b)
+given-at-least-one b c = omega (arith, cell-gives b c .2, units-range c .0, digit-is-small b)
 
 -- each cell gives a bit or two
 pub cells-at-most-bits : (b : Bit) (cs : List Cell) → length cs ≤ length (readFrom b cs)
@@ -123,15 +112,14 @@ cells-at-most-bits b (c ∷ cs) =
 pub cells-at-most : (ws : List ℕ) → length (writtenCells ws) ≤ 8 * length ws + 2
 unfolding readBits
 cells-at-most ws =
-    let r = cells-are-read ws in
-    let n = ap length (read-of-write ws (r .0) (r .1)) ∙ bits-count ws in
-    rw (← r .1, length-map (r .0) units) (omega (arith, cells-at-most-bits O (r .0)))
+    let (cs, e) = cells-are-read ws in
+    let n = ap length (read-of-write ws cs e) ∙ bits-count ws in
+    rw (← e, length-map) (omega (arith, cells-at-most-bits O cs))
 
 -- and 16 n + 4 units
 pub units-of-written : (ws : List ℕ) → sumOf (writtenCells ws) ≡ 16 * length ws + 4
 unfolding lastOf
 units-of-written ws =
-    let r = cells-are-read ws in
-    let bits = read-of-write ws (r .0) (r .1) in
-    let known = rw (bits, last-of-snoc O O (allBits ws)) at (bits-known (r .0)) in
-    ap sumOf (sym (r .1)) ∙ sum-of-units (r .0) ∙ omega (arith, known, bits-count ws)
+    let (cs, e) = cells-are-read ws in
+    let known = rw (read-of-write ws cs e, last-of-snoc O O (allBits ws)) at (bits-known cs) in
+    rw (← e, sum-of-units) (omega (arith, known, bits-count ws))

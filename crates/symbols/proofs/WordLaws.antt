@@ -2,7 +2,7 @@
 -- after it in which gaps stand as reading gives them.
 use Prim.Native.Nat.{ℕ, zero, suc, _+_, _-_, _*_, _%_, _^_}
 use mathlib.Core.Path.{_≡_, refl, ap}
-use mathlib.Core.Bool.{Bool, true, false, not, _&&_, _||_}
+use mathlib.Core.Bool.{Bool, true, false, not, _&&_, _||_, and-false}
 use mathlib.Core.List.{List, [], _∷_, _++_}
 use native.Mathlib.Omega.{arith}
 use lib.Dec.{T, eqb, eqb→eq}
@@ -10,11 +10,11 @@ use lib.Bits.{bitAnd, bitOr, and-comm}
 use lib.Count.{leadingZeros}
 use lib.ListN.{length, take}
 use Rattle.lists.specs.Place.{anywhere, lowest, passed}
-use Rattle.symbols.specs.Bits.{Bit, O, I, G, lastOf}
+use Rattle.symbols.specs.Bits.{Bit, lastOf}
 use Rattle.symbols.specs.Bytes.{digit, numberFrom, isGap, gapInPlace, straysFrom, rowStrays, itemOf}
 use Rattle.half_cells.specs.machine.Candidate.{dataBits, candidate}
 use Rattle.half_cells.specs.machine.Word.{missing, isMarkWord, misfits}
-use Rattle.symbols.proofs.TestLaws.{and-false, holds, implied, left-of, right-of}
+use Rattle.symbols.proofs.TestLaws.{held, parts}
 use Rattle.symbols.proofs.RowLaws.{overLetters, over-letters}
 use Rattle.symbols.proofs.CellLaws.{follows, sound}
 use Rattle.symbols.proofs.HalfCells.{clockAfter, dataOf, cellsAfter}
@@ -47,33 +47,23 @@ wordRight a row = let gaps = shownMissing (wordAfter a row) in rightWith gaps a 
 
 -- a test of every row of n letters that can follow one
 overNext : Bit → (Bit → Bool) → Bool
-overNext O f = f O && f I && f G
-overNext I f = f O && f I
-overNext G f = f O
+overNext a f = overLetters λ b. elim (follows a b) [ true ↦ f b | false ↦ true ]
 
 overRows : ℕ → Bit → (List Bit → Bool) → Bool
 overRows zero a f = f []
 overRows (suc n) a f = overNext a λ b. overRows n b λ row. f (b ∷ row)
 
 all-words-right : T (overLetters λ a. overRows 8 a (wordRight a))
-unfolding overLetters overRows overNext wordRight rightWith shownMissing sameBool wordAfter shownTests cellsAfter
-    clockAfter dataOf numberFrom lastOf candidate dataBits itemOf anywhere lowest rowStrays straysFrom gapInPlace
-    leadingZeros
+unfolding overLetters overRows overNext follows wordRight rightWith shownMissing sameBool wordAfter shownTests
+    cellsAfter clockAfter dataOf numberFrom lastOf candidate dataBits itemOf anywhere lowest rowStrays straysFrom
+    gapInPlace leadingZeros
 all-words-right = tt
 
 -- What it says of each row
 
 over-next : (a : Bit) (f : Bit → Bool) → T (overNext a f) → (b : Bit) → T (follows a b) → T (f b)
-unfolding overNext follows
-over-next O f t O s = left-of (f O) (f I) (left-of (f O && f I) (f G) t)
-over-next O f t I s = right-of (f O) (f I) (left-of (f O && f I) (f G) t)
-over-next O f t G s = right-of (f O && f I) (f G) t
-over-next I f t O s = left-of (f O) (f I) t
-over-next I f t I s = right-of (f O) (f I) t
-over-next I f t G s = absurd s
-over-next G f t O s = t
-over-next G f t I s = absurd s
-over-next G f t G s = absurd s
+unfolding overNext
+over-next a f t b s = rw (held (follows a b) s) at (over-letters _ t b)
 
 over-rows :
     (n : ℕ) (a : Bit) (f : List Bit → Bool) → T (overRows n a f) → (row : List Bit) → length row ≡ n → T (sound a row)
@@ -83,19 +73,13 @@ over-rows zero a f t [] n s = t
 over-rows zero a f t (b ∷ row) n s = absurd (omega arith)
 over-rows (suc k) a f t [] n s = absurd (omega arith)
 over-rows (suc k) a f t (b ∷ row) n s =
-    over-rows k b (λ row. f (b ∷ row))
-    (over-next a (λ b. overRows k b λ row. f (b ∷ row)) t b (left-of (follows a b) (sound b row) s)) row (omega arith)
-    (right-of (follows a b) (sound b row) s)
+    over-rows k b (λ row. f (b ∷ row)) (over-next a (λ b. overRows k b λ row. f (b ∷ row)) t b (search parts)) row
+    (omega arith) (search parts)
 
-pub record Verdict (a : Bit) (row : List Bit) : Type 0 where
-  pub stray : anywhere passed (shownTests a row) ≡ misfits (wordAfter a row)
-  pub place :
-      misfits (wordAfter a row) ≡ true
-      → leadingZeros 32 (missing (wordAfter a row)) ≡ 15 + 2 * lowest passed (shownTests a row)
-  pub item :
-      misfits (wordAfter a row) ≡ false
-      → isGap (lastOf a row) ≡ false
-      → itemOf row ≡ candidate (wordAfter a row % 65536)
+pub record Verdict (a : Bit) (row : List Bit) (x : ℕ) : Type 0 where
+  pub stray : anywhere passed (shownTests a row) ≡ misfits x
+  pub place : misfits x ≡ true → leadingZeros 32 (missing x) ≡ 15 + 2 * lowest passed (shownTests a row)
+  pub item : misfits x ≡ false → isGap (lastOf a row) ≡ false → itemOf row ≡ candidate (x % 65536)
 
 same-bool : (a b : Bool) → T (sameBool a b) → a ≡ b
 unfolding sameBool
@@ -104,34 +88,21 @@ same-bool true false t = absurd t
 same-bool false true t = absurd t
 same-bool false false t = refl
 
-unless : (a b c : Bool) → T (a || b || c) → a ≡ false → b ≡ false → T c
-unless a b c t h k = rw (h, k) at t
-
-shown-is-missing : (x : ℕ) → missing x ≡ shownMissing x
-unfolding missing shownMissing
-shown-is-missing x = and-comm _ 0x15554
-
 right-with-missing :
     (a : Bit) (row : List Bit) → length row ≡ 8 → T (sound a row) → T (rightWith (missing (wordAfter a row)) a row)
-unfolding wordRight
+unfolding wordRight missing shownMissing
 right-with-missing a row n s =
-    rw (shown-is-missing (wordAfter a row))
+    rw (and-comm _ 0x15554)
     (over-rows 8 a (wordRight a) (over-letters (λ a. overRows 8 a (wordRight a)) all-words-right a) row n s)
 
-pub word-verdict : (a : Bit) (row : List Bit) → length row ≡ 8 → T (sound a row) → Verdict a row
+pub word-verdict : (a : Bit) (row : List Bit) → length row ≡ 8 → T (sound a row) → Verdict a row (wordAfter a row)
 unfolding rightWith misfits
 word-verdict a row n s =
-    let x = wordAfter a row in
-    let tests = shownTests a row in
-    let p : Bool = sameBool (anywhere passed tests) (misfits x) in
-    let q : Bool = not (misfits x) || eqb (leadingZeros 32 (missing x)) (15 + 2 * lowest passed tests) in
-    let r : Bool = misfits x || isGap (lastOf a row) || eqb (itemOf row) (candidate (x % 65536)) in
     let t = right-with-missing a row n s in
-    let pq = left-of (p && q) r t in
     record {
-      stray = same-bool _ _ (left-of p q pq);
-      place = λ h. eqb→eq _ _ (implied (misfits x) _ (holds _ h) (right-of p q pq));
-      item = λ h k. eqb→eq _ _ (unless (misfits x) (isGap (lastOf a row)) _ (right-of (p && q) r t) h k);
+      stray = same-bool _ _ (search parts);
+      place = λ h. eqb→eq _ _ (search (parts, rw h at t));
+      item = λ h k. eqb→eq _ _ (search (parts, rw (h, k) at t));
     }
 
 -- the tests that are not shown: on the last letter of a row every gap is out of place
@@ -147,7 +118,7 @@ unfolding straysFrom lastOf
 strays-end byte k a b [] n =
     let e : k ≡ 7 = omega arith in rw (e, not-at-the-end byte (isGap b))
 strays-end byte k a b (c ∷ bs) n =
-    ap (λ (l : List Bool). (isGap b && not (gapInPlace byte k)) ∷ l) (strays-end byte (suc k) b c bs (omega arith))
+    ap (_∷_ (isGap b && not (gapInPlace byte k))) (strays-end byte (suc k) b c bs (omega arith))
 
 pub row-strays-end :
     (a : Bit) (row : List Bit) → length row ≡ 8
@@ -156,4 +127,4 @@ unfolding rowStrays shownTests
 row-strays-end a [] n = absurd (omega arith)
 row-strays-end a (b ∷ bs) n =
     let e : length bs ≡ 7 = omega arith in
-    ap (λ (l : List Bool). isGap a ∷ l) (rw e at (strays-end (numberFrom 0 (b ∷ bs)) 0 a b bs (omega arith)))
+    ap (_∷_ (isGap a)) (rw e at (strays-end (numberFrom 0 (b ∷ bs)) 0 a b bs (omega arith)))

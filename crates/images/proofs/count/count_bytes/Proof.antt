@@ -1,7 +1,7 @@
 -- `count::count_bytes` is a fold: the tally so far, and then the bytes from k on, make the whole. Rests on no axiom.
 use Prim.Native.Nat.{ℕ, _+_, _-_, _≤_, _<_}
 use mathlib.Core.Path.{_≡_, refl, sym, ap, _∙_}
-use mathlib.Core.List.{List, []}
+use mathlib.Core.List.{List}
 use native.Mathlib.Omega.{arith}
 use denote.Ref.{now}
 use lib.ListN.{length, getD, drop, drop-of-length-le}
@@ -57,8 +57,7 @@ returns : tie.Need-returns Inv-loop μ-loop
 returns c =
     let head = c .before .loop in
     let bytes = now (c .before .before .before .args .bytes) in
-    let none : drop (head .k) bytes ≡ [] = drop-of-length-le bytes (c .loop-test .left) in
-    sym (ap (tallied (head .tally)) none ∙ tallied-none (head .tally)) ∙ head .inv .1
+    rw (drop-of-length-le bytes (c .loop-test .left), tallied-none (head .tally)) at (head .inv .1)
 
 pub count-bytes-spec : {M : Type 1} → statement M
 count-bytes-spec =

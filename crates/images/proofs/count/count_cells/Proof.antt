@@ -27,23 +27,19 @@ module _ (items : List ℕ) (accepted : listRule items .number ≡ 0) (tally : T
       ap (λ (t : Tally). t .cells + cond (eqb (t .previous % 2) 1) 1 2) counted
       ∙ tally-is-count (written items) (written-are-bytes items (listed items accepted .none-foreign))
 
-  after-one : tally .previous % 2 ≡ 1 → tally .cells + 1 ≡ length (writtenCells (written items))
-  after-one e = rw (eq-eqb (tally .previous % 2) 1 e) at whole
-
-  after-zero : (tally .previous % 2 ≡ 1 → ⊥) → tally .cells + 2 ≡ length (writtenCells (written items))
-  after-zero e = rw (ne-eqb (tally .previous % 2) 1 e) at whole
-
 returns : tie.Need-returns
 returns c =
     let counted = c .before .before .before in
     let entry = counted .before .before in
-    after-one (now (entry .args .items)) (entry .pre .0) _ (counted .count-items .ensures) (c .if1 .taken)
+    rw (eq-eqb _ _ (c .if1 .taken)) at
+    (whole (now (entry .args .items)) (entry .pre .0) _ (counted .count-items .ensures))
 
 returns-2 : tie.Need-returns-2
 returns-2 c =
     let counted = c .before .before .before in
     let entry = counted .before .before in
-    after-zero (now (entry .args .items)) (entry .pre .0) _ (counted .count-items .ensures) (c .if1 .left)
+    rw (ne-eqb _ _ (c .if1 .left)) at
+    (whole (now (entry .args .items)) (entry .pre .0) _ (counted .count-items .ensures))
 
 pub count-cells-spec : {M : Type 1} → statement M
 count-cells-spec =

@@ -80,7 +80,7 @@ returns c =
     let head = c .before .before .loop in
     let items = now (c .before .before .before .before .before .args .items) in
     let none = written-from-end (head .part .check) items (head .k) (c .before .loop-test .left) in
-    sym (ap (tallied (head .part .tally)) none ∙ tallied-none (head .part .tally)) ∙ head .inv .1
+    rw (none, tallied-none (head .part .tally)) at (head .inv .1)
 
 pub count-each-spec : {M : Type 1} → statement M
 count-each-spec =

@@ -1,7 +1,7 @@
 -- `make::turn_into_words` is a fold over the bytes: the words so far and the image of the bytes from k on are the whole
 -- image. Rests on no axiom.
 use Prim.Native.Nat.{ℕ, suc, _+_, _-_, _≤_, _<_}
-use mathlib.Core.Path.{_≡_, refl, sym, ap, ap₂, _∙_}
+use mathlib.Core.Path.{_≡_, refl, _∙_}
 use mathlib.Core.List.{List, [], _∷_, _++_, append-assoc, append-nil}
 use native.Mathlib.Omega.{arith}
 use native.Mathlib.Numerals.{add-one}
@@ -62,11 +62,7 @@ unfolding imageFrom
 returns c =
     let head = c .before .loop in
     let all : head .k ≡ length (head .bytes) = omega arith in
-    sym (ap₂ _++_ (ap (λ (n : ℕ). take n (head .bytes)) all ∙ take-length (head .bytes))
-    (ap (imageFrom (lastBit (head .previous)))
-    (ap (λ (n : ℕ). drop n (head .bytes)) all ∙ drop-length (head .bytes)))
-    ∙ append-nil (head .bytes))
-    ∙ head .inv .2
+    rw (all, take-length (head .bytes), drop-length (head .bytes), append-nil (head .bytes)) at (head .inv .2)
 
 pub turn-into-words-spec : {M : Type 1} → statement M
 turn-into-words-spec =

@@ -33,21 +33,15 @@ module _ (words : List ℕ) (previous k byte made : ℕ) (h : k < length words)
   after-ruly e =
       let word = getD words k 0 in
       let has = eq-eqb (wordOf (lastBit previous) (candidate word)) word (sym word-is-made ∙ e) in
-      let next : lowest passed (unrulyFrom (lastBit previous) (drop k words))
-      ≡ suc (lowest passed (unrulyFrom (lastBit byte) (drop (suc k) words))) =
-      ap (λ (l : List ℕ). lowest passed (unrulyFrom (lastBit previous) l)) (drop-cons words k 0 h)
-      ∙ lowest-after-ruly (lastBit previous) (last-bit-is-data previous) word (drop (suc k) words) has
-      ∙ ap (λ (w : ℕ). suc (lowest passed (unrulyFrom (lastBit w) (drop (suc k) words)))) (sym is-candidate) in
-      rw add-one (omega arith)
+      let next = lowest-after-ruly (lastBit previous) (last-bit-is-data previous) word (drop (suc k) words) has in
+      rw (add-one, drop-cons words k 0, next, is-candidate) (omega arith)
 
   at-unruly : (made ≡ getD words k 0 → ⊥) → k ≡ lowestFrom words previous k
   at-unruly e =
       let word = getD words k 0 in
       let lacks = ne-eqb (wordOf (lastBit previous) (candidate word)) word (λ q. e (word-is-made ∙ q)) in
-      let here : lowest passed (unrulyFrom (lastBit previous) (drop k words)) ≡ 0 =
-      ap (λ (l : List ℕ). lowest passed (unrulyFrom (lastBit previous) l)) (drop-cons words k 0 h)
-      ∙ lowest-is-unruly (lastBit previous) (last-bit-is-data previous) word (drop (suc k) words) lacks in
-      omega arith
+      let here = lowest-is-unruly (lastBit previous) (last-bit-is-data previous) word (drop (suc k) words) lacks in
+      rw (drop-cons words k 0, here) (sym (add-zero k))
 
 at-end : (words : List ℕ) (previous k : ℕ) → length words ≤ k → k ≡ lowestFrom words previous k
 unfolding unrulyFrom lowest
@@ -69,20 +63,23 @@ word-of-requires c κs = c .before .before .before .before .before .code-words .
 
 loop-again : tie.Need-loop-again Inv-loop μ-loop
 loop-again c =
-    let head = c .before .before .before .before .before .before .loop in
-    let words = now (c .before .before .before .before .before .before .before .before .before .args .words) in (
+    let read = c .before .before .before in
+    let turn = read .before .before in
+    let head = turn .before .loop in
+    let words = now (turn .before .before .before .before .args .words) in (
       omega arith,
-      after-ruly words (head .previous) (head .k) _ _ (c .before .before .before .before .before .loop-test .taken)
-          (c .before .before .before .byte-of .ensures) (c .before .word-of .ensures) (c .if1 .taken)
+      after-ruly words (head .previous) (head .k) _ _ (turn .loop-test .taken) (read .byte-of .ensures)
+          (c .before .word-of .ensures) (c .if1 .taken)
           ∙ head .inv .1,
     )
 
 returns : tie.Need-returns Inv-loop μ-loop
 returns c =
-    let head = c .before .before .before .before .before .before .loop in
-    let words = now (c .before .before .before .before .before .before .before .before .before .args .words) in
-    at-unruly words (head .previous) (head .k) _ _ (c .before .before .before .before .before .loop-test .taken)
-    (c .before .before .before .byte-of .ensures) (c .before .word-of .ensures) (c .if1 .left)
+    let read = c .before .before .before in
+    let turn = read .before .before in
+    let head = turn .before .loop in
+    at-unruly (now (turn .before .before .before .before .args .words)) (head .previous) (head .k) _ _
+    (turn .loop-test .taken) (read .byte-of .ensures) (c .before .word-of .ensures) (c .if1 .left)
     ∙ head .inv .1
 
 returns-2 : tie.Need-returns-2 Inv-loop μ-loop

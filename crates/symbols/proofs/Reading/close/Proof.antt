@@ -30,25 +30,28 @@ returns-2 c =
 returns-3 : tie.Need-returns-3
 unfolding misfits surplus wordOf closed
 returns-3 c =
+    let gapped = c .before .before .before in
     rw (
-      ← c .before .before .before .before .before .before .missing .ensures,
-      ne-eqb _ _ (c .before .before .before .if1 .left),
+      ← gapped .before .before .before .missing .ensures,
+      ne-eqb _ _ (gapped .if1 .left),
       sym (c .before .before .is-mark .ensures) ∙ c .before .if2 .left,
       c .if3 .taken,
-      c .before .before .before .before .wrapping-add-u32 .ensures,
+      gapped .before .wrapping-add-u32 .ensures,
     )
 
 returns-4 : tie.Need-returns-4
 unfolding misfits surplus wordOf closed
 returns-4 c =
+    let first = c .before .before in
+    let gapped = first .before .before .before in
     rw (
-      ← c .before .before .before .before .before .before .before .before .missing .ensures,
-      ne-eqb _ _ (c .before .before .before .before .before .if1 .left),
-      sym (c .before .before .before .before .is-mark .ensures) ∙ c .before .before .before .if2 .left,
-      c .before .before .if3 .left,
+      ← gapped .before .before .before .missing .ensures,
+      ne-eqb _ _ (gapped .if1 .left),
+      sym (first .before .before .is-mark .ensures) ∙ first .before .if2 .left,
+      first .if3 .left,
       ← c .before .cells-since .ensures,
       ← c .first-of-cells .ensures,
-      c .before .before .before .before .before .before .wrapping-add-u32 .ensures,
+      gapped .before .wrapping-add-u32 .ensures,
     )
 
 pub close-spec : {M : Type 1} → statement M
