@@ -48,30 +48,22 @@ module _ (front : List Class) (m : ℕ) (rest : List Class) where
 
   from-mark : drop mark all ≡ markA1 rest
   from-mark =
-      let long : length (front ++ run) ≡ mark =
-      length-append front run ∙ ap (λ (n : ℕ). length front + n) (length-replicate (m + 64) Two) ∙ omega arith in
-      ap (drop mark) (sym (append-assoc front run (markA1 rest))) ∙ drop-at (front ++ run) (markA1 rest) mark long
-
-  in-run : (i : ℕ) → i < m + 64 → getD all (length front + i) Narrow ≡ Two
-  in-run i h =
-      let within = length-replicate (m + 64) Two in
-      getD-append-add front (run ++ markA1 rest) i Narrow
-      ∙ List·getD-append run (markA1 rest) Narrow i (omega arith)
-      ∙ getD-replicate (m + 64) i Two Narrow h
+      let long : length (front ++ run) ≡ mark = simp (length-append, length-replicate) (omega arith) in
+      rw (← append-assoc front run (markA1 rest), drop-at (front ++ run) (markA1 rest) mark long)
 
   two-at : Twos all (length front) mark
   two-at j low high =
-      let there : length front + (j - length front) ≡ j = omega arith in
-      ap (λ (i : ℕ). getD all i Narrow) (sym there) ∙ in-run (j - length front) (omega arith)
-
-  longer : mark ≤ length all
-  longer =
-      let within = length-replicate (m + 64) Two in
-      simp (length-append) (omega arith)
+      let i = j - length front in
+      let there : j ≡ length front + i = omega arith in
+      ap (λ (j : ℕ). getD all j Narrow) there
+      ∙ getD-append-add front (run ++ markA1 rest) i Narrow
+      ∙ List·getD-append run (markA1 rest) Narrow i (omega (arith, length-replicate (m + 64) Two))
+      ∙ getD-replicate (m + 64) i Two Narrow (omega arith)
 
   lock-after-run : lockAfter all (length front) ≡ accepted mark
   lock-after-run =
-      longer-run-is-passed all (length front + 64) mark (omega arith) longer
+      longer-run-is-passed all (length front + 64) mark (omega arith)
+      (simp (length-append, length-replicate) (omega arith))
       (λ j low high. two-at j (omega arith) high)
       ∙ sym (search-ends-in-lock all mark
       (lock-stands all mark (omega arith) (λ j low high. two-at j (omega arith) high)
@@ -96,27 +88,25 @@ module _ (tail : List Class) where
       → run ≤ length front
       → run < 64
       → cond two (ltb run 63 && passes (suc run) filler) (passes 0 filler) ≡ true
-      → ((r : ℕ) → r ≤ length (front ++ (c ∷ [])) → r < 64 → passes r filler ≡ true → Passed filler (front ++ (c ∷ [])) r)
+      → let cs = front ++ (c ∷ filler ++ tail) in
+      ((r : ℕ)
+      → r ≤ length front + 1
+      → r < 64
+      → passes r filler ≡ true
+      → lockAfter cs (length front + 1 - r) ≡ lockAfter cs (length front + suc (length filler)))
       → Passed (c ∷ filler) front run
   one-class-more true c filler front run is-two h few e on =
       let (short, more) = both (ltb run 63) (passes (suc run) filler) e in
       let below = ltb-true run 63 short in
-      let longer : length (front ++ (c ∷ [])) ≡ length front + 1 = length-append front (c ∷ []) in
-      let next = rw (append-snoc front c (filler ++ tail)) at (on (suc run) (omega arith) (omega arith) more) in
-      ap (lockAfter (front ++ (c ∷ filler ++ tail))) (omega arith)
-      ∙ next
-      ∙ ap (lockAfter (front ++ (c ∷ filler ++ tail))) (omega arith)
+      ap (lockAfter (front ++ (c ∷ filler ++ tail))) (omega arith) ∙ on (suc run) (omega arith) (omega arith) more
   one-class-more false c filler front run not-two h few e on =
       let cs = front ++ (c ∷ filler ++ tail) in
-      let longer : length (front ++ (c ∷ [])) ≡ length front + 1 = length-append front (c ∷ []) in
-      let next = rw (append-snoc front c (filler ++ tail)) at (on 0 (omega arith) (omega arith) e) in
       broken-run-is-passed cs (length front - run + 64) (length front) (omega arith) (omega arith) (omega arith)
       (λ two.
       eqb-false (classNumber c) 2 not-two
       (ap classNumber (sym (getD-append-seam front c (filler ++ tail) Narrow) ∙ two)))
       ∙ ap (lockFrom cs) (omega arith)
-      ∙ next
-      ∙ ap (lockAfter cs) (omega arith)
+      ∙ on 0 (omega arith) (omega arith) e
 
   gap-passes
       : (filler front : List Class) (run : ℕ)
@@ -129,7 +119,10 @@ module _ (tail : List Class) where
       let none = eqb-true run 0 e in
       ap (lockAfter (front ++ tail)) (omega arith)
   gap-passes (c ∷ filler) front run h few e =
-      one-class-more (eqb (classNumber c) 2) c filler front run refl h few e (λ r. gap-passes filler (front ++ (c ∷ [])) r)
+      let longer : length (front ++ (c ∷ [])) ≡ length front + 1 = length-append front (c ∷ []) in
+      one-class-more (eqb (classNumber c) 2) c filler front run refl h few e (λ r low short p.
+      (rw (append-snoc front c (filler ++ tail), longer) at (gap-passes filler (front ++ (c ∷ [])) r (omega arith) short p))
+      ∙ ap (lockAfter (front ++ (c ∷ filler ++ tail))) (omega arith))
 
 -- ---- filler, a run and a mark
 

@@ -1,21 +1,21 @@
 -- What the search for the first lock finds: the smallest place at which one stands, and adrift means that none does. By
 -- induction on the places that are left. Rests on no axiom.
-use Prim.Native.Nat.{ℕ, zero, suc, _+_, _-_, _<_, _≤_}
+use Prim.Native.Nat.{ℕ, zero, suc, _+_, _<_, _≤_}
 use mathlib.Core.Path.{_≡_, refl, sym, ap, _∙_}
-use mathlib.Core.Bool.{Bool, true, false, cond}
+use mathlib.Core.Bool.{Bool, true, false}
 use mathlib.Core.List.{List}
-use mathlib.Core.Logic.{⊎-elim}
-use native.Mathlib.Nat.{eq-or-lt-of-le, eq-zero-or-pos}
+use mathlib.Core.Logic.{_⊎_, inl, inr, ⊎-elim}
+use native.Mathlib.Nat.{eq-or-lt-of-le}
 use native.Mathlib.Omega.{arith}
+use borrow.Author.Tests.{eq-eqb}
 use lib.ListN.{length, drop}
-use Rattle.refusal.specs.Answer.{Answer, accepted, refused}
-use Rattle.refusal.proofs.AnswerLaws.{first-refusal-passes}
+use Rattle.refusal.specs.Answer.{accepted, refused}
 use Rattle.timing.specs.Profile.{profileRule}
 use Rattle.timing.specs.Class.{classesOf}
 use Rattle.timing.specs.declared.Profile.{Profile}
 use Rattle.timing.specs.declared.Class.{Class}
-use Rattle.fields.specs.Lock.{lockAt, firstLock, lockFrom, searchRule, findRule}
-use Rattle.fields.proofs.FinderLaws.{lock-is-within, no-lock-past-end, search-goes-on, search-ends-adrift}
+use Rattle.fields.specs.Lock.{lockAt, lockFrom, searchRule, findRule}
+use Rattle.fields.proofs.FinderLaws.{no-lock-past-end, search-goes-on, search-ends-in-lock, search-ends-adrift}
 
 -- a lock stands at place t, and at none before it from place k on
 pub record FirstFrom (cs : List Class) (k t : ℕ) : Type 0 where
@@ -24,93 +24,54 @@ pub record FirstFrom (cs : List Class) (k t : ℕ) : Type 0 where
   pub before : (j : ℕ) → k ≤ j → j < t → lockAt cs j ≡ false
 
 module _ (cs : List Class) where
-  -- ---- what is found
-
-  first-is : (places k t : ℕ) → t < k + places → FirstFrom cs k t → firstLock cs k places ≡ accepted t
-  unfolding firstLock
-  first-is zero k t h first = absurd (let low = first .from in omega arith)
-  first-is (suc places) k t h first =
-      ⊎-elim (λ here.
-      let lock : lockAt cs k ≡ true = ap (lockAt cs) here ∙ first .stands in
-      rw lock (ap accepted here))
-      (λ on.
-      rw (first .before k (omega arith) on) (first-is places (suc k) t (omega arith)
-      (record {
-        from = on;
-        stands = first .stands;
-        before = λ j low high. first .before j (omega arith) high;
-      })))
-      (eq-or-lt-of-le (first .from))
-
   pub lock-from-is : (k t : ℕ) → FirstFrom cs k t → lockFrom cs k ≡ accepted t
-  unfolding lockFrom
   lock-from-is k t first =
-      let within = lock-is-within cs t (first .stands) in
-      let low = first .from in
-      first-is (length cs - k) k t (omega arith) first
+      search-goes-on cs k t (first .from) (first .before) ∙ sym (search-ends-in-lock cs t (first .stands))
 
-  -- ---- what a find means
+  abbrev NoneFrom : ℕ → Type 0
+  NoneFrom k = (j : ℕ) → k ≤ j → lockAt cs j ≡ false
 
-  found-here-or-later
-      : (t : Bool) (k : ℕ) (later : Answer)
-      → lockAt cs k ≡ t
-      → (later .number ≡ 0 → FirstFrom cs (suc k) (later .count))
-      → cond t (accepted k) later .number ≡ 0
-      → FirstFrom cs k (cond t (accepted k) later .count)
-  found-here-or-later true k later here rest e =
-      record { from = omega arith; stands = here; before = λ j low high. absurd (omega arith) }
-  found-here-or-later false k later here rest e =
-      let first = rest e in
-      record {
-        from = let low = first .from in omega arith;
-        stands = first .stands;
-        before =
-            λ j low high.
-            ⊎-elim (λ same. ap (lockAt cs) (sym same) ∙ here) (λ on. first .before j on high)
-            (eq-or-lt-of-le low);
-      }
+  adrift-without-lock : (k : ℕ) → NoneFrom k → lockFrom cs k ≡ refused 10 0
+  adrift-without-lock k none =
+      search-goes-on cs k (k + length cs) (omega arith) (λ j low high. none j low)
+      ∙ sym (search-ends-adrift cs (k + length cs) (omega arith))
 
-  first-found : (places k : ℕ) → firstLock cs k places .number ≡ 0 → FirstFrom cs k (firstLock cs k places .count)
-  unfolding firstLock
-  first-found zero k e = absurd (omega arith)
-  first-found (suc places) k e =
-      found-here-or-later (lockAt cs k) k (firstLock cs (suc k) places) refl (first-found places (suc k)) e
+  abbrev FirstOrNone : ℕ → Type 0
+  FirstOrNone k = ((t : ℕ) × FirstFrom cs k t) ⊎ NoneFrom k
+
+  -- here, or as it is from the next place on
+  here-or-later : (k : ℕ) (t : Bool) → lockAt cs k ≡ t → FirstOrNone (suc k) → FirstOrNone k
+  here-or-later k true e later =
+      inl (k, record { from = omega arith; stands = e; before = λ j low high. absurd (omega arith) })
+  here-or-later k false e later =
+      let from-k : (j : ℕ) → k ≤ j → (suc k ≤ j → lockAt cs j ≡ false) → lockAt cs j ≡ false =
+      λ j low on. ⊎-elim (λ same. ap (lockAt cs) (sym same) ∙ e) on (eq-or-lt-of-le low) in
+      ⊎-elim (λ found.
+      let first = found .1 in
+      inl (
+        found .0,
+        record {
+          from = omega (arith, first .from);
+          stands = first .stands;
+          before = λ j low high. from-k j low (λ on. first .before j on high);
+        },
+      ))
+      (λ none. inr (λ j low. from-k j low (none j))) later
+
+  first-or-none : (places k : ℕ) → length cs ≤ k + places → FirstOrNone k
+  first-or-none zero k h = inr (λ j low. no-lock-past-end cs j (omega arith))
+  first-or-none (suc places) k h = here-or-later k (lockAt cs k) refl (first-or-none places (suc k) (omega arith))
 
   pub lock-from-found : (k : ℕ) → lockFrom cs k .number ≡ 0 → FirstFrom cs k (lockFrom cs k .count)
-  unfolding lockFrom
-  lock-from-found k e = first-found (length cs - k) k e
-
-  -- ---- what adrift means
-
-  pub adrift-without-lock : ((k : ℕ) → lockAt cs k ≡ false) → lockFrom cs 0 ≡ refused 10 0
-  adrift-without-lock none =
-      search-goes-on cs 0 (length cs) (omega arith) (λ j low high. none j)
-      ∙ sym (search-ends-adrift cs (length cs) (omega arith))
-
-  none-here-or-later
-      : (t : Bool) (k : ℕ) (later : Answer) (j : ℕ)
-      → lockAt cs k ≡ t
-      → (later .number ≡ 10 → suc k ≤ j → lockAt cs j ≡ false)
-      → cond t (accepted k) later .number ≡ 10
-      → k ≤ j
-      → lockAt cs j ≡ false
-  none-here-or-later true k later j here rest e low = absurd (omega arith)
-  none-here-or-later false k later j here rest e low =
-      ⊎-elim (λ same. ap (lockAt cs) (sym same) ∙ here) (λ on. rest e on) (eq-or-lt-of-le low)
-
-  none-found
-      : (places k : ℕ) → firstLock cs k places .number ≡ 10 → (j : ℕ) → j < k + places → k ≤ j → lockAt cs j ≡ false
-  unfolding firstLock
-  none-found zero k e j high low = absurd (omega arith)
-  none-found (suc places) k e j high low =
-      none-here-or-later (lockAt cs k) k (firstLock cs (suc k) places) j refl
-      (λ f on. none-found places (suc k) f j (omega arith) on) e low
+  lock-from-found k e =
+      ⊎-elim (λ found. rw (lock-from-is k (found .0) (found .1)) (found .1))
+      (λ none. absurd (let q = rw (adrift-without-lock k none) at e in omega arith))
+      (first-or-none (length cs) k (omega arith))
 
   pub adrift-has-no-lock : (k : ℕ) → lockFrom cs k .number ≡ 10 → (j : ℕ) → k ≤ j → lockAt cs j ≡ false
-  unfolding lockFrom
-  adrift-has-no-lock k e j low =
-      ⊎-elim (λ past. no-lock-past-end cs j (omega arith))
-      (λ inside. none-found (length cs - k) k e j (omega arith) low) (eq-zero-or-pos (length cs - j))
+  adrift-has-no-lock k e =
+      ⊎-elim (λ found. absurd (let q = rw (lock-from-is k (found .0) (found .1)) at e in omega arith)) (λ none. none)
+      (first-or-none (length cs) k (omega arith))
 
 -- ---- the finder's answer
 
@@ -121,7 +82,7 @@ pub first-lock-is-found
     → lockFrom (classesOf p (drop start ds)) 0 ≡ accepted k
     → findRule p ds start ≡ accepted (start + k)
 unfolding findRule searchRule
-first-lock-is-found p ds start k accepts e = first-refusal-passes (profileRule p) _ accepts ∙ rw e
+first-lock-is-found p ds start k accepts e = rw (eq-eqb _ 0 accepts, e)
 
 -- 10 where none stands in the intervals from `start` on
 pub none-is-found
@@ -131,10 +92,10 @@ pub none-is-found
     → findRule p ds start ≡ refused 10 0
 unfolding findRule searchRule
 none-is-found p ds start accepts none =
-    first-refusal-passes (profileRule p) _ accepts ∙ rw (adrift-without-lock (classesOf p (drop start ds)) none)
+    rw (eq-eqb _ 0 accepts, adrift-without-lock (classesOf p (drop start ds)) 0 (λ k low. none k))
 
 -- under an accepted profile the search is all
 pub search-finds
     : (p : Profile) (ds : List ℕ) (start : ℕ) → profileRule p .number ≡ 0 → searchRule p ds start ≡ findRule p ds start
 unfolding findRule
-search-finds p ds start h = sym (first-refusal-passes (profileRule p) (searchRule p ds start) h)
+search-finds p ds start h = rw (eq-eqb _ 0 h)

@@ -6,7 +6,6 @@ pub mod TakenLaws
 pub mod EnoughLaws
 pub mod FieldLaws
 pub mod AgreeLaws
-pub mod FrontLaws
 pub mod FieldPassLaws
 pub mod NearFieldLaws
 pub mod RuleLaws

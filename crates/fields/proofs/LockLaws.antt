@@ -2,7 +2,7 @@
 -- begins with class 2. The first two follow by induction on the front of the list, the last is computed over the
 -- patterns. Rests on no axiom.
 use Prim.Native.Nat.{ℕ, zero, suc, _-_, _<_}
-use mathlib.Core.Path.{_≡_, refl}
+use mathlib.Core.Path.{_≡_, refl, ap}
 use mathlib.Core.Bool.{true, false, and-false}
 use mathlib.Core.List.{List, [], _∷_}
 use native.Mathlib.Omega.{arith}
@@ -24,16 +24,13 @@ two-or-not Three n = refl
 two-or-not Four n = refl
 two-or-not Wide n = refl
 
-narrow-is-not-two : Narrow ≡ Two → ⊥
-narrow-is-not-two e = let q : _≡_ {A = ℕ} 0 1 = cc in omega arith
-
 pub run-ahead
     : (n : ℕ) (cs : List Class)
     → ((j : ℕ) → j < n → getD cs j Narrow ≡ Two)
     → beginsWith (replicate n 2) cs ≡ true
 unfolding beginsWith
 run-ahead zero cs h = refl
-run-ahead (suc n) [] h = absurd (narrow-is-not-two (h 0 (omega arith)))
+run-ahead (suc n) [] h = absurd (omega (arith, ap classNumber (h 0 (omega arith))))
 run-ahead (suc n) (c ∷ cs) h = rw (h 0 (omega arith)) (run-ahead n cs (λ j q. h (suc j) (omega arith)))
 
 pub run-broken

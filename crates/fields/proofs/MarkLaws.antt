@@ -3,8 +3,9 @@
 -- induction on the cells. Rests on no axiom.
 use Prim.Native.Nat.{ℕ, zero, suc, _+_}
 use mathlib.Core.Path.{_≡_, refl, sym, ap, _∙_}
-use mathlib.Core.Bool.{Bool, true, false, _||_, true≢false, false≢true}
+use mathlib.Core.Bool.{true, false, true≢false, false≢true}
 use mathlib.Core.List.{List, [], _∷_, _++_, map}
+use mathlib.Mathlib.Data.Bool.Basic.{eq-false-of-not-eq-true}
 use lib.Dec.{eqb}
 use lib.ListN.{drop}
 use lib.Seq.{drop-drop}
@@ -13,23 +14,25 @@ use Rattle.lists.specs.Place.{anywhere}
 use Rattle.lists.proofs.BoolLaws.{both}
 use Rattle.lists.proofs.PlaceLaws.{anywhere-of-append}
 use Rattle.timing.specs.Class.{classNumber}
+use Rattle.timing.specs.declared.Class.{Class}
 use Rattle.symbols.specs.Bits.{Bit, O, I, G}
 use Rattle.symbols.specs.Bytes.{isGap}
 use Rattle.symbols.specs.Reading.{units, given, lastAfter, readFrom}
 use Rattle.symbols.specs.declared.Cell.{Cell}
 use Rattle.symbols.specs.declared.Cell.the-variants.{Short, Medium, Long}
+use Rattle.symbols.proofs.TestLaws.{neither}
 use Rattle.symbols.proofs.ReadingLaws.{units-injective}
-use Rattle.intervals.proofs.CellLaws.{classOfCell}
+use Rattle.intervals.proofs.CellLaws.{ReadAs, as-short, as-medium, as-long, classOfCell, cell-is-read}
 use Rattle.fields.specs.Lock.{beginsWith, lockPatterns, markAhead, lockAt}
 use Rattle.fields.proofs.LockLaws.{no-mark-of-none}
 use Rattle.fields.proofs.FinderLaws.{no-lock-without-mark}
 
 -- ---- a pattern as cells
 
-number-of-class : (x : Cell) → classNumber (classOfCell x) ≡ units x
-number-of-class Short = refl
-number-of-class Medium = refl
-number-of-class Long = refl
+pub number-of-read : {c : Class} {x : Cell} → ReadAs c x → classNumber c ≡ units x
+number-of-read as-short = refl
+number-of-read as-medium = refl
+number-of-read as-long = refl
 
 -- cells whose classes begin with the numbers of some cells begin with those cells
 cells-of-pattern
@@ -42,7 +45,7 @@ cells-of-pattern (q ∷ qs) [] e = absurd (false≢true e)
 cells-of-pattern (q ∷ qs) (x ∷ xs) e =
     let (here, rest) = both (eqb (classNumber (classOfCell x)) (units q)) _ e in
     let (ys, more) = cells-of-pattern qs xs rest in
-    let unit : units x ≡ units q = sym (number-of-class x) ∙ eqb-true _ (units q) here in
+    let unit : units x ≡ units q = sym (number-of-read (cell-is-read x)) ∙ eqb-true _ (units q) here in
     let same : x ∷ [] ≡ q ∷ [] = units-injective (x ∷ []) (q ∷ []) (ap (λ (n : ℕ). n ∷ []) unit) in
     (ys, cc)
 
@@ -81,28 +84,19 @@ no-pattern-without-gap
     → GivesGap qs
     → (b : Bit) (xs : List Cell)
     → anywhere isGap (readFrom b xs) ≡ false
-    → (begins : Bool)
-    → beginsWith (map units qs) (map classOfCell xs) ≡ begins
-    → begins ≡ false
-no-pattern-without-gap qs gap b xs none false e = refl
-no-pattern-without-gap qs gap b xs none true e =
-    let (ys, same) = cells-of-pattern qs xs e in
-    absurd (true≢false
-    (sym (gap b ys) ∙ ap (λ (zs : List Cell). anywhere isGap (readFrom b zs)) (sym same) ∙ none))
+    → beginsWith (map units qs) (map classOfCell xs) ≡ false
+no-pattern-without-gap qs gap b xs none =
+    eq-false-of-not-eq-true (λ e.
+    let (ys, same) = cells-of-pattern qs xs e in true≢false (sym (gap b ys) ∙ (rw same at none)))
 
 no-mark-at-front
     : (b : Bit) (xs : List Cell) → anywhere isGap (readFrom b xs) ≡ false → markAhead (map classOfCell xs) ≡ false
 unfolding markAhead lockPatterns anywhere
 no-mark-at-front b xs none =
-    let a1 : beginsWith (map units markA1Cells) (map classOfCell xs) ≡ false =
-    no-pattern-without-gap markA1Cells A1-gives-gap b xs none _ refl in
-    let c2 : beginsWith (map units marksC2Cells) (map classOfCell xs) ≡ false =
-    no-pattern-without-gap marksC2Cells C2-gives-gap b xs none _ refl in
-    rw (a1, c2)
-
-second-false : (a b : Bool) → (a || b) ≡ false → b ≡ false
-second-false true b e = absurd (true≢false e)
-second-false false b e = e
+    rw (
+      no-pattern-without-gap markA1Cells A1-gives-gap b xs none,
+      no-pattern-without-gap marksC2Cells C2-gives-gap b xs none,
+    )
 
 no-mark-without-gap
     : (b : Bit) (xs : List Cell) (k : ℕ)
@@ -113,7 +107,7 @@ no-mark-without-gap b xs zero none = no-mark-at-front b xs none
 no-mark-without-gap b [] (suc k) none = no-mark-of-none
 no-mark-without-gap b (x ∷ xs) (suc k) none =
     no-mark-without-gap (lastAfter b x) xs k
-    (second-false (anywhere isGap (given b x)) _ (sym (anywhere-of-append isGap (given b x) _) ∙ none))
+    (neither (anywhere isGap (given b x)) _ (sym (anywhere-of-append isGap (given b x) _) ∙ none) .1)
 
 -- no lock stands from any start on
 pub no-lock-without-gap

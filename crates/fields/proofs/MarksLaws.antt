@@ -1,13 +1,15 @@
 -- A field that reads as three A1 marks and more begins with the classes of three such marks: bytes without a gap out of
 -- place have but one way to be bits, and the cells of bits that were read are computed. Rests on no axiom.
-use Prim.Native.Nat.{ℕ, zero, suc}
+use Prim.Native.Nat.{ℕ}
 use mathlib.Core.Path.{_≡_, refl, sym, ap, _∙_}
 use mathlib.Core.Bool.{true, false, true≢false}
 use mathlib.Core.List.{List, [], _∷_, _++_, map}
 use native.Mathlib.Omega.{arith}
 use borrow.Author.Tests.{eq-eqb}
+use lib.Dec.{eqb}
 use lib.ListN.{length}
 use Rattle.lists.specs.Place.{anywhere, passed}
+use Rattle.lists.proofs.BoolLaws.{both}
 use Rattle.lists.proofs.PlaceLaws.{anywhere-of-append}
 use Rattle.items.specs.Item.{isMark}
 use Rattle.timing.specs.Class.{classesOf, classNumber}
@@ -24,15 +26,14 @@ use Rattle.symbols.proofs.TestLaws.{neither}
 use Rattle.symbols.proofs.PlaceLaws.{by-rows, rows-of-few}
 use Rattle.symbols.proofs.RowLaws.{written-of-row}
 use Rattle.symbols.proofs.ReadingLaws.{cells-of-read}
-use Rattle.intervals.proofs.CellLaws.{ReadAs, as-short, as-medium, as-long, by-each-class}
-use Rattle.fields.specs.Field.{wantedAfter, bitsWanted, cellsTaken, fieldCells, fieldItems}
+use Rattle.fields.specs.Field.{bitsWanted, cellsTaken, fieldCells, fieldItems}
 use Rattle.fields.specs.FieldRule.{fieldRule}
 use Rattle.fields.specs.Lock.{beginsWith}
 use Rattle.fields.specs.machine.Marks.{threeMarks}
-use Rattle.fields.proofs.TakenLaws.{taken-one-more}
+use Rattle.fields.proofs.TakenLaws.{taken-one-more, by-taking}
 use Rattle.fields.proofs.FieldLaws.{field-items-of-cells, field-stray-of-cells}
-use Rattle.fields.proofs.RuleLaws.{gather-stops-nowhere, gather-meets-no-stray}
-use Rattle.fields.proofs.ReaderLaws.{gather-accepts}
+use Rattle.fields.proofs.RuleLaws.{gather-stops-nowhere, gather-meets-no-stray, gather-accepts}
+use Rattle.fields.proofs.MarkLaws.{number-of-read}
 
 -- ---- bits without a gap out of place are those of the bytes that they read as, and what is left over
 
@@ -86,44 +87,30 @@ cells-begin
 unfolding isStray straysRead itemsRead anywhere straysOf rowsOf
 cells-begin xs us fair read =
     let (bs, lead) = lead-is-zero xs _ _ fair read in
-    let (left, same) = letters bs (no-stray bs (rw lead at fair)) in
-    let all : readBits xs ≡ O ∷ allBits (afterMarks us) ++ left =
-    lead ∙ ap (λ (x : List Bit). O ∷ x) same ∙ ap (λ (ws : List ℕ). O ∷ allBits ws ++ left) (items-are bs (rw lead at read)) in
-    let (vs, computed) = cells-of-marks us left in
-    (vs, sym (cells-of-read xs) ∙ ap (λ (x : List Bit). cellsOf (symbolsOf (x ++ (O ∷ [])))) all ∙ computed)
-  where
-    no-stray : (bs : List Bit) → isStray (O ∷ bs) ≡ false → anywhere passed (straysOf (rowsOf bs)) ≡ false
-    no-stray bs e = e
-
-    items-are : (bs : List Bit) → itemsRead (O ∷ bs) ≡ afterMarks us → map itemOf (rowsOf bs) ≡ afterMarks us
-    items-are bs e = e
+    let (left, same) = letters bs (rw lead at fair) in
+    let items : map itemOf (rowsOf bs) ≡ afterMarks us = rw lead at read in
+    let (vs, computed) = cells-of-marks us left in (
+      vs,
+      sym (cells-of-read xs)
+          ∙ ap (λ (x : List Bit). cellsOf (symbolsOf (x ++ (O ∷ []))))
+          (lead ∙ ap (λ (x : List Bit). O ∷ x) (same ∙ ap (λ (ws : List ℕ). allBits ws ++ left) items))
+          ∙ computed,
+    )
 
 -- ---- the classes of a field's cells stand at the front
 
-number-of-read : {c : Class} {x : Cell} → ReadAs c x → classNumber c ≡ units x
-number-of-read as-short = refl
-number-of-read as-medium = refl
-number-of-read as-long = refl
+taken-begin : (cs : List Class) (want : ℕ) (b : Bit) → beginsWith (map units (cellsTaken cs want b)) cs ≡ true
+unfolding beginsWith
+taken-begin =
+    by-taking _ (λ cs want b none fair. rw none) (λ c x read cs want b rest.
+    rw (taken-one-more read cs want b, eq-eqb (classNumber c) (units x) (number-of-read read)) rest)
 
-taken-begin
-    : (qs vs : List ℕ) (cs : List Class) (want : ℕ) (b : Bit)
-    → map units (cellsTaken cs want b) ≡ qs ++ vs
-    → beginsWith qs cs ≡ true
-unfolding beginsWith cellsTaken
-taken-begin [] vs cs want b e = refl
-taken-begin (q ∷ qs) vs [] want b e = absurd (let n = ap length e in omega arith)
-taken-begin (q ∷ qs) vs (c ∷ cs) zero b e = absurd (let n = ap length e in omega arith)
-taken-begin (q ∷ qs) vs (c ∷ cs) (suc want) b e =
-    by-each-class
-    (λ (d : Class). map units (cellsTaken (d ∷ cs) (suc want) b) ≡ q ∷ qs ++ vs → beginsWith (q ∷ qs) (d ∷ cs) ≡ true)
-    (λ e. absurd (let n = ap length e in omega arith)) (λ d x read e.
-    let front : units x ∷ map units (cellsTaken cs (wantedAfter (suc want) b x) (lastAfter b x)) ≡ q ∷ qs ++ vs =
-    rw (taken-one-more read cs want b) at e in
-    let here : units x ≡ q = cc in
-    let there : map units (cellsTaken cs (wantedAfter (suc want) b x) (lastAfter b x)) ≡ qs ++ vs = cc in
-    rw (eq-eqb (classNumber d) q (number-of-read read ∙ here))
-    (taken-begin qs vs cs (wantedAfter (suc want) b x) (lastAfter b x) there))
-    (λ e. absurd (let n = ap length e in omega arith)) c e
+begins-with-front : (qs vs : List ℕ) (cs : List Class) → beginsWith (qs ++ vs) cs ≡ true → beginsWith qs cs ≡ true
+unfolding beginsWith
+begins-with-front [] vs cs e = refl
+begins-with-front (q ∷ qs) vs [] e = e
+begins-with-front (q ∷ qs) vs (c ∷ cs) e =
+    let (here, rest) = both (eqb (classNumber c) q) _ e in rw here (begins-with-front qs vs cs rest)
 
 pub marks-ahead
     : (p : Profile) (ds : List ℕ) (n : ℕ) (us : List ℕ)
@@ -133,9 +120,9 @@ pub marks-ahead
 unfolding fieldCells
 marks-ahead p ds n us accepts items =
     let cs : List Class = classesOf p ds in
-    let gathers = gather-accepts p ds n accepts in
+    let gathers = gather-accepts p ds n n accepts in
     let whole = gather-stops-nowhere cs n gathers in
     let (vs, begin) =
     cells-begin (fieldCells cs n) us (sym (field-stray-of-cells cs n whole) ∙ gather-meets-no-stray cs n gathers)
     (sym (field-items-of-cells cs n whole) ∙ items) in
-    taken-begin threeMarks vs cs (bitsWanted n) O begin
+    begins-with-front threeMarks vs cs (rw begin at (taken-begin cs (bitsWanted n) O))

@@ -11,13 +11,17 @@ use Rattle.lists.proofs.StoreLaws.{front-of-stored}
 use Rattle.refusal.specs.Table.{numberOf, placeOf}
 use Rattle.refusal.specs.Answer.{Answer, accepted, refused}
 use Rattle.refusal.specs.declared.Refusal.{Refusal}
-use Rattle.refusal.proofs.AnswerLaws.{number-is-not-zero, refusal-decides, refusal-keeps-the-buffer}
+use Rattle.refusal.proofs.AnswerLaws.{number-is-not-zero}
 use Rattle.refusal.proofs.AnswerLaws.{first-refusal-accepts, first-refusal-passes, refuse-if-accepts, refuse-if-passes}
+use Rattle.timing.specs.Profile.{outside, profileRule}
+use Rattle.timing.specs.Class.{classesOf}
+use Rattle.timing.specs.declared.Profile.{Profile}
 use Rattle.timing.specs.declared.Class.{Class}
 use Rattle.fields.specs.Field.{fieldStop, fieldUsed, fieldItems, fieldStray}
 use Rattle.fields.specs.Field.{fieldStrayPlace}
 use Rattle.fields.specs.FieldRule.{gatherRule, GathersItems, TellsSum, deliverRule, deliverReading}
 use Rattle.fields.specs.FieldRule.{deliverOutput, fieldTurnedAway, checkedRule, checkedReading, checkedOutput}
+use Rattle.fields.specs.FieldRule.{fieldRule}
 use Rattle.fields.proofs.FieldLaws.{field-items-count}
 
 module _ (cs : List Class) (n : ℕ) where
@@ -38,18 +42,13 @@ module _ (cs : List Class) (n : ℕ) where
 
   -- a refusal of the pass is the answer, and the output is as it was
   module _ (r : Refusal) (e : refused (numberOf r) (placeOf r) ≡ gatherRule cs n) where
-    decides : (room : ℕ) → refused (numberOf r) (placeOf r) ≡ checkedRule cs n room
-    unfolding checkedRule
-    decides room = refusal-decides r (gatherRule cs n) (deliverRule n room) e
-
     pub gather-refuses : (room : ℕ) → fieldTurnedAway (refused (numberOf r) (placeOf r)) ≡ checkedReading cs n room
-    unfolding checkedReading
-    gather-refuses room = rw (← decides room, number-is-not-zero r)
+    unfolding checkedReading checkedRule
+    gather-refuses room = rw (← e, number-is-not-zero r, number-is-not-zero r)
 
     pub gather-keeps : (old : List ℕ) → old ≡ checkedOutput cs n old
-    unfolding checkedOutput
-    gather-keeps old =
-        refusal-keeps-the-buffer r (checkedRule cs n (length old)) (fieldItems cs n) old (decides (length old))
+    unfolding checkedOutput checkedRule
+    gather-keeps old = rw (← e, number-is-not-zero r, number-is-not-zero r)
 
   -- an acceptance leaves the room to what was gathered
   module _ (used : ℕ) (holds : Bool) (e : accepted used ≡ gatherRule cs n) (sum : TellsSum cs n holds) where
@@ -75,6 +74,16 @@ module _ (cs : List Class) (n : ℕ) where
         let same : take n stored ≡ fieldItems cs n =
         ap (take n) (store accepts) ∙ front-of-stored (fieldItems cs n) buffer n count room in
         rw (first-refusal-passes (gatherRule cs n) (deliverRule n (length old)) accepts, same, count)
+
+-- an acceptance of the field is one of the pass
+pub gather-accepts
+    : (p : Profile) (ds : List ℕ) (n room : ℕ)
+    → fieldRule p ds n room .number ≡ 0
+    → gatherRule (classesOf p ds) n .number ≡ 0
+unfolding fieldRule checkedRule
+gather-accepts p ds n room e =
+    let after-12 = refuse-if-accepts (outside 1 1030 n) 11 0 _ (first-refusal-accepts (profileRule p) _ e .1) .1 in
+    first-refusal-accepts (gatherRule (classesOf p ds) n) _ after-12 .0
 
 -- with room for all
 pub delivers-all

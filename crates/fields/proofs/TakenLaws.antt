@@ -5,24 +5,12 @@ use mathlib.Core.Path.{_≡_, refl, sym, ap, _∙_}
 use mathlib.Core.List.{List, [], _∷_, _++_}
 use native.Mathlib.Omega.{arith}
 use lib.ListN.{length, take}
-use Rattle.refusal.specs.Answer.{Answer, accepted}
 use Rattle.timing.specs.declared.Class.{Class}
 use Rattle.symbols.specs.Bits.{Bit}
-use Rattle.symbols.specs.Reading.{given, lastAfter, readFrom}
+use Rattle.symbols.specs.Reading.{lastAfter}
 use Rattle.symbols.specs.declared.Cell.{Cell}
 use Rattle.intervals.proofs.CellLaws.{ReadAs, by-each-class, by-class-read}
 use Rattle.fields.specs.Field.{wantedAfter, cellsTaken, stopFrom}
-
--- ---- one cell more
-
-pub read-one-more
-    : (b : Bit) (c : Cell) (cs : List Cell) → readFrom b (c ∷ cs) ≡ given b c ++ readFrom (lastAfter b c) cs
-unfolding readFrom
-read-one-more b c cs = refl
-
-pub read-none : (b : Bit) → readFrom b [] ≡ []
-unfolding readFrom
-read-none b = refl
 
 -- ---- one interval more
 
@@ -37,15 +25,31 @@ module _ {c : Class} {x : Cell} (read : ReadAs c x) (cs : List Class) (want : �
   unfolding stopFrom
   stop-one-more k = by-class-read _ _ _ read
 
-pub taken-none : (cs : List Class) (b : Bit) → cellsTaken cs 0 b ≡ []
-unfolding cellsTaken
-taken-none [] b = refl
-taken-none (c ∷ cs) b = refl
+-- ---- by the intervals that are used: where none is, a field that does not stop wants no bit
 
-pub stop-none : (cs : List Class) (k : ℕ) (b : Bit) → stopFrom cs k 0 b ≡ accepted 0
-unfolding stopFrom
-stop-none [] k b = refl
-stop-none (c ∷ cs) k b = refl
+module _
+    (P : List Class → ℕ → Bit → Type 0)
+    (ends
+    : (cs : List Class) (want : ℕ) (b : Bit)
+    → cellsTaken cs want b ≡ []
+    → ((k : ℕ) → stopFrom cs k want b .number ≡ 0 → want ≡ 0)
+    → P cs want b)
+    (goes-on
+    : (c : Class) (x : Cell)
+    → ReadAs c x
+    → (cs : List Class) (want : ℕ) (b : Bit)
+    → P cs (wantedAfter (suc want) b x) (lastAfter b x)
+    → P (c ∷ cs) (suc want) b)
+  where
+    pub by-taking : (cs : List Class) (want : ℕ) (b : Bit) → P cs want b
+    unfolding cellsTaken stopFrom
+    by-taking [] zero b = ends _ _ _ refl (λ k e. refl)
+    by-taking [] (suc want) b = ends _ _ _ refl (λ k e. absurd (omega arith))
+    by-taking (c ∷ cs) zero b = ends _ _ _ refl (λ k e. refl)
+    by-taking (c ∷ cs) (suc want) b =
+        by-each-class (λ (d : Class). P (d ∷ cs) (suc want) b) (ends _ _ _ refl (λ k e. absurd (omega arith)))
+        (λ d x read. goes-on d x read cs want b (by-taking cs (wantedAfter (suc want) b x) (lastAfter b x)))
+        (ends _ _ _ refl (λ k e. absurd (omega arith))) c
 
 -- ---- what follows the used intervals is not looked at
 
@@ -53,41 +57,23 @@ pub record SameFront (cs ds : List Class) (k want : ℕ) (b : Bit) : Type 0 wher
   pub cells : cellsTaken ds want b ≡ cellsTaken cs want b
   pub stop : stopFrom ds k want b ≡ stopFrom cs k want b
 
-front-grows
-    : {c : Class} {x : Cell} (read : ReadAs c x) (cs ds : List Class) (k want : ℕ) (b : Bit)
-    → SameFront cs ds (suc k) (wantedAfter (suc want) b x) (lastAfter b x)
-    → SameFront (c ∷ cs) (c ∷ ds) k (suc want) b
-front-grows {c} {x} read cs ds k want b rest =
-    record {
-      cells =
-          taken-one-more read ds want b
-          ∙ ap (λ (l : List Cell). x ∷ l) (rest .cells)
-          ∙ sym (taken-one-more read cs want b);
-      stop = stop-one-more read ds want b k ∙ rest .stop ∙ sym (stop-one-more read cs want b k);
-    }
-
 none-wanted : (cs ds : List Class) (k : ℕ) (b : Bit) → SameFront cs ds k 0 b
-none-wanted cs ds k b =
-    record {
-      cells = taken-none ds b ∙ sym (taken-none cs b);
-      stop = stop-none ds k b ∙ sym (stop-none cs k b);
-    }
+unfolding cellsTaken stopFrom
+none-wanted [] [] k b = record { cells = refl; stop = refl }
+none-wanted [] (d ∷ ds) k b = record { cells = refl; stop = refl }
+none-wanted (c ∷ cs) [] k b = record { cells = refl; stop = refl }
+none-wanted (c ∷ cs) (d ∷ ds) k b = record { cells = refl; stop = refl }
 
-module _ (xs : List Class) where
-  abbrev Decide : List Class → ℕ → ℕ → Bit → Type 0
-  Decide cs k want b =
-      stopFrom cs k want b .number ≡ 0 → SameFront cs (take (length (cellsTaken cs want b)) cs ++ xs) k want b
-
-  pub used-decide : (cs : List Class) (k want : ℕ) (b : Bit) → Decide cs k want b
-  unfolding stopFrom
-  used-decide [] k zero b e = none-wanted [] _ k b
-  used-decide [] k (suc want) b e = absurd (omega arith)
-  used-decide (c ∷ cs) k zero b e = none-wanted (c ∷ cs) _ k b
-  used-decide (c ∷ cs) k (suc want) b e =
-      by-each-class (λ (d : Class). Decide (d ∷ cs) k (suc want) b) (λ f. absurd (omega arith)) (λ d x read f.
-      let want′ : ℕ = wantedAfter (suc want) b x in
-      let fewer : List Class = take (length (cellsTaken cs want′ (lastAfter b x))) cs ++ xs in
-      rw (taken-one-more read cs want b) (front-grows read cs fewer k want b
-      (used-decide cs (suc k) want′ (lastAfter b x)
-      (sym (ap (λ (a : Answer). a .number) (stop-one-more read cs want b k)) ∙ f))))
-      (λ f. absurd (omega arith)) c e
+pub used-decide
+    : (xs cs : List Class) (want : ℕ) (b : Bit) (k : ℕ)
+    → stopFrom cs k want b .number ≡ 0
+    → SameFront cs (take (length (cellsTaken cs want b)) cs ++ xs) k want b
+used-decide xs =
+    by-taking _ (λ cs want b none fair k e. rw (fair k e) (none-wanted cs _ k b)) (λ c x read cs want b rest k e.
+    let front = rest (suc k) (rw (stop-one-more read cs want b k) at e) in
+    rw (taken-one-more read cs want b) (record {
+      cells =
+          rw (taken-one-more read _ want b, taken-one-more read cs want b)
+          (ap (λ (l : List Cell). x ∷ l) (front .cells));
+      stop = stop-one-more read _ want b k ∙ front .stop ∙ sym (stop-one-more read cs want b k);
+    }))

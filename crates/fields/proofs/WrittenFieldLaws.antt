@@ -2,20 +2,19 @@
 -- so its bytes are the items, none of them stray. Where the next byte begins with 0 1 the used cells end with the
 -- field's last bit, since no cell gives a 1 right after a 0 that is known, and the rest reads as the bytes after it.
 -- Rests on no axiom.
-use Prim.Native.Nat.{ℕ, _+_, _≤_}
+use Prim.Native.Nat.{ℕ, _+_, _-_, _≤_}
 use mathlib.Core.Path.{_≡_, refl, sym, ap, _∙_}
 use mathlib.Core.Bool.{true, false, true≢false}
-use mathlib.Core.List.{List, [], _∷_, _++_, map, append-assoc}
+use mathlib.Core.List.{List, [], _∷_, _++_, append-assoc}
 use mathlib.Core.Logic.{⊎-elim}
 use native.Mathlib.Nat.{eq-or-lt-of-le}
 use native.Mathlib.Omega.{arith}
-use borrow.Author.Tests.{le-ltb}
+use borrow.Author.Tests.{eq-eqb, le-ltb}
 use lib.ListN.{length, take, drop, length-append}
 use lib.Seq.{append-snoc, take-append-le, take-at, drop-at}
 use Rattle.lists.specs.Place.{anywhere, everywhere, passed}
 use Rattle.lists.specs.Filled.{filled}
 use Rattle.refusal.specs.Answer.{Answer, accepted}
-use Rattle.refusal.proofs.AnswerLaws.{first-refusal-passes, refuse-if-passes, acceptance-fills-the-buffer}
 use Rattle.timing.specs.Profile.{outside, profileRule}
 use Rattle.timing.specs.Class.{classesOf}
 use Rattle.timing.specs.declared.Profile.{Profile}
@@ -29,12 +28,11 @@ use Rattle.symbols.specs.declared.Cell.{Cell}
 use Rattle.symbols.proofs.BytesLaws.{length-of-bits, items-of-whole-bytes, whole-bytes-have-no-stray}
 use Rattle.symbols.proofs.BytesLaws.{bits-of-append}
 use Rattle.symbols.proofs.ReadingLaws.{read-append, last-of-snoc, beginsWithOne, no-one-after-zero}
-use Rattle.intervals.proofs.CellLaws.{classOfCell}
 use Rattle.fields.specs.Field.{bitsWanted, fieldStop, fieldCells, fieldUsed, fieldBits}
 use Rattle.fields.specs.Field.{fieldItems, holdsAfter, fieldHolds, fieldStray}
 use Rattle.fields.specs.FieldRule.{gatherRule, deliverRule, checkedRule, fieldRule, fieldReading, fieldOutput}
-use Rattle.fields.proofs.EnoughLaws.{Enough, Taken, enough-are-taken}
-use Rattle.fields.proofs.FieldLaws.{field-bits-enough}
+use Rattle.fields.proofs.EnoughLaws.{classesOfCells, shortBy, OfCells, used-of-cells}
+use Rattle.fields.proofs.FieldLaws.{field-bits-few, field-bits-enough}
 
 -- ---- two ways to part a list, at the same length
 
@@ -49,38 +47,36 @@ same-parts xs ys us vs h long = (
 
 module _ (us vs : List ℕ) (xs : List Cell) (reads : readBits xs ≡ O ∷ allBits (us ++ vs) ++ (O ∷ [])) where
   abbrev classes : List Class
-  classes = map classOfCell xs
+  classes = classesOfCells xs
 
   abbrev n : ℕ
   n = length us
 
   -- the lead and the field's bits come first
   bits-in-front : readBits xs ≡ (O ∷ allBits us) ++ (allBits vs ++ (O ∷ []))
-  bits-in-front =
-      reads
-      ∙ ap (λ (bs : List Bit). O ∷ bs ++ (O ∷ [])) (bits-of-append us vs)
-      ∙ ap (λ (bs : List Bit). O ∷ bs) (append-assoc (allBits us) (allBits vs) (O ∷ []))
+  bits-in-front = rw (reads, bits-of-append us vs, append-assoc)
 
   front-length : length (O ∷ allBits us) ≡ bitsWanted n
   front-length = let bits = length-of-bits us in omega arith
 
-  taken : Taken xs 0 (bitsWanted n) O
-  unfolding readBits
-  taken =
-      let all = ap length bits-in-front ∙ length-append (O ∷ allBits us) (allBits vs ++ (O ∷ [])) in
-      let front = front-length in
-      enough-are-taken xs 0 (bitsWanted n) O (omega arith)
+  taken : OfCells xs 0 (bitsWanted n) O (fieldCells classes n)
+  unfolding fieldCells
+  taken = used-of-cells xs 0 (bitsWanted n) O
 
   stops-nowhere : fieldStop classes n ≡ accepted 0
-  unfolding fieldStop
-  stops-nowhere = taken .stop
+  unfolding fieldStop readBits
+  stops-nowhere =
+      let all = ap length bits-in-front ∙ length-append (O ∷ allBits us) (allBits vs ++ (O ∷ [])) in
+      let front = front-length in
+      let none : bitsWanted n - length (readFrom O xs) ≡ 0 = omega arith in
+      taken .stop ∙ taken .same ∙ ap shortBy none
 
   -- the cells after the field
   pub restOfCells : List Cell
   restOfCells = taken .rest
 
   pub used-and-rest : fieldCells classes n ++ restOfCells ≡ xs
-  unfolding fieldCells restOfCells
+  unfolding restOfCells
   used-and-rest = taken .split
 
   abbrev usedBits : List Bit
@@ -91,13 +87,13 @@ module _ (us vs : List ℕ) (xs : List Cell) (reads : readBits xs ≡ O ∷ allB
   bits-split =
       sym (read-append O (fieldCells classes n) restOfCells) ∙ ap (readFrom O) used-and-rest ∙ bits-in-front
 
-  enough : Enough (bitsWanted n) (length usedBits)
+  enough : bitsWanted n ≤ length usedBits
   enough = field-bits-enough classes n (ap (λ (a : Answer). a .number) stops-nowhere)
 
   bits-are : fieldBits classes n ≡ O ∷ allBits us
   unfolding fieldBits
   bits-are =
-      sym (take-append-le (bitsWanted n) usedBits _ (enough .enough))
+      sym (take-append-le (bitsWanted n) usedBits _ enough)
       ∙ ap (take (bitsWanted n)) bits-split
       ∙ take-at (O ∷ allBits us) (allBits vs ++ (O ∷ [])) (bitsWanted n) front-length
 
@@ -120,9 +116,7 @@ module _ (us vs : List ℕ) (xs : List Cell) (reads : readBits xs ≡ O ∷ allB
         rule-accepts : (room : ℕ) → n ≤ room → fieldRule p ds n room ≡ accepted n
         unfolding fieldRule checkedRule gatherRule deliverRule
         rule-accepts room h =
-            first-refusal-passes (profileRule p) _ accepts
-            ∙ refuse-if-passes (outside 1 1030 n) 12 0 _ in-range
-            ∙ rw (same, stops-nowhere, none-is-stray, le-ltb room n h)
+            rw (eq-eqb _ 0 accepts, in-range, same, stops-nowhere, none-is-stray, le-ltb room n h)
 
         pub written-field-is-read
             : (room : ℕ)
@@ -134,10 +128,7 @@ module _ (us vs : List ℕ) (xs : List Cell) (reads : readBits xs ≡ O ∷ allB
 
         pub written-field-is-stored : (old : List ℕ) → n ≤ length old → fieldOutput p ds n old ≡ filled us old
         unfolding fieldOutput
-        written-field-is-stored old h =
-            acceptance-fills-the-buffer (fieldRule p ds n (length old)) (fieldItems (classesOf p ds) n) old
-            (ap (λ (a : Answer). a .number) (rule-accepts (length old) h))
-            ∙ ap (λ (items : List ℕ). filled items old) (ap (λ (cs : List Class). fieldItems cs n) same ∙ items-are)
+        written-field-is-stored old h = rw (rule-accepts (length old) h, same, items-are)
 
   -- ---- what follows the field
 
@@ -158,11 +149,10 @@ module _ (us vs : List ℕ) (xs : List Cell) (reads : readBits xs ≡ O ∷ allB
 
     pub rest-of-field-is-read : readFrom (lastOf O usedBits) restOfCells ≡ allBits vs ++ (O ∷ [])
     rest-of-field-is-read =
-        let low = enough .enough in
-        let high = enough .one-over in
+        let high = field-bits-few classes n in
         let front = front-length in
         ⊎-elim (λ same.
         same-parts usedBits (readFrom (lastOf O usedBits) restOfCells) (O ∷ allBits us) (O ∷ I ∷ tail) split-before-one
         (omega arith) .1
         ∙ sym begins)
-        (λ more. absurd (no-surplus (omega arith))) (eq-or-lt-of-le low)
+        (λ more. absurd (no-surplus (omega arith))) (eq-or-lt-of-le enough)

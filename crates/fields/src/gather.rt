@@ -5,13 +5,11 @@ ghost use mathlib.Core.List.{map};
 ghost use Rattle.lists.specs.Filled.{storedAt};
 ghost use Rattle.refusal.specs.Answer.{countedAnswer};
 ghost use Rattle.timing.specs.Profile.{profileRule};
-ghost use Rattle.timing.specs.Class.{atStart, classesOf};
-ghost use Rattle.timing.specs.machine.Edges.{unitsFrom};
+ghost use Rattle.timing.specs.Class.{classesOf};
 ghost use Rattle.items.specs.Written.{freshCheck, afterBytes};
 ghost use Rattle.half_cells.specs.machine.Candidate.{candidate};
-ghost use Rattle.intervals.specs.machine.Pass.{passed};
 ghost use Rattle.fields.specs.FieldRule.{gatherRule, GathersItems, TellsSum};
-ghost use Rattle.fields.specs.machine.End.{endRule};
+ghost use Rattle.fields.specs.machine.End.{fieldPassed, itemsPassed, endRule};
 use half_cells::words_to_bytes;
 use intervals::Pass;
 use intervals::block::Progress;
@@ -55,14 +53,10 @@ fn sum_up(check: Check, words: &mut [u16], at: usize, out: &mut [u16]) -> Check
 
 // One pass over the intervals of n bytes, each taken as a cell.
 fn pass_items(p: Profile, intervals: &[u16], n: u32, out: &mut [u16]) -> Summed
-    ensures end { λ r. ⌜ r .pass ≡ passed n (unitsFrom (atStart p) (now (intervals .entry))) .end ⌝ }
-    ensures check { λ r. ⌜
-        r .check
-        ≡ afterBytes freshCheck (map candidate (passed n (unitsFrom (atStart p) (now (intervals .entry))) .words)) ⌝ }
+    ensures end { λ r. ⌜ r .pass ≡ fieldPassed p (now (intervals .entry)) n .end ⌝ }
+    ensures check { λ r. ⌜ r .check ≡ afterBytes freshCheck (itemsPassed p (now (intervals .entry)) n) ⌝ }
     ensures output { λ _. ⌜
-        now (out .exit)
-        ≡ storedAt (now (out .entry)) 0
-        (map candidate (passed n (unitsFrom (atStart p) (now (intervals .entry))) .words)) ⌝ }
+        now (out .exit) ≡ storedAt (now (out .entry)) 0 (itemsPassed p (now (intervals .entry)) n) ⌝ }
 {
     let mut words = [0u16; PART_WORDS];
     let mut at = Progress::start(p);

@@ -5,7 +5,7 @@ use mathlib.Core.Path.{_≡_, refl, sym, ap, _∙_}
 use mathlib.Core.Bool.{Bool, true, false, cond}
 use mathlib.Core.List.{List, [], _∷_, _++_, append-nil}
 use native.Mathlib.Omega.{arith}
-use borrow.Author.Tests.{le-ltb, lt-ltb}
+use borrow.Author.Tests.{le-ltb, lt-ltb, eq-eqb}
 use lib.Dec.{ltb}
 use lib.ListN.{length, set, drop, replicate, length-append}
 use lib.Seq.{append-snoc, set-append-seam}
@@ -14,7 +14,7 @@ use Rattle.refusal.specs.Answer.{Answer, accepted, refused, verdictAnswer}
 use Rattle.refusal.specs.declared.Refusal.{Refusal}
 use Rattle.refusal.specs.declared.Verdict.{Verdict}
 use Rattle.refusal.specs.declared.Verdict.the-variants.{Refused}
-use Rattle.refusal.proofs.AnswerLaws.{number-is-not-zero, verdict-refuses, first-refusal-passes}
+use Rattle.refusal.proofs.AnswerLaws.{number-is-not-zero}
 use Rattle.timing.specs.Profile.{profileRule}
 use Rattle.timing.specs.declared.Profile.{Profile}
 use Rattle.track.specs.FieldKinds.{isId}
@@ -22,6 +22,7 @@ use Rattle.track.specs.Index.{hasLock, lockPlace, entryAt, nextStart, en
 use Rattle.track.specs.Index.{crowdRule, indexRule, noEntry, padded, handedBack, indexEntries}
 use Rattle.track.specs.machine.Steps.{stepAt, stepFrom}
 use Rattle.track.specs.declared.Entry.{Entry}
+use Rattle.track.specs.declared.Step.{Step}
 use Rattle.track.specs.declared.Step.the-variants.{End, Other, Begins}
 use Rattle.track.proofs.SearchLaws.{lock-is-ahead, next-is-ahead, search-ends, search-goes-on}
 
@@ -37,58 +38,35 @@ module _ (p : Profile) (ds : List ℕ) (start : ℕ) where
   abbrev k : ℕ
   k = lockPlace p ds start
 
-  pub end-means : End ≡ stepFrom p ds start → hasLock p ds start ≡ false
-  unfolding stepFrom stepAt
-  end-means e =
-      (elim (hasLock p ds start) as (λ t. End ≡ cond t (stepAt p ds k) End → t ≡ false) [
-        | true ↦ (elim (isId p (drop k ds)) as (λ t.
-            End ≡ cond t (Begins (entryAt p ds k) (nextStart p ds k)) (Other (nextStart p ds k)) → true ≡ false) [
-              | true ↦ λ q. absurd (let z : _≡_ {A = ℕ} 0 1 = cc in omega arith)
-              | false ↦ λ q. absurd (let z : _≡_ {A = ℕ} 0 1 = cc in omega arith)
-            ])
-        | false ↦ λ q. refl
-      ]) e
+  abbrev Means : Step → Type 0
+  Means End = hasLock p ds start ≡ false
+  Means (Other next) = Goes p ds start next []
+  Means (Begins entry next) = Goes p ds start next (entry ∷ [])
 
-  other-at
-      : (t : Bool) (next : ℕ)
-      → isId p (drop k ds) ≡ t
-      → Other next ≡ cond t (Begins (entryAt p ds k) (nextStart p ds k)) (Other (nextStart p ds k))
-      → (entriesAt p ds k ≡ []) × (nextStart p ds k ≡ next)
+  means-by
+      : (t u : Bool)
+      → hasLock p ds start ≡ t
+      → isId p (drop k ds) ≡ u
+      → Means (cond t (cond u (Begins (entryAt p ds k) (nextStart p ds k)) (Other (nextStart p ds k))) End)
   unfolding entriesAt
-  other-at true next e q = absurd (let z : _≡_ {A = ℕ} 0 1 = cc in omega arith)
-  other-at false next e q = (rw e, cc)
+  means-by true true lock id = record { lock = lock; here = rw id; on = refl }
+  means-by true false lock id = record { lock = lock; here = rw id; on = refl }
+  means-by false true lock id = lock
+  means-by false false lock id = lock
+
+  step-means : (s : Step) → s ≡ stepFrom p ds start → Means s
+  unfolding stepFrom stepAt
+  step-means s e = rw e (means-by (hasLock p ds start) (isId p (drop k ds)) refl refl)
+
+  pub end-means : End ≡ stepFrom p ds start → hasLock p ds start ≡ false
+  end-means e = step-means End e
 
   pub other-means : (next : ℕ) → Other next ≡ stepFrom p ds start → Goes p ds start next []
-  unfolding stepFrom stepAt
-  other-means next e =
-      (elim (hasLock p ds start) as (λ t.
-      hasLock p ds start ≡ t → Other next ≡ cond t (stepAt p ds k) End → Goes p ds start next []) [
-        | true ↦ λ lock q.
-            let at = other-at (isId p (drop k ds)) next refl q in
-            record { lock = lock; here = at .0; on = at .1 }
-        | false ↦ λ lock q. absurd (let z : _≡_ {A = ℕ} 0 1 = cc in omega arith)
-      ]) refl e
-
-  begins-at
-      : (t : Bool) (entry : Entry) (next : ℕ)
-      → isId p (drop k ds) ≡ t
-      → Begins entry next ≡ cond t (Begins (entryAt p ds k) (nextStart p ds k)) (Other (nextStart p ds k))
-      → (entriesAt p ds k ≡ entry ∷ []) × (nextStart p ds k ≡ next)
-  unfolding entriesAt
-  begins-at true entry next e q = (cc, cc)
-  begins-at false entry next e q = absurd (let z : _≡_ {A = ℕ} 0 1 = cc in omega arith)
+  other-means next e = step-means (Other next) e
 
   pub begins-means
       : (entry : Entry) (next : ℕ) → Begins entry next ≡ stepFrom p ds start → Goes p ds start next (entry ∷ [])
-  unfolding stepFrom stepAt
-  begins-means entry next e =
-      (elim (hasLock p ds start) as (λ t.
-      hasLock p ds start ≡ t → Begins entry next ≡ cond t (stepAt p ds k) End → Goes p ds start next (entry ∷ [])) [
-        | true ↦ λ lock q.
-            let at = begins-at (isId p (drop k ds)) entry next refl q in
-            record { lock = lock; here = at .0; on = at .1 }
-        | false ↦ λ lock q. absurd (let z : _≡_ {A = ℕ} 0 1 = cc in omega arith)
-      ]) refl e
+  begins-means entry next e = step-means (Begins entry next) e
 
 module _ {p : Profile} {ds : List ℕ} {start next : ℕ} {adds : List Entry} (goes : Goes p ds start next adds) where
   goes-to : entriesFrom p ds start ≡ adds ++ entriesFrom p ds next
@@ -103,14 +81,16 @@ module _ {p : Profile} {ds : List ℕ} {start next : ℕ} {adds : List Entry} (g
 -- ---- the index
 
 module _ (p : Profile) (ds : List ℕ) where
-  crowd-decides
-      : profileRule p .number ≡ 0 → (a : Answer) → a ≡ crowdRule (entriesOf p ds) → a ≡ indexRule p ds
-  unfolding indexRule
-  crowd-decides fair a e = e ∙ sym (first-refusal-passes (profileRule p) _ fair)
-
-  handed-back : (a : Answer) → a ≡ indexRule p ds → handedBack a (entriesOf p ds) ≡ indexEntries p ds
-  unfolding indexEntries
-  handed-back a e = rw e
+  -- under an accepted profile
+  indexed
+      : profileRule p .number ≡ 0
+      → (a : Answer) (entries : List Entry)
+      → a ≡ crowdRule (entriesOf p ds)
+      → entries ≡ handedBack a (entriesOf p ds)
+      → (a ≡ indexRule p ds) × (entries ≡ indexEntries p ds)
+  unfolding indexRule indexEntries
+  indexed fair a entries e is =
+      rw (eq-eqb _ 0 fair) (e, is ∙ ap (λ (b : Answer). handedBack b (entriesOf p ds)) e)
 
   -- a refusal of the profile decides
   pub profile-refuses
@@ -118,12 +98,10 @@ module _ (p : Profile) (ds : List ℕ) where
       → verdictAnswer v ≡ profileRule p
       → v ≡ Refused r
       → (refused (numberOf r) (placeOf r) ≡ indexRule p ds) × (replicate 32 noEntry ≡ indexEntries p ds)
-  unfolding indexRule handedBack
+  unfolding indexRule indexEntries handedBack
   profile-refuses v r e q =
-      let rule = verdict-refuses v r _ _ e q in
-      let blank : replicate 32 noEntry ≡ handedBack (refused (numberOf r) (placeOf r)) (entriesOf p ds) =
-      rw number-is-not-zero in
-      (rule, blank ∙ handed-back _ rule)
+      let is : profileRule p ≡ refused (numberOf r) (placeOf r) = sym e ∙ ap verdictAnswer q in
+      rw (is, number-is-not-zero r, number-is-not-zero r) (refl, refl)
 
 -- ---- the invariant
 
@@ -206,8 +184,7 @@ module _
           let same = g .counted in
           let few = g .few in
           let enough : ltb 32 (length (g .done)) ≡ false = le-ltb 32 (length (g .done)) (omega arith) in
-          let rule = crowd-decides p ds fair (accepted count) (rw (sym all, enough, same)) in
-          (rule, g .stored ∙ ap padded all ∙ handed-back p ds _ rule)
+          indexed p ds fair (accepted count) entries (rw (sym all, enough, same)) (g .stored ∙ ap padded all)
 
       pub crowded
           : {next : ℕ} {e : Entry}
@@ -220,5 +197,4 @@ module _
           let first = length-append (g .done) (e ∷ []) in
           let long = sym (ap length (whole-with goes)) ∙ length-append (g .done ++ (e ∷ [])) (entriesFrom p ds next) in
           let over : ltb 32 (length (entriesOf p ds)) ≡ true = lt-ltb 32 (length (entriesOf p ds)) (omega arith) in
-          let rule = crowd-decides p ds fair (refused 15 0) (rw over) in
-          (rule, handed-back p ds _ rule)
+          indexed p ds fair (refused 15 0) _ (rw over) refl

@@ -1,7 +1,6 @@
 pub mod FieldLaws
 pub mod OpeningLaws
 pub mod IdLaws
-pub mod DataLaws
 pub mod SearchLaws
 pub mod StepLaws
 pub mod GatherLaws

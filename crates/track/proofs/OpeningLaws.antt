@@ -2,9 +2,10 @@
 -- does not begin with the classes of three A1 marks has no kind. Rests on no axiom.
 use Prim.Native.Nat.{ℕ, _≤_}
 use mathlib.Core.Path.{_≡_, refl, sym, ap, _∙_}
-use mathlib.Core.Bool.{Bool, true, false, cond, _&&_, true≢false}
+use mathlib.Core.Bool.{Bool, true, false, cond, true≢false}
 use mathlib.Core.List.{List, [], _∷_}
 use native.Mathlib.Omega.{arith}
+use mathlib.Mathlib.Data.Bool.Basic.{eq-false-of-not-eq-true}
 use borrow.Author.Tests.{eqb-true}
 use lib.Dec.{eqb}
 use lib.ListN.{length, getD, take, length-replicate}
@@ -20,8 +21,8 @@ use Rattle.fields.specs.FieldRule.{GathersItems, fieldTurnedAway, fieldRule, fi
 use Rattle.fields.specs.Lock.{beginsWith}
 use Rattle.fields.specs.machine.Marks.{threeMarks}
 use Rattle.fields.proofs.FieldLaws.{field-items-count}
-use Rattle.fields.proofs.RuleLaws.{gather-stops-nowhere}
-use Rattle.fields.proofs.ReaderLaws.{gather-accepts, output-is-items}
+use Rattle.fields.proofs.RuleLaws.{gather-stops-nowhere, gather-accepts}
+use Rattle.fields.proofs.ReaderLaws.{output-is-items}
 use Rattle.fields.proofs.MarksLaws.{afterMarks, marks-ahead}
 use Rattle.track.specs.FieldKinds.{fieldOf, itemsOf, reads, opensWith}
 use Rattle.track.specs.machine.Steps.{opens, openedOf, GivesItems}
@@ -46,11 +47,11 @@ module _ (p : Profile) (ds : List ℕ) (n : ℕ) where
 
   items-are-read : reads p ds n ≡ true → itemsOf p ds n ≡ fieldItems (classesOf p ds) n
   unfolding itemsOf
-  items-are-read e = output-is-items p ds n (reading-is-accepted e) _ (length-replicate n 0)
+  items-are-read e = output-is-items p ds n _ (reading-is-accepted e) (length-replicate n 0)
 
   items-count : reads p ds n ≡ true → length (itemsOf p ds n) ≡ n
   items-count e =
-      let accepts = gather-accepts p ds n (reading-is-accepted e) in
+      let accepts = gather-accepts p ds n n (reading-is-accepted e) in
       ap length (items-are-read e)
       ∙ field-items-count (classesOf p ds) n (gather-stops-nowhere (classesOf p ds) n accepts)
 
@@ -62,7 +63,7 @@ module _ (p : Profile) (ds : List ℕ) (n : ℕ) where
       → reads p ds n ≡ true
       → new ≡ take (length old) (itemsOf p ds n)
   items-in-place old new room gathers e =
-      gathers (gather-accepts p ds n (reading-is-accepted e))
+      gathers (gather-accepts p ds n n (reading-is-accepted e))
       ∙ ap (storedAt old 0) (sym (items-are-read e))
       ∙ front-fills (itemsOf p ds n) old (omega (arith, items-count e))
 
@@ -73,66 +74,52 @@ module _ (p : Profile) (ds : List ℕ) (n : ℕ) where
   -- ---- of a kind or of none
 
   module _ (kind : ℕ) where
-    pub unopened : opens p ds n kind ≡ false → NoField ≡ openedOf p ds n kind
+    -- then nothing is said of the items
+    pub opens-nothing
+        : (old new : List ℕ)
+        → opens p ds n kind ≡ false
+        → (NoField ≡ openedOf p ds n kind) × GivesItems p ds n kind old new
     unfolding openedOf
-    unopened e = rw e
+    opens-nothing old new none = (rw none, λ e. absurd (true≢false (sym e ∙ none)))
 
     pub unread-opens-nothing : reads p ds n ≡ false → opens p ds n kind ≡ false
     unfolding opens
     unread-opens-nothing e = rw e
 
-    module _ (used : ℕ) (holds : Bool) (f : FieldReads p ds n used holds) where
+    module _ {used : ℕ} {holds : Bool} (f : FieldReads p ds n used holds) where
       pub opens-by-kind : opens p ds n kind ≡ opensWith kind (itemsOf p ds n)
       unfolding opens
-      opens-by-kind = cc
+      opens-by-kind = rw (f .does)
 
       pub opened : opens p ds n kind ≡ true → Field used holds ≡ openedOf p ds n kind
       unfolding openedOf
-      opened e = cc e
+      opened e = rw (e, f .uses, f .sum)
 
     -- ---- what the answer means
 
-    abbrev there : Opened
-    there = Field (fieldOf p ds n .used) (fieldOf p ds n .holds)
+    abbrev pub Means : Opened → Type 0
+    Means NoField = opens p ds n kind ≡ false
+    Means (Field used holds) = (opens p ds n kind ≡ true) × FieldReads p ds n used holds
 
-    pub unopened-means : NoField ≡ openedOf p ds n kind → opens p ds n kind ≡ false
-    unfolding openedOf
-    unopened-means e =
-        (elim (opens p ds n kind) as (λ t. NoField ≡ cond t there NoField → t ≡ false) [
-          | true ↦ λ q. absurd (let z : _≡_ {A = ℕ} 0 1 = cc in omega arith)
-          | false ↦ λ q. refl
-        ]) e
-
-    pub opened-means
-        : (used : ℕ) (holds : Bool)
-        → Field used holds ≡ openedOf p ds n kind
-        → (opens p ds n kind ≡ true) × (Field used holds ≡ there)
-    unfolding openedOf
-    opened-means used holds e =
-        (elim (opens p ds n kind) as (λ t.
-        Field used holds ≡ cond t there NoField → (t ≡ true) × (Field used holds ≡ there)) [
-          | true ↦ λ q. (refl, q)
-          | false ↦ λ q. absurd (let z : _≡_ {A = ℕ} 0 1 = cc in omega arith)
-        ]) e
-
-    pub opened-reads
-        : (used : ℕ) (holds : Bool) → Field used holds ≡ openedOf p ds n kind → FieldReads p ds n used holds
+    means-by
+        : (t : Bool)
+        → opens p ds n kind ≡ t
+        → Means (cond t (Field (fieldOf p ds n .used) (fieldOf p ds n .holds)) NoField)
     unfolding opens
-    opened-reads used holds e =
-        let (opens-so, same) = opened-means _ _ e in
-        record { does = both _ (opensWith _ _) opens-so .0; uses = cc; sum = cc }
+    means-by true e = (e, record { does = both _ (opensWith _ _) e .0; uses = refl; sum = refl })
+    means-by false e = e
+
+    pub opened-means : (o : Opened) → o ≡ openedOf p ds n kind → Means o
+    unfolding openedOf
+    opened-means o e = rw e (means-by (opens p ds n kind) refl)
 
     -- ---- what begins without the classes of three marks
 
     marks-in-front : (us : List ℕ) → opensWith kind us ≡ true → (vs : List ℕ) × (us ≡ afterMarks vs)
     unfolding opensWith
     marks-in-front us e =
-        let first : Bool = eqb (getD us 0 0) 0x1a1 in
-        let second : Bool = eqb (getD us 1 0) 0x1a1 in
-        let third : Bool = eqb (getD us 2 0) 0x1a1 in
-        let three = both (first && second && third) (eqb (getD us 3 0) kind) e .0 in
-        let two = both (first && second) third three in
-        let one = both first second (two .0) in
+        let two = both _ _ (both _ _ e .0) in
+        let one = both _ _ (two .0) in
         three-of us (eqb-true _ _ (one .0)) (eqb-true _ _ (one .1)) (eqb-true _ _ (two .1))
       where
         three-of
@@ -149,20 +136,12 @@ module _ (p : Profile) (ds : List ℕ) (n : ℕ) where
     opens-at-marks : opens p ds n kind ≡ true → beginsWith threeMarks (classesOf p ds) ≡ true
     unfolding opens
     opens-at-marks e =
-        let (does, of-kind) = both (reads p ds n) (opensWith kind (itemsOf p ds n)) e in
+        let (does, of-kind) = both _ _ e in
         let (vs, marks) = marks-in-front (itemsOf p ds n) of-kind in
         marks-ahead p ds n vs (reading-is-accepted does) (sym (items-are-read does) ∙ marks)
 
     pub unmarked-opens-nothing : beginsWith threeMarks (classesOf p ds) ≡ false → opens p ds n kind ≡ false
-    unmarked-opens-nothing none = by (opens p ds n kind) refl
-      where
-        by : (t : Bool) → opens p ds n kind ≡ t → t ≡ false
-        by false e = refl
-        by true e = absurd (true≢false (sym (opens-at-marks e) ∙ none))
-
-    -- then nothing is said of the items
-    pub no-items : (old new : List ℕ) → opens p ds n kind ≡ false → GivesItems p ds n kind old new
-    no-items old new none e = absurd (true≢false (sym e ∙ none))
+    unmarked-opens-nothing none = eq-false-of-not-eq-true (λ e. true≢false (sym (opens-at-marks e) ∙ none))
 
 -- the first four tell how a field opens
 pub opens-by-front

@@ -6,9 +6,11 @@ use mathlib.Core.Path.{_≡_, refl, sym, ap, _∙_}
 use mathlib.Core.Bool.{Bool, true, false, cond, _&&_, true≢false}
 use mathlib.Core.List.{List, [], _++_}
 use native.Mathlib.Omega.{arith}
+use mathlib.Mathlib.Data.Bool.Basic.{eq-false-of-not-eq-true}
 use borrow.Author.Tests.{eqb-true, leb-true}
 use lib.Dec.{eqb}
 use lib.ListN.{length, drop, length-drop}
+use Rattle.lists.proofs.BoolLaws.{both}
 use Rattle.refusal.specs.Table.{numberOf, placeOf}
 use Rattle.refusal.specs.Answer.{Answer, accepted, refused, countedAnswer}
 use Rattle.refusal.specs.declared.Refusal.{Refusal}
@@ -23,7 +25,7 @@ use Rattle.timing.proofs.ClassLaws.{classes-length}
 use Rattle.fields.specs.Lock.{lockAt, lockFrom, searchRule, findRule}
 use Rattle.fields.proofs.FinderLaws.{lock-is-within}
 use Rattle.fields.proofs.FirstLockLaws.{lock-from-found, search-finds}
-use Rattle.track.specs.FieldKinds.{isId, isData, dataBytes}
+use Rattle.track.specs.FieldKinds.{isId, dataBytes}
 use Rattle.track.specs.Index.{hasLock, lockPlace, fieldEnd, hasData, idByte, entryEnd}
 use Rattle.track.specs.Index.{nextStart, entriesAt, entriesBy, entriesFrom}
 use Rattle.track.specs.Claims.{TracksGoByLocks}
@@ -37,14 +39,6 @@ module _ (p : Profile) (ds : List ℕ) (start : ℕ) where
       : (r : Refusal) → refused (numberOf r) (placeOf r) ≡ findRule p ds start → hasLock p ds start ≡ false
   unfolding hasLock
   refused-is-no-lock r e = rw (sym e, number-is-not-zero r)
-
-  -- as the search answers it
-  module _ (fair : profileRule p .number ≡ 0) (found : Counted) (e : countedAnswer found ≡ searchRule p ds start) where
-    pub search-refuses : (r : Refusal) → found ≡ Refused r → hasLock p ds start ≡ false
-    search-refuses r q = refused-is-no-lock r (sym (ap countedAnswer q) ∙ e ∙ search-finds p ds _ fair)
-
-    pub search-counts : (k : ℕ) → found ≡ Count k → accepted k ≡ findRule p ds start
-    search-counts k q = sym (ap countedAnswer q) ∙ e ∙ search-finds p ds _ fair
 
   pub found-is-lock
       : (k : ℕ) → accepted k ≡ findRule p ds start → (hasLock p ds start ≡ true) × (lockPlace p ds start ≡ k)
@@ -64,13 +58,9 @@ module _ (p : Profile) (ds : List ℕ) (start : ℕ) where
   counted true a e h = (eqb-true _ _ e, refl)
   counted false a e h = absurd (true≢false (cc))
 
-  first-holds : (t a b : Bool) → (t && a && b) ≡ true → t ≡ true
-  first-holds true a b e = refl
-  first-holds false a b e = e
-
   stands-after-64 : (k : ℕ) → lockAt classes k ≡ true → 64 ≤ k
   unfolding lockAt
-  stands-after-64 k e = leb-true 64 k (first-holds _ _ _ e)
+  stands-after-64 k e = leb-true 64 k (both _ _ (both _ _ e .0) .0)
 
   pub lock-is-ahead
       : hasLock p ds start ≡ true → (start + 64 ≤ lockPlace p ds start) × (lockPlace p ds start < length ds)
@@ -87,49 +77,62 @@ module _ (p : Profile) (ds : List ℕ) (start : ℕ) where
       let place = ap (λ (a : Answer). a .count) passes ∙ count in
       (omega arith, omega arith)
 
+  -- ---- what the search's answer says
+
+  pub record Lock (k : ℕ) : Type 0 where
+    pub lock : hasLock p ds start ≡ true
+    pub place : lockPlace p ds start ≡ k
+    pub within : k < length ds
+
+  abbrev pub Searched : Counted → Type 0
+  Searched (Count k) = Lock k
+  Searched (Refused r) = hasLock p ds start ≡ false
+
+  search-says : (answer : Counted) → countedAnswer answer ≡ findRule p ds start → Searched answer
+  search-says (Count k) e =
+      let (lock, place) = found-is-lock k e in
+      record { lock = lock; place = place; within = omega (arith, lock-is-ahead lock .1) }
+  search-says (Refused r) e = refused-is-no-lock r e
+
+  pub search-means
+      : profileRule p .number ≡ 0
+      → (found : Counted)
+      → countedAnswer found ≡ searchRule p ds start
+      → (answer : Counted)
+      → found ≡ answer
+      → Searched answer
+  search-means fair found e answer q =
+      search-says answer (sym (ap countedAnswer q) ∙ e ∙ search-finds p ds start fair)
+
 module _ (p : Profile) (ds : List ℕ) where
   pub none-past-end : (start : ℕ) → length ds ≤ start → hasLock p ds start ≡ false
   none-past-end start h =
-      (elim (hasLock p ds start) as (λ t. hasLock p ds start ≡ t → t ≡ false) [
-        | true ↦ λ e. absurd (let ahead = lock-is-ahead p ds start e in omega arith)
-        | false ↦ λ e. refl
-      ]) refl
+      eq-false-of-not-eq-true (λ e. let ahead = lock-is-ahead p ds start e in omega arith)
 
   -- ---- where the search goes on
 
-  entry-end-by
-      : (t : Bool) (start code : ℕ)
-      → (hasLock p ds start && isData p (drop (lockPlace p ds start) ds) code) ≡ t
-      → start ≤ cond t (fieldEnd p ds (lockPlace p ds start) (dataBytes code)) start
-  entry-end-by true start code e =
-      let lock : hasLock p ds start ≡ true =
-      (elim (hasLock p ds start) as (λ t. (t && isData p (drop (lockPlace p ds start) ds) code) ≡ true → t ≡ true)
-      [ true ↦ λ q. refl | false ↦ λ q. q ]) e in
-      let ahead = lock-is-ahead p ds start lock in
-      let ends = field-ends-within p ds (lockPlace p ds start) (dataBytes code) (omega arith) in
-      omega arith
-  entry-end-by false start code e = omega arith
+  either-way
+      : (t : Bool) (low high other : ℕ) → (t ≡ true → low ≤ high) → low ≤ other → low ≤ cond t high other
+  either-way true low high other first second = first refl
+  either-way false low high other first second = second
 
   entry-ends-ahead : (start code : ℕ) → start ≤ entryEnd p ds start code
   unfolding entryEnd hasData
-  entry-ends-ahead start code = entry-end-by _ _ _ refl
-
-  next-by
-      : (t : Bool) (k : ℕ)
-      → k ≤ length ds
-      → k ≤ cond t (entryEnd p ds (fieldEnd p ds k 10) (idByte p ds k 7)) (suc k)
-  next-by true k h =
-      let ends = field-ends-within p ds k 10 h in
-      let on = entry-ends-ahead (fieldEnd p ds k 10) (idByte p ds k 7) in
-      omega arith
-  next-by false k h = omega arith
+  entry-ends-ahead start code =
+      either-way (hasLock p ds start && _) start _ start (λ e.
+      let ahead = lock-is-ahead p ds start (both _ _ e .0) in
+      omega (arith, field-ends-within p ds (lockPlace p ds start) (dataBytes code) (omega arith) .0))
+      (omega arith)
 
   pub next-is-ahead : (start : ℕ) → hasLock p ds start ≡ true → start < nextStart p ds (lockPlace p ds start)
   unfolding nextStart
   next-is-ahead start e =
+      let k = lockPlace p ds start in
       let ahead = lock-is-ahead p ds start e in
-      let on = next-by (isId p (drop (lockPlace p ds start) ds)) (lockPlace p ds start) (omega arith) in
-      omega arith
+      either-way (isId p (drop k ds)) (suc start) _ (suc k) (λ id.
+      let ends = field-ends-within p ds k 10 (omega arith) in
+      omega (arith, entry-ends-ahead (fieldEnd p ds k 10) (idByte p ds k 7)))
+      (omega arith)
 
   -- ---- enough searches
 
@@ -154,38 +157,25 @@ module _ (p : Profile) (ds : List ℕ) where
       let ahead = next-is-ahead start e in
       same-searches m n (nextStart p ds (lockPlace p ds start)) (omega arith) (omega arith))
 
-  ends-by : (n start : ℕ) → hasLock p ds start ≡ false → entriesBy p ds n start ≡ []
-  unfolding entriesBy
-  ends-by zero start e = refl
-  ends-by (suc n) start e = rw e
-
-  goes-on-by
-      : (n start : ℕ)
-      → hasLock p ds start ≡ true
-      → entriesBy p ds (suc n) start
-      ≡ entriesAt p ds (lockPlace p ds start) ++ entriesBy p ds n (nextStart p ds (lockPlace p ds start))
-  unfolding entriesBy
-  goes-on-by n start e = rw e
+  one-more : (start : ℕ) → entriesFrom p ds start ≡ entriesBy p ds (suc (length ds - start)) start
+  unfolding entriesFrom
+  one-more start = same-searches (length ds - start) _ start (omega arith) (omega arith)
 
   pub search-ends : (start : ℕ) → hasLock p ds start ≡ false → entriesFrom p ds start ≡ []
-  unfolding entriesFrom
-  search-ends start e = rw ends-by
+  unfolding entriesBy
+  search-ends start e = one-more start ∙ rw e
 
   pub search-goes-on
       : (start : ℕ)
       → hasLock p ds start ≡ true
       → entriesFrom p ds start
       ≡ entriesAt p ds (lockPlace p ds start) ++ entriesFrom p ds (nextStart p ds (lockPlace p ds start))
-  unfolding entriesFrom
+  unfolding entriesFrom entriesBy
   search-goes-on start e =
-      let k = lockPlace p ds _ in
-      let within = lock-is-ahead p ds _ e in
-      let ahead = next-is-ahead _ e in
-      let n = length ds - start - 1 in
-      let some : length ds - start ≡ suc n = omega arith in
-      ap (λ (m : ℕ). entriesBy p ds m start) some
-      ∙ goes-on-by n _ e
-      ∙ ap (λ (rest : List Entry). entriesAt p ds k ++ rest) (same-searches n _ _ (omega arith) (omega arith))
+      let ahead = next-is-ahead start e in
+      let next = nextStart p ds (lockPlace p ds start) in
+      one-more start
+      ∙ rw (e, same-searches (length ds - start) (length ds - next) next (omega arith) (omega arith))
 
 pub tracks-go-by-locks : TracksGoByLocks
 tracks-go-by-locks p ds = record { goes-on = search-goes-on p ds; ends = search-ends p ds }

@@ -2,7 +2,7 @@
 -- the front, and too few intervals begin with no pattern. Rests on no axiom.
 use Prim.Native.Nat.{ℕ, suc, _+_, _-_, _<_, _≤_}
 use mathlib.Core.Path.{_≡_, refl, sym, ap, _∙_}
-use mathlib.Core.Bool.{Bool, true, false, _&&_}
+use mathlib.Core.Bool.{Bool, true, false, _&&_, and-false}
 use mathlib.Core.List.{List, [], _∷_}
 use native.Mathlib.Numerals.{add-one}
 use native.Mathlib.Omega.{arith}
@@ -24,11 +24,7 @@ too-few : (qs : List ℕ) (cs : List Class) → length cs < length qs → begins
 unfolding beginsWith
 too-few [] cs h = absurd (omega arith)
 too-few (q ∷ qs) [] h = refl
-too-few (q ∷ qs) (c ∷ cs) h = rw (too-few qs cs (omega arith)) (neither (eqb (classNumber c) q))
-  where
-    neither : (t : Bool) → (t && false) ≡ false
-    neither true = refl
-    neither false = refl
+too-few (q ∷ qs) (c ∷ cs) h = rw (too-few qs cs (omega arith), and-false)
 
 module _ (qs ds : List ℕ) (cursor : Cursor) (at i : ℕ) where
   abbrev d : ℕ
@@ -42,30 +38,17 @@ module _ (qs ds : List ℕ) (cursor : Cursor) (at i : ℕ) where
   unfolding beginsWith
   pattern-is-over h = rw (drop-of-length-le qs h)
 
-  other-class : i < length qs → at + i < length ds → (classNumber (classIn cursor d) ≡ getD qs i 0 → ⊥) → here ≡ false
-  unfolding beginsWith
-  other-class h inside other =
-      rw (
-        drop-cons qs i 0 h,
-        classes-here cursor ds (at + i) inside,
-        ne-eqb (classNumber (classIn cursor d)) (getD qs i 0) other,
-      )
-
-  same-class
+  -- one class and one number are compared
+  one-class
       : i < length qs
       → at + i < length ds
-      → classNumber (classIn cursor d) ≡ getD qs i 0
-      → here ≡ beginsWith (drop (i + 1) qs) (classesFrom (cursorPast cursor d) (drop (at + (i + 1)) ds))
+      → (same : Bool)
+      → eqb (classNumber (classIn cursor d)) (getD qs i 0) ≡ same
+      → here ≡ (same && beginsWith (drop (i + 1) qs) (classesFrom (cursorPast cursor d) (drop (at + (i + 1)) ds)))
   unfolding beginsWith
-  same-class h inside same =
+  one-class h inside same is =
       let next : at + (i + 1) ≡ suc (at + i) = omega arith in
-      rw (
-        next,
-        add-one i,
-        drop-cons qs i 0 h,
-        classes-here cursor ds (at + i) inside,
-        eq-eqb (classNumber (classIn cursor d)) (getD qs i 0) same,
-      )
+      rw (next, add-one i, drop-cons qs i 0 h, classes-here cursor ds (at + i) inside, is)
 
 abbrev Inv-loop : tie.InvT-loop
 Inv-loop intervals at pattern cursor₀ i₀ cursor i =
@@ -97,18 +80,19 @@ loop-again c =
     let stepped = c .before .before .before .before in
     let turn = stepped .before .before in
     let class = ap (λ (r : Classed). classNumber (r .class)) (stepped .step .ensures) in
-    let next = ap (λ (r : Classed). r .next) (stepped .step .ensures) in
-    rw next (sym
-    (same-class _ _ _ _ _ (turn .loop-test .taken) (omega (arith, turn .loop-test .taken, turn .before .before .if1 .left))
-    (sym class ∙ sym (c .before .before .before .number .ensures) ∙ c .before .if2 .taken))
+    rw (ap (λ (r : Classed). r .next) (stepped .step .ensures)) (sym
+    (one-class _ _ _ _ _ (turn .loop-test .taken)
+    (omega (arith, turn .loop-test .taken, turn .before .before .if1 .left)) true
+    (eq-eqb _ _ (sym class ∙ sym (c .before .before .before .number .ensures) ∙ c .before .if2 .taken)))
     ∙ turn .before .loop .inv)
 
 returns-2 : tie.Need-returns-2 Inv-loop μ-loop
 returns-2 c =
     let turn = c .before .before .before .before .before in
     let class = ap (λ (r : Classed). classNumber (r .class)) (c .before .before .before .step .ensures) in
-    sym (other-class _ _ _ _ _ (turn .loop-test .taken) (omega (arith, turn .loop-test .taken, turn .before .before .if1 .left))
-    (λ e. c .if2 .left (c .before .before .number .ensures ∙ class ∙ e)))
+    sym (one-class _ _ _ _ _ (turn .loop-test .taken)
+    (omega (arith, turn .loop-test .taken, turn .before .before .if1 .left)) false
+    (ne-eqb _ _ (λ e. c .if2 .left (c .before .before .number .ensures ∙ class ∙ e))))
     ∙ turn .before .loop .inv
 
 returns-3 : tie.Need-returns-3 Inv-loop μ-loop

@@ -7,9 +7,6 @@ use borrow.Author.Needs.{needs}
 use Rattle.fields.proofs.finder.find_lock.Statement.{statement}
 use Rattle.fields.proofs.finder.find_lock.Tie as tie
 
-search-requires : tie.Need-search-requires
-search-requires c κs = verdict-accepts _ _ (c .before .before .check .ensures) (c .enum-told .given .1)
-
 returns : tie.Need-returns
 unfolding findRule
 returns c = verdict-refuses _ _ _ _ (c .before .before .before .check .ensures) (c .before .refusal .given .1)
@@ -22,4 +19,5 @@ returns-2 c =
 pub find-lock-spec : {M : Type 1} → statement M
 find-lock-spec =
     tie.close
-    (tie.spec (λ c κs. search needs) (λ c. search needs) (λ c. search needs) search-requires returns returns-2)
+    (tie.spec (λ c κs. search needs) (λ c. search needs) (λ c. search needs)
+    (λ c κs. verdict-accepts _ _ (c .before .before .check .ensures) (c .enum-told .given .1)) returns returns-2)

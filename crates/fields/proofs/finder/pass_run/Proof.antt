@@ -26,9 +26,6 @@ abbrev μ-loop : tie.MeasureT-loop
 loop-holds : tie.Need-loop-holds Inv-loop μ-loop
 loop-holds c = let pre = c .before .pre in (omega arith, pre .1, pre .0, λ start first run. run)
 
-meets-two-requires : tie.Need-meets-two-requires Inv-loop μ-loop
-meets-two-requires c κs = c .before .before .loop .inv .2
-
 loop-again : tie.Need-loop-again Inv-loop μ-loop
 loop-again c =
     let met = c .before .before in
@@ -60,5 +57,6 @@ returns-2 c =
 pub pass-run-spec : {M : Type 1} → statement M
 pass-run-spec =
     tie.close
-    (tie.spec Inv-loop μ-loop (λ c. omega arith) loop-holds (λ c. omega arith) (λ c. omega arith) meets-two-requires
-    (λ c κs. search needs) (λ c. omega arith) (λ c. omega arith) loop-again returns returns-2)
+    (tie.spec Inv-loop μ-loop (λ c. omega arith) loop-holds (λ c. omega arith) (λ c. omega arith)
+    (λ c κs. c .before .before .loop .inv .2) (λ c κs. search needs) (λ c. omega arith) (λ c. omega arith) loop-again
+    returns returns-2)

@@ -43,9 +43,6 @@ scan-holds c = (omega arith, omega arith, omega arith, c .before .pre, search-st
 loop-holds : tie.Need-loop-holds Inv-loop μ-loop Inv-scan μ-scan
 loop-holds c = (omega arith, omega arith, omega arith, c .before .scan .inv .3, λ start searched. searched)
 
-meets-two-requires : tie.Need-meets-two-requires Inv-loop μ-loop Inv-scan μ-scan
-meets-two-requires c κs = c .before .before .loop .inv .3
-
 loop-again : tie.Need-loop-again Inv-loop μ-loop Inv-scan μ-scan
 loop-again c =
     let met = c .before .before .meets-two in
@@ -65,12 +62,6 @@ scan-again : tie.Need-scan-again Inv-loop μ-loop Inv-scan μ-scan
 scan-again c =
     let inv = c .before .before .loop .inv in
     (inv .0, omega arith, omega arith, inv .3, inv .4 _ (c .before .before .before .before .scan .inv .4))
-
-pass-run-requires : tie.Need-pass-run-requires Inv-loop μ-loop Inv-scan μ-scan
-pass-run-requires c κs = (c .before .before .loop .inv .3, omega arith)
-
-mark-ahead-requires : tie.Need-mark-ahead-requires Inv-loop μ-loop Inv-scan μ-scan
-mark-ahead-requires c κs = c .before .pass-run .ensures .high
 
 -- the run is passed over up to the place where the mark is looked for
 at-mark
@@ -104,14 +95,10 @@ returns-2 c =
     mark-is-found (at-mark (c .before)) (omega (arith, passed .low)) (passed .high)
     (sym (c .before .mark-ahead .ensures) ∙ c .if3 .taken)
 
--- ---- each turn leaves fewer intervals
-
-scan-less-2 : tie.Need-scan-less-2 Inv-loop μ-loop Inv-scan μ-scan
-scan-less-2 c = omega (arith, c .before .before .before .pass-run .ensures .low)
-
 pub scan-spec : {M : Type 1} → statement M
 scan-spec =
     tie.close (tie.spec Inv-loop μ-loop Inv-scan μ-scan scan-holds (λ c. omega arith) loop-holds (λ c. omega arith)
-    (λ c. omega arith) (λ c. omega arith) meets-two-requires (λ c κs. search needs) (λ c κs. search needs)
-    (λ c. omega arith) loop-again (λ c. omega arith) (λ c. omega arith) scan-again pass-run-requires
-    mark-ahead-requires scan-less-2 scan-again-2 returns returns-2)
+    (λ c. omega arith) (λ c. omega arith) (λ c κs. c .before .before .loop .inv .3) (λ c κs. search needs)
+    (λ c κs. search needs) (λ c. omega arith) loop-again (λ c. omega arith) (λ c. omega arith) scan-again
+    (λ c κs. (c .before .before .loop .inv .3, omega arith)) (λ c κs. c .before .pass-run .ensures .high)
+    (λ c. omega (arith, c .before .before .before .pass-run .ensures .low)) scan-again-2 returns returns-2)

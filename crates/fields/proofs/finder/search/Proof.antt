@@ -1,14 +1,12 @@
 -- Why `fields::finder::search` answers `searchRule`: the scan has the intervals from `start` on, and a place of theirs
 -- is within them, so that the sum is a place of the list. Rests on no axiom.
-use Prim.Native.Nat.{ℕ, _+_, _-_, _<_, _≤_}
+use Prim.Native.Nat.{ℕ, _-_, _<_, _≤_}
 use mathlib.Core.Path.{_≡_, sym, ap, ap₂, _∙_}
 use mathlib.Core.List.{List}
 use native.Mathlib.Omega.{arith}
 use borrow.Author.Needs.{needs}
 use lib.ListN.{length, drop, length-drop}
 use Rattle.refusal.specs.Answer.{Answer, accepted, refused, countedAnswer}
-use Rattle.refusal.specs.Table.{numberOf, placeOf}
-use Rattle.refusal.specs.declared.Refusal.{Refusal}
 use Rattle.refusal.proofs.AnswerLaws.{number-is-not-zero}
 use Rattle.timing.specs.Class.{classesFrom, classesOf}
 use Rattle.timing.specs.declared.Profile.{Profile}
@@ -36,17 +34,6 @@ module _ (p : Profile) (ds : List ℕ) (start : ℕ) where
   past-end-is-adrift h =
       let none = count in
       rw (sym (search-ends-adrift classes 0 (omega arith)))
-
-  refusal-stays
-      : (r : Refusal)
-      → refused (numberOf r) (placeOf r) ≡ lockFrom classes 0
-      → refused (numberOf r) (placeOf r) ≡ searchRule p ds start
-  unfolding searchRule
-  refusal-stays r e = rw (sym e, number-is-not-zero r)
-
-  place-is-counted : (k : ℕ) → accepted k ≡ lockFrom classes 0 → accepted (start + k) ≡ searchRule p ds start
-  unfolding searchRule
-  place-is-counted k e = rw (sym e)
 
   place-is-within : (k : ℕ) → accepted k ≡ lockFrom classes 0 → k < length ds - start
   place-is-within k e =
@@ -92,12 +79,16 @@ add-t16 c =
     omega (arith, begin .good)
 
 returns-2 : tie.Need-returns-2
+unfolding searchRule
 returns-2 c =
-    refusal-stays _ _ _ (c .before .refusal .given .0 .0)
-    (sym (ap countedAnswer (c .before .refusal .given .1)) ∙ scanned (c .before .before .before))
+    rw (
+      sym (scanned (c .before .before .before)) ∙ ap countedAnswer (c .before .refusal .given .1),
+      number-is-not-zero (c .before .refusal .given .0 .0),
+    )
 
 returns-3 : tie.Need-returns-3
-returns-3 c = place-is-counted _ _ _ _ (found (c .before))
+unfolding searchRule
+returns-3 c = rw (sym (found (c .before)))
 
 pub search-spec : {M : Type 1} → statement M
 search-spec =

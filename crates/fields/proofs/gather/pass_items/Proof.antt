@@ -4,7 +4,7 @@ use Prim.Native.Nat.{ℕ, _+_, _-_, _^_, _≤_, _<_}
 use mathlib.Core.Path.{_≡_, refl, sym, ap, _∙_}
 use mathlib.Core.List.{List, _++_, map, map-append}
 use native.Mathlib.Omega.{arith}
-use lib.ListN.{length, take, length-map}
+use lib.ListN.{length, take, drop, length-map}
 use lib.Seq.{length-take-le, length-front}
 use Rattle.lists.specs.Filled.{storedAt}
 use Rattle.lists.proofs.StoreLaws.{stored-none, stored-next, stored-length, front-of-stored}
@@ -13,7 +13,7 @@ use Rattle.items.specs.declared.Check.{Check}
 use Rattle.items.proofs.CheckLaws.{after-bytes-of-append}
 use Rattle.half_cells.specs.machine.Candidate.{candidate}
 use Rattle.symbols.specs.machine.Step.{freshReading}
-use Rattle.intervals.specs.machine.Pass.{Passed}
+use Rattle.intervals.specs.machine.Pass.{Passed, after}
 use Rattle.intervals.specs.machine.Blocks.{atFirst, restFrom, wordsOf, Reaches}
 use Rattle.intervals.specs.declared.block.Progress.{Progress}
 use Rattle.intervals.proofs.BlockLaws.{Fair, fair-at-first, all-at-first, rest-wants, rest-stops}
@@ -28,50 +28,69 @@ itemsLeft n ds at = map candidate (restFrom n ds at .words)
 
 -- ---- one part
 
-module _
-    (n : ℕ) (ds : List ℕ) (at next : Progress) (reaches : Reaches 256 n ds at next) (small : n < 2 ^ 32)
-    (fair : Fair ds at)
-  where
-    abbrev words : List ℕ
-    words = wordsOf 256 n ds at
+-- the buffer's front holds its words
+record Part (n : ℕ) (ds : List ℕ) (at next : Progress) (buffer : List ℕ) : Type 0 where
+  reaches : Reaches 256 n ds at next
+  small : n < 2 ^ 32
+  fair : Fair ds at
+  more : next .pass .reading .words ≡ at .pass .reading .words + length (wordsOf 256 n ds at)
+  few : length (wordsOf 256 n ds at) ≤ 65
+  long : length buffer ≡ 65
+  front : take (next .pass .reading .words - at .pass .reading .words) buffer ≡ wordsOf 256 n ds at
 
-    abbrev count : ℕ
-    count = next .pass .reading .words - at .pass .reading .words
+read-part
+    : {n : ℕ} {ds : List ℕ} {at next : Progress} (old new : List ℕ)
+    → Reaches 256 n ds at next
+    → n < 2 ^ 32
+    → Fair ds at
+    → length old ≡ 65
+    → new ≡ storedAt old 0 (wordsOf 256 n ds at)
+    → Part n ds at next new
+read-part {n} {ds} {at} {next} old new reaches small fair long stored =
+    let more = words-more n ds at 256 next reaches small fair in
+    let few = words-fit n ds at 256 next reaches small fair in
+    let count = next .pass .reading .words - at .pass .reading .words in
+    record {
+      reaches = reaches;
+      small = small;
+      fair = fair;
+      more = more;
+      few = omega arith;
+      long = ap length stored ∙ stored-length _ _ _ ∙ long;
+      front = rw stored (front-of-stored (wordsOf 256 n ds at) old count (omega arith) (omega arith));
+    }
 
-    more : next .pass .reading .words ≡ at .pass .reading .words + length words
-    more = words-more n ds at 256 next reaches small fair
+module _ {n : ℕ} {ds : List ℕ} {at next : Progress} {buffer : List ℕ} (part : Part n ds at next buffer) where
+  abbrev words : List ℕ
+  words = wordsOf 256 n ds at
 
-    words-count : length words ≡ count
-    words-count = omega (arith, more)
+  abbrev count : ℕ
+  count = next .pass .reading .words - at .pass .reading .words
 
-    words-few : count ≤ 65
-    words-few = omega (arith, words-count, words-fit n ds at 256 next reaches small fair)
+  still-long : (new : List ℕ) → length new ≡ length (take count buffer) → length (new ++ drop count buffer) ≡ 65
+  still-long new e = length-front buffer new count e ∙ part .long
 
-    -- what the buffer of words holds at its front
-    front-is : (old new : List ℕ) → length old ≡ 65 → new ≡ storedAt old 0 words → take count new ≡ words
-    front-is old new long e =
-        ap (take count) e ∙ front-of-stored words old count words-count (omega (arith, words-few))
+  goes-on : restFrom n ds at ≡ after words (restFrom n ds next)
+  goes-on = rest-goes-on n ds at 256 next (part .reaches) (part .small) (part .fair)
 
-    items-left : itemsLeft n ds at ≡ map candidate words ++ itemsLeft n ds next
-    items-left =
-        ap (λ (q : Passed). map candidate (q .words)) (rest-goes-on n ds at 256 next reaches small fair)
-        ∙ map-append candidate words (restFrom n ds next .words)
+  items-left : itemsLeft n ds at ≡ map candidate words ++ itemsLeft n ds next
+  items-left = rw goes-on (map-append candidate words (restFrom n ds next .words))
 
-    sum-goes-on
-        : (check new : Check)
-        → new ≡ afterBytes check (map candidate words)
-        → afterBytes new (itemsLeft n ds next) ≡ afterBytes check (itemsLeft n ds at)
-    sum-goes-on check new e =
-        rw (e, items-left) (sym (after-bytes-of-append check (map candidate words) (itemsLeft n ds next)))
+  sum-goes-on
+      : (check new : Check)
+      → new ≡ afterBytes check (map candidate words)
+      → afterBytes new (itemsLeft n ds next) ≡ afterBytes check (itemsLeft n ds at)
+  sum-goes-on check new e =
+      rw (e, items-left) (sym (after-bytes-of-append check (map candidate words) (itemsLeft n ds next)))
 
-    store-goes-on
-        : (out new : List ℕ)
-        → new ≡ storedAt out (at .pass .reading .words) (map candidate words)
-        → storedAt new (next .pass .reading .words) (itemsLeft n ds next)
-        ≡ storedAt out (at .pass .reading .words) (itemsLeft n ds at)
-    store-goes-on out new e =
-        rw items-left (stored-next (map candidate words) (itemsLeft n ds next) out new _ _ e
-        (omega (arith, more, length-map words candidate)))
+  store-goes-on
+      : (out new : List ℕ)
+      → new ≡ storedAt out (at .pass .reading .words) (map candidate words)
+      → storedAt new (next .pass .reading .words) (itemsLeft n ds next)
+      ≡ storedAt out (at .pass .reading .words) (itemsLeft n ds at)
+  store-goes-on out new e =
+      rw items-left (stored-next (map candidate words) (itemsLeft n ds next) out new _ _ e
+      (omega (arith, part .more, length-map words candidate)))
 
 abbrev Inv-loop : tie.InvT-loop
 Inv-loop intervals n out₀ words₀ at₀ check₀ out words at check =
@@ -107,75 +126,38 @@ wants c =
 part
     : (c : tie.After-pass-on Inv-loop μ-loop)
     → let turn = c .before .before .before .before in
-    let start = turn .before .before .before .before .before in
-    let count = c .pass-on .result .pass .reading .words - turn .loop .at .pass .reading .words in
-    let words = c .pass-on .last .1 .1 .1 .1 .0 in
-    (take count words ≡ wordsOf 256 (start .args .n) (start .args .intervals .now) (turn .loop .at))
-    × (length words ≡ 65)
-    × (count ≤ 65)
+    let args = turn .before .before .before .before .before .args in
+    Part (args .n) (args .intervals .now) (turn .loop .at) (c .pass-on .result) (c .pass-on .last .1 .1 .1 .1 .0)
 part c =
     let turn = c .before .before .before .before in
-    let start = turn .before .before .before .before .before in
     let (reaches, stored) = c .pass-on .ensures in
     let (fair, same, long, end, sum, out) = turn .loop .inv in
-    let small = start .fits .n .fits in (
-      front-is _ _ _ _ reaches small fair _ _ long stored,
-      ap length stored ∙ stored-length _ _ _ ∙ long,
-      words-few _ _ _ _ reaches small fair,
-    )
-
-pass-on-requires : tie.Need-pass-on-requires Inv-loop μ-loop
-pass-on-requires c κs =
-    let fair = c .before .before .before .loop .inv .0 in
-    (fair .within, fair .room)
-
-sub-count : tie.Need-sub-count Inv-loop μ-loop
-sub-count c =
-    let turn = c .before .before .before .before .before .before in
-    let start = turn .before .before .before .before .before in
-    omega (arith, more _ _ _ _ (c .before .before .pass-on .ensures .0) (start .fits .n .fits) (turn .loop .inv .0))
-
-array-borrow-prefix-words : tie.Need-array-borrow-prefix-words Inv-loop μ-loop
-array-borrow-prefix-words c =
-    let (front, long, few) = part (c .before .before) in omega arith
-
-slice-aggregate-sum-up : tie.Need-slice-aggregate-sum-up Inv-loop μ-loop
-slice-aggregate-sum-up c =
-    let (front, long, few) = part (c .before .before .before) in sym (length-take-le _ _ (omega arith))
+    read-part _ _ reaches (turn .before .before .before .before .before .fits .n .fits) fair long stored
 
 cast-sum-up : tie.Need-cast-sum-up Inv-loop μ-loop
 cast-sum-up c =
-    let turn = c .before .before .before .before .before .before .before in
     let wanted = wants (c .before .before .before .before .before) .1 in
-    record { fits = omega (arith, turn .before .before .before .before .before .fits .n .fits) }
+    record { fits = omega (arith, part (c .before .before .before) .small) }
 
 loop-less : tie.Need-loop-less Inv-loop μ-loop
 loop-less c =
-    let tested = c .before .before .before .before .before .before .before .before .before .before in
-    let turn = tested .before .before in
-    let (left, wanted) = wants tested in
-    comes-nearer _ _ _ 256 _ (c .before .before .before .before .before .before .before .before .pass-on .ensures .0)
-    (turn .before .before .before .before .before .fits .n .fits) (turn .loop .inv .0) (omega arith) wanted left
+    let read = c .before .before .before .before .before .before .before .before in
+    let (left, wanted) = wants (read .before .before) in
+    let p = part read in
+    comes-nearer _ _ _ 256 _ (p .reaches) (p .small) (p .fair) (omega arith) wanted left
 
 loop-again : tie.Need-loop-again Inv-loop μ-loop
 loop-again c =
     let summed = c .before .before .before in
-    let read = c .before .before .before .before .before .before .before .before in
-    let (front, new-long, few) = part read in
-    let reaches = read .pass-on .ensures .0 in
-    let turn = read .before .before .before .before in
-    let start = turn .before .before .before .before .before in
-    let small = start .fits .n .fits in
-    let (fair, same, long, end, sum, stored) = turn .loop .inv in
-    let goes-on = rest-goes-on (start .args .n) (start .args .intervals .now) (turn .loop .at) 256 _ reaches small fair in (
-      fair-after _ _ _ 256 _ reaches small fair,
+    let read = summed .before .before .before .before .before in
+    let p = part read in
+    let (fair, same, long, end, sum, stored) = read .before .before .before .before .loop .inv in (
+      fair-after _ _ _ 256 _ (p .reaches) (p .small) fair,
       ap length (summed .sum-up .ensures .1) ∙ stored-length _ _ _ ∙ same,
-      length-front (read .pass-on .last .1 .1 .1 .1 .0) (summed .sum-up .last .1 .0) (count _ _ _ _ reaches small fair)
-          (summed .sum-up .kept .1 .0)
-          ∙ new-long,
-      ap (λ (q : Passed). q .end) (sym goes-on) ∙ end,
-      sum-goes-on _ _ _ _ reaches small fair _ _ (rw front at (summed .sum-up .ensures .0)) ∙ sum,
-      store-goes-on _ _ _ _ reaches small fair _ _ (rw front at (summed .sum-up .ensures .1)) ∙ stored,
+      still-long p (summed .sum-up .last .1 .0) (summed .sum-up .kept .1 .0),
+      ap (λ (q : Passed). q .end) (sym (goes-on p)) ∙ end,
+      sum-goes-on p _ _ (rw (p .front) at (summed .sum-up .ensures .0)) ∙ sum,
+      store-goes-on p _ _ (rw (p .front) at (summed .sum-up .ensures .1)) ∙ stored,
     )
 
 returns : tie.Need-returns Inv-loop μ-loop
@@ -198,6 +180,9 @@ pub pass-items-spec : {M : Type 1} → statement M
 pass-items-spec =
     tie.close
     (tie.spec Inv-loop μ-loop (λ c κs. search needs) (λ c κs. search needs) loop-holds (λ c κs. search needs)
-    (λ c. sym (c .before .before .before .loop .inv .2)) pass-on-requires sub-count (λ c. search needs)
-    array-borrow-prefix-words slice-aggregate-sum-up cast-sum-up (λ c κs. search needs) loop-less loop-again
-    (λ c. search needs) returns)
+    (λ c. sym (c .before .before .before .loop .inv .2))
+    (λ c κs. let fair = c .before .before .before .loop .inv .0 in (fair .within, fair .room))
+    (λ c. omega (arith, part (c .before .before) .more)) (λ c. search needs)
+    (λ c. let p = part (c .before .before) in omega (arith, p .more, p .few, p .long))
+    (λ c. let p = part (c .before .before .before) in sym (length-take-le _ _ (omega (arith, p .more, p .few, p .long))))
+    cast-sum-up (λ c κs. search needs) loop-less loop-again (λ c. search needs) returns)

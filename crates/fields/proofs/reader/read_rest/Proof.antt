@@ -4,11 +4,11 @@ use Prim.Native.Nat.{ℕ, _+_, _-_, _*_, _≤_}
 use mathlib.Core.Path.{_≡_, refl, sym, ap, _∙_}
 use mathlib.Core.List.{List}
 use native.Mathlib.Omega.{arith}
-use lib.ListN.{length, take, drop, length-drop}
-use lib.Seq.{take-all}
+use lib.ListN.{length, take, drop}
 use Rattle.timing.specs.declared.Profile.{Profile}
 use Rattle.fields.specs.FieldRule.{FieldAnswer, fieldAnswer, fieldReading, fieldRest, restPlace}
 use Rattle.fields.specs.declared.reader.FieldRead.{FieldRead}
+use Rattle.fields.proofs.LockLaws.{part-to-end}
 use Rattle.fields.proofs.ReaderLaws.{used-is-within}
 use borrow.Author.Needs.{needs}
 use Rattle.fields.proofs.reader.read_rest.Statement.{statement}
@@ -26,17 +26,14 @@ module _ (p : Profile) (ds : List ℕ) (n room used : ℕ) (e : used ≡ fieldRe
   rest-is = ap (λ (k : ℕ). drop k ds) e
 
   part-is : take (length ds - used) (drop used ds) ≡ fieldRest p ds n room
-  part-is = take-all (length ds - used) (drop used ds) (rw (length-drop used ds) (omega arith)) ∙ rest-is
+  part-is = part-to-end ds used ∙ rest-is
 
-  -- where it stands: a list that starts at a place of a block, after the used intervals and, with none used, whole
-  abbrev StandsAt : ℕ → ℕ → ℕ → Type 0
-  StandsAt block at place = _≡_ {A = ℕ × ℕ} (block, place) (restPlace p ds n room (block, at))
-
-  rest-stands : (block at : ℕ) → StandsAt block at (used * 2 + at)
-  rest-stands block at = ap (λ (o : ℕ). (block, o)) (omega (arith, e))
-
-  whole-stands : (block at : ℕ) → used ≡ 0 → StandsAt block at at
-  whole-stands block at none = ap (λ (o : ℕ). (block, o)) (omega (arith, e))
+  -- where it stands: a list that starts at a place of a block, after the used intervals
+  rest-stands
+      : (block at place : ℕ)
+      → place ≡ used * 2 + at
+      → _≡_ {A = ℕ × ℕ} (block, place) (restPlace p ds n room (block, at))
+  rest-stands block at place is = ap (λ (o : ℕ). (block, o)) (omega (arith, e))
 
 -- what the reading used, where it was accepted
 used-is
@@ -60,27 +57,21 @@ mul-result c =
     let start = c .before .before .before .before .before .before .before .before .before in
     omega (arith, used-in-list c, start .good)
 
-sub-result : tie.Need-sub-result
-sub-result c = used-in-list c
-
-part-result-start : tie.Need-part-result-start
-part-result-start c = used-in-list c
-
 returns : tie.Need-returns
 returns c =
     let read = c .before .before .before .before in
     let none =
     sym (ap used-of (c .enum-told .given .1)) ∙ ap (λ (a : FieldAnswer). a .used) (read .read-field .ensures .0) in
-    (whole-stands _ _ _ _ 0 none _ _ refl, (rest-is _ _ _ _ 0 none, read .read-field .ensures .1))
+    (rest-stands _ _ _ _ 0 none _ _ _ (omega arith), (rest-is _ _ _ _ 0 none, read .read-field .ensures .1))
 
 returns-2 : tie.Need-returns-2
 returns-2 c =
     let read = c .before .before .before .before .before .before in
     let used = used-is (c .before) in
-    (rest-stands _ _ _ _ _ used _ _, (part-is _ _ _ _ _ used, read .read-field .ensures .1))
+    (rest-stands _ _ _ _ _ used _ _ _ refl, (part-is _ _ _ _ _ used, read .read-field .ensures .1))
 
 pub read-rest-spec : {M : Type 1} → statement M
 read-rest-spec =
     tie.close
-    (tie.spec (λ c κs. search needs) (λ c. search needs) (λ c. search needs) mul-result sub-result part-result-start
-    (λ c. search needs) (λ c. search needs) returns (λ c. search needs) returns-2)
+    (tie.spec (λ c κs. search needs) (λ c. search needs) (λ c. search needs) mul-result (λ c. used-in-list c)
+    (λ c. used-in-list c) (λ c. search needs) (λ c. search needs) returns (λ c. search needs) returns-2)

@@ -1,16 +1,12 @@
 -- Why `content::find_data` answers `sought`: by what the finder answers, and by what the lock that it found reads as.
 -- Rests on no axiom.
-use Prim.Native.Nat.{_<_}
 use mathlib.Core.Path.{_≡_, sym, ap, _∙_}
 use native.Mathlib.Omega.{arith}
-use lib.ListN.{length, drop}
-use Rattle.refusal.specs.Answer.{accepted}
-use Rattle.fields.specs.Lock.{findRule}
+use lib.ListN.{drop}
 use Rattle.fields.proofs.LockLaws.{part-to-end}
 use Rattle.track.specs.machine.Steps.{dataRead}
-use Rattle.track.proofs.SearchLaws.{search-refuses, search-counts}
-use Rattle.track.proofs.StepLaws.{no-lock-no-data, found-is-within, other-lock-no-data, data-ends-within}
-use Rattle.track.proofs.StepLaws.{data-is-sought}
+use Rattle.track.proofs.SearchLaws.{Lock, search-means}
+use Rattle.track.proofs.StepLaws.{no-lock-no-data, other-lock-no-data, data-ends-within, data-is-sought}
 use borrow.Author.Needs.{needs}
 use Rattle.track.proofs.content.find_data.Statement.{statement}
 use Rattle.track.proofs.content.find_data.Tie as tie
@@ -19,15 +15,10 @@ use Rattle.track.proofs.content.find_data.Tie as tie
 found
     : (c : tie.After-known-told)
     → let args = c .before .before .before .before .before .args in
-    accepted (c .before .k .given .0 .0) ≡ findRule (args .p) (args .intervals .now) (args .start)
+    Lock (args .p) (args .intervals .now) (args .start) (c .before .k .given .0 .0)
 found c =
     let searched = c .before .before .before in
-    search-counts _ _ _ (searched .before .before .pre) _ (searched .search .ensures) _ (c .before .k .given .1)
-
-within
-    : (c : tie.After-known-told)
-    → c .before .k .given .0 .0 < length (c .before .before .before .before .before .args .intervals .now)
-within c = found-is-within _ _ _ (c .before .before .before .before .before .args .code) _ (found c)
+    search-means _ _ _ (searched .before .before .pre) _ (searched .search .ensures) _ (c .before .k .given .1)
 
 -- what it reads as
 read
@@ -41,15 +32,12 @@ read c =
     c .read-data .ensures
     ∙ ap (λ ds. dataRead (args .p) ds (args .code)) (part-to-end (args .intervals .now) (at-k .k .given .0 .0))
 
-mul-read-data : tie.Need-mul-read-data
-mul-read-data c = omega (arith, within c, c .before .before .before .before .before .good)
-
 add-t20 : tie.Need-add-t20
 add-t20 c =
     let at-read = c .before .before .before in
     let begin = at-read .before .before .before .before .before .before .before in
     let ends =
-    data-ends-within _ _ _ (begin .args .code) _ (found (at-read .before .before)) _ _
+    data-ends-within _ _ _ (begin .args .code) (found (at-read .before .before)) _ _
     (sym (c .before .used .given .1) ∙ read at-read) in
     omega (arith, begin .good)
 
@@ -57,20 +45,21 @@ returns : tie.Need-returns
 returns c =
     let searched = c .before .before in
     no-lock-no-data _ _ _ _
-    (search-refuses _ _ _ (searched .before .before .pre) _ (searched .search .ensures) _ (c .enum-told .given .1))
+    (search-means _ _ _ (searched .before .before .pre) _ (searched .search .ensures) _ (c .enum-told .given .1))
 
 returns-2 : tie.Need-returns-2
 returns-2 c =
     let at-read = c .before .before in
-    other-lock-no-data _ _ _ _ _ (found (at-read .before .before)) (sym (c .enum-told2 .given .1) ∙ read at-read)
+    other-lock-no-data _ _ _ _ (found (at-read .before .before)) (sym (c .enum-told2 .given .1) ∙ read at-read)
 
 returns-3 : tie.Need-returns-3
 returns-3 c =
     let at-read = c .before .before .before in
-    data-is-sought _ _ _ _ _ (found (at-read .before .before)) _ _ (sym (c .before .used .given .1) ∙ read at-read)
+    data-is-sought _ _ _ _ (found (at-read .before .before)) _ _ (sym (c .before .used .given .1) ∙ read at-read)
 
 pub find-data-spec : {M : Type 1} → statement M
 find-data-spec =
-    tie.close (tie.spec (λ c κs. search needs) (λ c. search needs) (λ c. search needs) mul-read-data
-    (λ c. omega (arith, within c)) (λ c. omega (arith, within c)) (λ c. search needs) (λ c κs. search needs)
-    (λ c. search needs) (λ c. search needs) add-t20 returns returns-2 returns-3)
+    tie.close (tie.spec (λ c κs. search needs) (λ c. search needs) (λ c. search needs)
+    (λ c. omega (arith, found c .within, c .before .before .before .before .before .good))
+    (λ c. omega (arith, found c .within)) (λ c. omega (arith, found c .within)) (λ c. search needs)
+    (λ c κs. search needs) (λ c. search needs) (λ c. search needs) add-t20 returns returns-2 returns-3)

@@ -8,8 +8,8 @@ use Rattle.fields.proofs.ReaderLaws.{range-of-count, checked-reads}
 use Rattle.track.specs.FieldKinds.{itemsOf, opensWith}
 use Rattle.track.specs.machine.Steps.{opens}
 use Rattle.track.proofs.FieldLaws.{FieldReads, refused-field, accepted-field}
-use Rattle.track.proofs.OpeningLaws.{items-in-place, unopened, unread-opens-nothing}
-use Rattle.track.proofs.OpeningLaws.{opens-by-kind, opens-by-front, opened, no-items}
+use Rattle.track.proofs.OpeningLaws.{items-in-place, opens-nothing, unread-opens-nothing}
+use Rattle.track.proofs.OpeningLaws.{opens-by-kind, opens-by-front, opened}
 use borrow.Author.Needs.{needs}
 use Rattle.track.proofs.opening.read_marked.Statement.{statement}
 use Rattle.track.proofs.opening.read_marked.Tie as tie
@@ -27,60 +27,52 @@ read c =
     c .read-in-place .ensures .0
     ∙ checked-reads (begin .args .p) (begin .args .intervals .now) n n (begin .pre .0) within
 
--- where the field reads
-field
-    : (c : tie.After-opens-with)
-    → let args = c .before .before .before .before .before .before .before .before .before .before .before .args in
-    let values = c .before .before .before .used .given .0 in
-    FieldReads (args .p) (args .intervals .now) (args .n) (values .1 .0) (values .1 .1 .0)
-field c =
-    accepted-field _ _ _ _ _ _ (sym (ap fieldAnswer (c .before .before .before .used .given .1))
-    ∙ read (c .before .before .before .before .before .before .before))
-
--- with these first items
-items
+-- where the field reads, its first items and of which kind it is
+opening
     : (c : tie.After-opens-with)
     → let at-read = c .before .before .before .before .before .before .before in
     let args = at-read .before .before .before .before .args in
-    at-read .read-in-place .last .1 .1 .1 .0
-    ≡ take (length (args .items .now)) (itemsOf (args .p) (args .intervals .now) (args .n))
-items c =
+    let values = c .before .before .before .used .given .0 in
+    FieldReads (args .p) (args .intervals .now) (args .n) (values .1 .0) (values .1 .1 .0)
+    × (at-read .read-in-place .last .1 .1 .1 .0
+    ≡ take (length (args .items .now)) (itemsOf (args .p) (args .intervals .now) (args .n)))
+    × (opens (args .p) (args .intervals .now) (args .n) (args .kind) ≡ c .opens-with .result)
+opening c =
     let at-read = c .before .before .before .before .before .before .before in
     let begin = at-read .before .before .before .before in
-    items-in-place (begin .args .p) (begin .args .intervals .now) (begin .args .n) (begin .args .items .now) _
-    (begin .pre .1 .1) (at-read .read-in-place .ensures .1) (field c .does)
-
--- of which kind it is
-kind
-    : (c : tie.After-opens-with)
-    → let args = c .before .before .before .before .before .before .before .before .before .before .before .args in
-    opens (args .p) (args .intervals .now) (args .n) (args .kind) ≡ c .opens-with .result
-kind c =
-    let at-read = c .before .before .before .before .before .before .before in
-    let begin = at-read .before .before .before .before in
-    opens-by-kind _ _ _ _ _ _ (field c)
-    ∙ sym (c .opens-with .ensures
-    ∙ ap (opensWith (begin .args .kind)) (items c)
-    ∙ opens-by-front (begin .args .kind) (length (begin .args .items .now)) _ (begin .pre .1 .0))
+    let args = begin .args in
+    let (least, room, most) = begin .pre .1 in
+    let answer = sym (ap fieldAnswer (c .before .before .before .used .given .1)) ∙ read at-read in
+    let field = accepted-field _ _ _ _ _ _ answer in
+    let items =
+    items-in-place (args .p) (args .intervals .now) (args .n) (args .items .now) _ room
+    (at-read .read-in-place .ensures .1) (field .does) in (
+      field,
+      items,
+      opens-by-kind _ _ _ (args .kind) field
+          ∙ sym (c .opens-with .ensures
+          ∙ ap (opensWith (args .kind)) items
+          ∙ opens-by-front (args .kind) (length (args .items .now)) _ least),
+    )
 
 returns : tie.Need-returns
-returns c = (opened _ _ _ _ _ _ (field (c .before)) (kind (c .before) ∙ c .if1 .taken), λ _. items (c .before))
+returns c =
+    let (field, items, kind) = opening (c .before) in
+    (opened _ _ _ _ field (kind ∙ c .if1 .taken), λ _. items)
 
 returns-2 : tie.Need-returns-2
 returns-2 c =
     let at-read = c .before .before .before .before in
     let args = at-read .before .before .before .before .args in
-    let none =
-    unread-opens-nothing (args .p) (args .intervals .now) (args .n) (args .kind)
-    (refused-field _ _ _ (c .enum-told .given .0 .0) (sym (ap fieldAnswer (c .enum-told .given .1)) ∙ read at-read)) in
-    (unopened _ _ _ _ none, no-items _ _ _ _ (args .items .now) _ none)
+    opens-nothing _ _ _ _ (args .items .now) _
+    (unread-opens-nothing (args .p) (args .intervals .now) (args .n) (args .kind)
+    (refused-field _ _ _ (c .enum-told .given .0 .0) (sym (ap fieldAnswer (c .enum-told .given .1)) ∙ read at-read)))
 
 returns-3 : tie.Need-returns-3
 returns-3 c =
-    let args =
-    c .before .before .before .before .before .before .before .before .before .before .before .before .args in
-    let none = kind (c .before) ∙ c .if1 .left in
-    (unopened _ _ _ _ none, no-items _ _ _ _ (args .items .now) _ none)
+    let at-read = c .before .before .before .before .before .before .before .before in
+    opens-nothing _ _ _ _ (at-read .before .before .before .before .args .items .now) _
+    (opening (c .before) .2 ∙ c .if1 .left)
 
 pub read-marked-spec : {M : Type 1} → statement M
 read-marked-spec =

@@ -101,16 +101,15 @@ module _
       mark-is-missed none ends =
           let long = count in
           let here = no-lock-without-mark cs next (ap markAhead (searched .run .stands) ∙ none) in
-          let after : (i : ℕ) → next < i → i < next + 64 → lockAt cs i ≡ false =
-          λ i low high.
-          ⊎-elim (λ last. no-lock-past-end cs i (omega arith)) (λ more.
-          broken-run-has-no-lock cs i (omega arith) next low (omega arith)
-          (broken-here (searched .run) (omega arith) (ends (omega arith))))
-          (eq-zero-or-pos (length ds - suc next)) in
           record {
             run = record { twos = λ j low high. absurd (omega arith); stands = searched .run .stands };
             same =
                 same-here
                 ∙ search-goes-on cs next (next + 64) (omega arith) (λ i low high.
-                ⊎-elim (λ e. ap (lockAt cs) (sym e) ∙ here) (λ past. after i past high) (eq-or-lt-of-le low));
+                ⊎-elim (λ e. ap (lockAt cs) (sym e) ∙ here) (λ past.
+                ⊎-elim (λ last. no-lock-past-end cs i (omega arith)) (λ more.
+                broken-run-has-no-lock cs i (omega arith) next past (omega arith)
+                (broken-here (searched .run) (omega arith) (ends (omega arith))))
+                (eq-zero-or-pos (length ds - suc next)))
+                (eq-or-lt-of-le low));
           }

@@ -1,19 +1,19 @@
 -- The end of the pass over a field: an interval among the used ones that is no cell is the paper's stop; else the field's
 -- cells are those that were read, and the machine tells whether they are enough and whether a gap of theirs is out of
 -- place. Rests on no axiom.
-use Prim.Native.Nat.{ℕ, _-_, _≤_, _<_}
+use Prim.Native.Nat.{ℕ, _+_, _-_, _≤_, _<_}
 use mathlib.Core.Path.{_≡_, refl, sym, ap, _∙_}
 use mathlib.Core.Bool.{Bool, true, false}
 use mathlib.Core.List.{List, [], map}
-use native.Mathlib.Decide.{decLt}
+use mathlib.Core.Logic.{inl, inr}
 use native.Mathlib.Omega.{arith}
-use borrow.Author.Tests.{lt-ltb, le-ltb, eqb-false}
+use borrow.Author.Tests.{ltb-false, eqb-false}
+use lib.Dec.{ltb}
 use lib.ListN.{length, take, length-map}
 use Rattle.refusal.specs.Table.{numberOf, placeOf}
 use Rattle.refusal.specs.Answer.{Answer, accepted, refused, refuseIf, firstRefusal}
 use Rattle.refusal.specs.declared.Refusal.{Refusal}
-use Rattle.refusal.proofs.AnswerLaws.{refusal-decides, first-refusal-passes, first-refusal-accepts}
-use Rattle.refusal.proofs.AnswerLaws.{refuse-if-accepts, number-is-not-zero}
+use Rattle.refusal.proofs.AnswerLaws.{refusal-decides, first-refusal-passes, number-is-not-zero}
 use Rattle.timing.specs.Profile.{profileRule}
 use Rattle.timing.specs.Class.{atStart, classesOf}
 use Rattle.timing.specs.machine.Edges.{unitsFrom}
@@ -25,43 +25,58 @@ use Rattle.timing.proofs.UnitsLaws.{units-count}
 use Rattle.symbols.specs.Bits.{O}
 use Rattle.symbols.specs.Bytes.{itemsRead}
 use Rattle.symbols.specs.Reading.{units, readFrom, readBits}
-use Rattle.symbols.specs.Strip.{isStray}
 use Rattle.half_cells.specs.machine.Candidate.{candidate}
 use Rattle.symbols.specs.machine.Step.{freshReading, strayNow, placeNow}
 use Rattle.symbols.specs.declared.Cell.{Cell}
 use Rattle.symbols.specs.declared.Reading.{Reading}
-use Rattle.symbols.proofs.UnitLaws.{cells-at-most-bits}
-use Rattle.symbols.proofs.ReadsLaws.{reads-fresh}
-use Rattle.symbols.proofs.AnswerLaws.{reads-stray, reads-place, reads-too-few}
-use Rattle.symbols.proofs.RunLaws.{items-ran}
+use Rattle.symbols.proofs.UnitLaws.{cells-at-most-bits, length-by-units}
+use Rattle.symbols.proofs.ReadsLaws.{Reads, reads-fresh}
+use Rattle.symbols.proofs.AnswerLaws.{reads-stray, reads-place}
+use Rattle.symbols.proofs.RunLaws.{machine-runs, items-ran}
 use Rattle.intervals.specs.Cells.{edgeRule}
 use Rattle.intervals.specs.machine.Pass.{Passed, passed}
 use Rattle.intervals.specs.declared.Pass.{Pass}
 use Rattle.intervals.proofs.CellLaws.{classOfCell, cellOfUnits}
 use Rattle.intervals.proofs.NearLaws.{nearCells, units-of-near-cells, classes-are-near}
-use Rattle.fields.specs.Field.{bitsWanted, fieldStop, fieldCells, fieldUsed, fieldItems, fieldStray, fieldStrayPlace}
-use Rattle.fields.specs.FieldRule.{gatherRule, GathersItems, TellsSum}
-use Rattle.fields.specs.machine.End.{endRule}
+use Rattle.fields.specs.Field.{bitsWanted, fieldStop, fieldCells, fieldUsed, fieldItems}
+use Rattle.fields.specs.FieldRule.{gatherRule}
+use Rattle.fields.specs.machine.End.{fieldPassed, itemsPassed, endRule}
+use Rattle.fields.proofs.TakenLaws.{SameFront}
+use Rattle.fields.proofs.EnoughLaws.{classesOfCells, used-of-cells}
+use Rattle.fields.proofs.FieldLaws.{field-bits-few, field-used-at-most, field-items-of-cells}
+use Rattle.fields.proofs.FieldLaws.{field-stray-of-cells, field-place-of-cells}
+use Rattle.fields.proofs.RuleLaws.{gather-stops-nowhere, gather-meets-no-stray}
 use Rattle.fields.proofs.AgreeLaws.{same-items, same-gather}
-use Rattle.fields.proofs.FieldLaws.{field-bits-enough, field-items-of-cells, field-stray-of-cells}
-use Rattle.fields.proofs.FieldLaws.{field-place-of-cells}
-use Rattle.fields.proofs.FieldPassLaws.{classesOfCells, OverField, pass-over-field}
-use Rattle.fields.proofs.ReaderLaws.{taken-at-most}
+use Rattle.fields.proofs.FieldPassLaws.{Ran, still-wanted, pass-over-field}
 use Rattle.fields.proofs.NearFieldLaws.{NearField, near-field}
 
 -- ---- a field of cells
 
+-- the cell after which the field's bits are known leaves one bit more at most
+held-at-end
+    : (m : Reading) (xs : List Cell) (n : ℕ)
+    → Reads m xs
+    → 0 < n
+    → n ≤ m .words
+    → length (readBits xs) ≤ bitsWanted n + 1
+    → m .held ≤ 4
+unfolding freshReading
+held-at-end m xs n (inl e) some h bits = absurd (omega (arith, ap (λ (r : Reading). r .words) (e .0)))
+held-at-end m xs n (inr so-far) some h bits = omega (arith, so-far .0 .held, length-by-units xs)
+
 same-end
-    : (t : Bool) (place place′ used used′ : ℕ)
+    : (t : Bool) (place place′ used : ℕ)
     → (t ≡ true → place ≡ place′)
-    → used ≡ used′
-    → refuseIf t 8 place (accepted used) ≡ refuseIf t 8 place′ (accepted used′)
-same-end true place place′ used used′ e u = ap (refused 8) (e refl)
-same-end false place place′ used used′ e u = ap accepted u
+    → refuseIf t 8 place (accepted used) ≡ refuseIf t 8 place′ (accepted used)
+same-end true place place′ used e = ap (refused 8) (e refl)
+same-end false place place′ used e = refl
 
 module _ (xs : List Cell) (n : ℕ) (some : 0 < n) (few : n ≤ 1030) where
   abbrev cs : List Class
   cs = classesOfCells xs
+
+  abbrev cells : List Cell
+  cells = fieldCells cs n
 
   abbrev pass : Passed
   pass = passed n (map units xs)
@@ -69,152 +84,127 @@ module _ (xs : List Cell) (n : ℕ) (some : 0 < n) (few : n ≤ 1030) where
   abbrev m : Reading
   m = pass .end .reading
 
-  over : OverField cs n [] freshReading pass
-  over = pass-over-field xs n some few
+  over : Ran 0 freshReading cells pass
+  over = pass-over-field n some few xs
 
-  fair : n ≤ m .words → fieldStop cs n .number ≡ 0
-  fair h = ap (λ (a : Answer). a .number) (over .enough h .0)
+  all-used : pass .end .used ≡ length cells
+  all-used = omega (arith, over .used)
 
-  cells-are-few : length (fieldCells cs n) ≤ 10000
+  cells-are-few : length cells ≤ 10000
   unfolding readBits
-  cells-are-few =
-      let cells = cells-at-most-bits O (fieldCells cs n) in
-      elim (decLt (m .words) n) [
-        | yes h ↦ let bits = reads-too-few m (fieldCells cs n) (over .reads) n h in omega arith
-        | no h ↦ let one-over = field-bits-enough cs n (fair (omega arith)) .one-over in omega arith
-      ]
+  cells-are-few = omega (arith, cells-at-most-bits O cells, field-bits-few cs n)
 
-  stray-of-cells : n ≤ m .words → strayNow m ≡ isStray (readBits (fieldCells cs n))
-  stray-of-cells h = reads-stray m (fieldCells cs n) (over .reads) (over .enough h .1)
+  reads : Reads m cells
+  reads = rw (over .reading) (machine-runs freshReading [] cells reads-fresh (omega (arith, cells-are-few)) .reads)
 
-  place-of-cells : n ≤ m .words → strayNow m ≡ true → placeNow m (pass .end .used - 1) ≡ fieldStrayPlace cs n
-  place-of-cells h stray =
-      ap (λ (k : ℕ). placeNow m (k - 1)) (over .all-used)
-      ∙ reads-place m (fieldCells cs n) (over .reads) (over .enough h .1) (sym (stray-of-cells h) ∙ stray)
-      ∙ sym (field-place-of-cells cs n (fair h))
+  stop-of-cells : fieldStop cs n ≡ refuseIf (ltb (m .words) n) 11 0 (accepted 0)
+  unfolding fieldStop fieldCells readBits
+  stop-of-cells = rw (still-wanted n some reads _ _ refl refl) (used-of-cells xs 0 (bitsWanted n) O .stop)
 
-  pub end-of-cells : endRule m (pass .end .used) n ≡ gatherRule cs n
-  unfolding endRule gatherRule fieldUsed
-  end-of-cells =
-      elim (decLt (m .words) n) [
-        | yes h ↦ rw (lt-ltb (m .words) n h, over .short h)
-        | no h ↦
-            let enough : n ≤ m .words = omega arith in
-            rw (
-              le-ltb (m .words) n enough,
-              over .enough enough .0,
-              field-stray-of-cells cs n (fair enough) ∙ sym (stray-of-cells enough),
-            )
-            (same-end (strayNow m) _ _ _ _ (place-of-cells enough) (over .all-used))
-      ]
+  end-by
+      : (short : Bool)
+      → ltb (m .words) n ≡ short
+      → fieldStop cs n ≡ refuseIf short 11 0 (accepted 0)
+      → refuseIf short 11 0 (refuseIf (strayNow m) 8 (placeNow m (length cells - 1)) (accepted (length cells)))
+      ≡ gatherRule cs n
+  unfolding gatherRule fieldUsed
+  end-by true e stop = rw stop
+  end-by false e stop =
+      let whole = ap (λ (a : Answer). a .number) stop in
+      let held = held-at-end m cells n reads some (ltb-false _ _ e) (field-bits-few cs n) in
+      let stray = reads-stray m cells reads held in
+      rw (stop, field-stray-of-cells cs n whole, field-place-of-cells cs n whole, ← stray)
+      (same-end (strayNow m) _ _ _ (λ is. reads-place m cells reads held (sym stray ∙ is)))
 
-  pub items-of-cells : gatherRule cs n .number ≡ 0 → map candidate (pass .words) ≡ fieldItems cs n
-  unfolding gatherRule itemsRead readBits readFrom
+  end-of-cells : endRule m (pass .end .used) n ≡ gatherRule cs n
+  unfolding endRule
+  end-of-cells = rw all-used (end-by _ refl stop-of-cells)
+
+  items-of-cells : gatherRule cs n .number ≡ 0 → map candidate (pass .words) ≡ fieldItems cs n
+  unfolding itemsRead readBits readFrom
   items-of-cells accepts =
-      let parts = first-refusal-accepts (fieldStop cs n) _ accepts in
-      let stop = parts .0 in
-      let none = refuse-if-accepts (fieldStray cs n) 7 (fieldStrayPlace cs n) _ (parts .1) .0 in
-      let in-place = sym (field-stray-of-cells cs n stop) ∙ none in
-      let small = cells-are-few in
-      let same = ap length (over .cells) in
-      ap (map candidate) (over .gathers)
-      ∙ sym (items-ran freshReading [] (over .more) reads-fresh (omega arith)
-      (ap (λ (l : List Cell). isStray (readBits l)) (sym (over .cells)) ∙ in-place))
-      ∙ ap (λ (l : List Cell). itemsRead (readBits l)) (sym (over .cells))
-      ∙ sym (field-items-of-cells cs n stop)
-
-  pub used-of-cells : (pass .end .used ≡ length (fieldCells cs n)) × (pass .end .used ≤ 10000)
-  used-of-cells = let small = cells-are-few in (over .all-used, omega (arith, over .all-used))
-
-used-at-most : (xs : List Cell) (n : ℕ) → length (fieldCells (classesOfCells xs) n) ≤ length (classesOfCells xs)
-unfolding fieldCells
-used-at-most xs n = taken-at-most (classesOfCells xs) (bitsWanted n) O
-
--- what is said of an acceptance is said of no refusal
-pub refuses
-    : (cs : List Class) (n : ℕ) (r : Refusal) (old new : List ℕ) (holds : Bool)
-    → refused (numberOf r) (placeOf r) ≡ gatherRule cs n
-    → (refused (numberOf r) (placeOf r) ≡ gatherRule cs n) × (TellsSum cs n holds × GathersItems cs n old new)
-refuses cs n r old new holds e = (e, (λ zero. absurd (eqb-false (numberOf r) 0 (number-is-not-zero r) (is-zero zero)), λ zero. absurd (eqb-false (numberOf r) 0 (number-is-not-zero r) (is-zero zero))))
-  where
-    is-zero : gatherRule cs n .number ≡ 0 → numberOf r ≡ 0
-    is-zero zero = ap (λ (a : Answer). a .number) e ∙ zero
+      let whole = gather-stops-nowhere cs n accepts in
+      let in-place = sym (field-stray-of-cells cs n whole) ∙ gather-meets-no-stray cs n accepts in
+      ap (map candidate) (over .words)
+      ∙ sym (field-items-of-cells cs n whole
+      ∙ items-ran freshReading [] cells reads-fresh (omega (arith, cells-are-few)) in-place)
 
 -- ---- a field of intervals, each taken as a cell
 
-module _
-    (p : Profile) (ds : List ℕ) (n : ℕ) (accepts : profileRule p .number ≡ 0) (some : 0 < n) (few : n ≤ 1030)
-    (r : Pass) (read : r ≡ passed n (unitsFrom (atStart p) ds) .end)
-  where
-    abbrev xs : List Cell
-    xs = nearCells (atStart p) ds
+-- a refusal is no acceptance
+pub refusal-is-not-zero
+    : (r : Refusal) (a : Answer) → refused (numberOf r) (placeOf r) ≡ a → a .number ≡ 0 → ⊥
+refusal-is-not-zero r a e zero =
+    eqb-false (numberOf r) 0 (number-is-not-zero r) (ap (λ (a : Answer). a .number) e ∙ zero)
 
-    same-pass : passed n (unitsFrom (atStart p) ds) ≡ passed n (map units xs)
-    same-pass = ap (passed n) (sym (units-of-near-cells (atStart p) ds))
+module _ (p : Profile) (ds : List ℕ) (n : ℕ) (r : Pass) where
+  abbrev pub rule : Answer
+  rule = gatherRule (classesOf p ds) n
 
-    same-end-of-pass : r ≡ passed n (map units xs) .end
-    same-end-of-pass = read ∙ ap (λ (q : Passed). q .end) same-pass
+  -- 5 and 6 in the used intervals
+  abbrev pub edges : Answer
+  edges = edgeRule (take (r .used) (classesOf p ds))
 
-    near : NearField (classesOf p ds) xs 0 (bitsWanted n) O
-    near =
-        near-field (rw (classes-from-start p ds) (classes-are-near (atStart p) ds (accepted-ascends p accepts))) 0
-        (bitsWanted n) O
+  pub record FieldEnds : Type 0 where
+    pub small : r .used ≤ 10000
+    pub within : r .used ≤ length ds
+    pub refuses : (q : Refusal) → refused (numberOf q) (placeOf q) ≡ edges → refused (numberOf q) (placeOf q) ≡ rule
+    pub answers : edges .number ≡ 0 → endRule (r .reading) (r .used) n ≡ rule
+    pub items
+        : edges .number ≡ 0
+        → rule .number ≡ 0
+        → itemsPassed p ds n ≡ fieldItems (classesOf p ds) n
 
-    pub used-is-small : r .used ≤ 10000
-    used-is-small = rw same-end-of-pass (used-of-cells xs n some few .1)
+  module _
+      (accepts : profileRule p .number ≡ 0) (range : (1 ≤ n) × (n ≤ 1030))
+      (read : r ≡ fieldPassed p ds n .end)
+    where
+      abbrev xs : List Cell
+      xs = nearCells (atStart p) ds
 
-    pub used-is-within : r .used ≤ length ds
-    used-is-within =
-        let cells = nearCells (atStart p) ds in
-        rw same-end-of-pass
-        (let used = used-of-cells xs n some few .0 in
-        omega (
-          arith,
-          used-at-most xs n,
-          length-map cells classOfCell,
-          length-map (unitsFrom (atStart p) ds) cellOfUnits,
-          units-count (atStart p) ds,
-        ))
+      same-pass : fieldPassed p ds n ≡ passed n (map units xs)
+      same-pass = ap (passed n) (sym (units-of-near-cells (atStart p) ds))
 
-    -- the used intervals' classes
-    abbrev edges : Answer
-    edges = edgeRule (take (r .used) (classesOf p ds))
+      same-end-of-pass : r ≡ passed n (map units xs) .end
+      same-end-of-pass = read ∙ ap (λ (q : Passed). q .end) same-pass
 
-    edges-taken : edges ≡ edgeRule (take (length (fieldCells (classesOfCells xs) n)) (classesOf p ds))
-    edges-taken =
-        ap (λ (k : ℕ). edgeRule (take k (classesOf p ds)))
-        (ap (λ (q : Pass). q .used) same-end-of-pass ∙ used-of-cells xs n some few .0)
+      used-is : r .used ≡ length (fieldCells (classesOfCells xs) n)
+      used-is = rw same-end-of-pass (all-used xs n (range .0) (range .1))
 
-    stop-is : fieldStop (classesOf p ds) n ≡ firstRefusal edges (fieldStop (classesOfCells xs) n)
-    unfolding fieldStop fieldCells edgeRule
-    stop-is = rw edges-taken (near .stop)
+      near : NearField (classesOf p ds) xs 0 (bitsWanted n) O
+      near =
+          near-field (rw (classes-from-start p ds) (classes-are-near (atStart p) ds (accepted-ascends p accepts))) 0
+          (bitsWanted n) O
 
-    pub edges-refuse
-        : (q : Refusal)
-        → refused (numberOf q) (placeOf q) ≡ edges
-        → refused (numberOf q) (placeOf q) ≡ gatherRule (classesOf p ds) n
-    unfolding gatherRule
-    edges-refuse q e =
-        refusal-decides q (fieldStop (classesOf p ds) n) _
-        (refusal-decides q edges (fieldStop (classesOfCells xs) n) e ∙ sym stop-is)
+      stop-is : fieldStop (classesOf p ds) n ≡ firstRefusal edges (fieldStop (classesOfCells xs) n)
+      unfolding fieldStop fieldCells edgeRule
+      stop-is = rw used-is (near .stop)
 
-    module _ (fair-edges : edges .number ≡ 0) where
-      same-cells : fieldCells (classesOf p ds) n ≡ fieldCells (classesOfCells xs) n
-      unfolding fieldCells edgeRule
-      same-cells = near .cells (sym (ap (λ (a : Answer). a .number) edges-taken) ∙ fair-edges)
+      same-front : edges .number ≡ 0 → SameFront (classesOfCells xs) (classesOf p ds) 0 (bitsWanted n) O
+      unfolding fieldStop fieldCells edgeRule
+      same-front fair =
+          record { cells = near .cells (rw used-is at fair); stop = stop-is ∙ first-refusal-passes edges _ fair }
 
-      same-stop : fieldStop (classesOf p ds) n ≡ fieldStop (classesOfCells xs) n
-      same-stop = stop-is ∙ first-refusal-passes edges _ fair-edges
-
-      same-rule : gatherRule (classesOf p ds) n ≡ gatherRule (classesOfCells xs) n
-      same-rule = same-gather n (classesOfCells xs) (classesOf p ds) same-cells same-stop
-
-      pub end-answers : endRule (r .reading) (r .used) n ≡ gatherRule (classesOf p ds) n
-      end-answers = rw same-end-of-pass (end-of-cells xs n some few) ∙ sym same-rule
-
-      pub items-are
-          : gatherRule (classesOf p ds) n .number ≡ 0
-          → map candidate (passed n (unitsFrom (atStart p) ds) .words) ≡ fieldItems (classesOf p ds) n
-      items-are zero =
-          rw same-pass (items-of-cells xs n some few (sym (ap (λ (a : Answer). a .number) same-rule) ∙ zero))
-          ∙ sym (same-items n (classesOfCells xs) (classesOf p ds) same-cells same-stop)
+      pub field-ends : FieldEnds
+      unfolding gatherRule fieldUsed
+      field-ends =
+          let (some, few) = range in
+          record {
+            small = rw used-is (cells-are-few xs n some few);
+            within =
+                omega (
+                  arith,
+                  used-is,
+                  field-used-at-most (classesOfCells xs) n,
+                  length-map xs classOfCell,
+                  length-map (unitsFrom (atStart p) ds) cellOfUnits,
+                  units-count (atStart p) ds,
+                );
+            refuses = λ q e.
+                refusal-decides q (fieldStop (classesOf p ds) n) _ (refusal-decides q edges _ e ∙ sym stop-is);
+            answers = λ fair.
+                rw same-end-of-pass (end-of-cells xs n some few) ∙ sym (same-gather n (same-front fair));
+            items = λ fair zero.
+                rw same-pass (items-of-cells xs n some few (rw (same-gather n (same-front fair)) at zero))
+                ∙ sym (same-items n (same-front fair));
+          }
