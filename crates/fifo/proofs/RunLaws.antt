@@ -86,11 +86,8 @@ unfolding stateAfter itemsAccepted itemsTaken
 run-keeps-items s [] = append-nil (s .items)
 run-keeps-items s (o ∷ os) =
     let next = ruleOf o s .next in
-    sym (append-assoc (s .items) (acceptedBy o s) (itemsAccepted next os))
-    ∙ ap (λ (ns : List ℕ). ns ++ itemsAccepted next os) (operation-keeps o s .items)
-    ∙ append-assoc (takenBy o s) (next .items) (itemsAccepted next os)
-    ∙ ap (λ (ns : List ℕ). takenBy o s ++ ns) (run-keeps-items next os)
-    ∙ sym (append-assoc (takenBy o s) (itemsTaken next os) (stateAfter next os .items))
+    rw (← append-assoc (s .items) (acceptedBy o s), operation-keeps o s .items)
+    (simp (append-assoc, run-keeps-items next os))
 
 pub run-holds-at-most-two : (s : State) (os : List Operation) → length (s .items) ≤ 2 → length (stateAfter s os .items) ≤ 2
 unfolding stateAfter
@@ -101,12 +98,10 @@ run-holds-at-most-two s (o ∷ os) h = run-holds-at-most-two (ruleOf o s .next) 
 first-fault-of-one-more : (fs : List ℕ) (f : ℕ) → firstFault (fs ++ (f ∷ [])) ≡ firstBit (firstFault fs) f
 unfolding firstFault firstBit
 first-fault-of-one-more [] f = no-bit-keeps-register f
-first-fault-of-one-more (g ∷ fs) f = go (first-fault-of-one-more fs f) (eqb g 0) refl
-  where
-    go : firstFault (fs ++ (f ∷ [])) ≡ firstBit (firstFault fs) f → (t : Bool) → eqb g 0 ≡ t
-        → cond t (firstFault (fs ++ (f ∷ []))) g ≡ firstBit (cond t (firstFault fs) g) f
-    go ih true h = ih
-    go ih false h = rw h
+first-fault-of-one-more (g ∷ fs) f =
+    (elim (eqb g 0) as (λ t.
+    eqb g 0 ≡ t → cond t (firstFault (fs ++ (f ∷ []))) g ≡ firstBit (cond t (firstFault fs) g) f)
+    [ true ↦ λ h. first-fault-of-one-more fs f | false ↦ λ h. rw h ]) refl
 
 register-holds-first-fault : (read : Bool) (e : ℕ) (fs : List ℕ) (f : ℕ) → e ≡ firstFault fs
     → cond read 0 (firstBit e f) ≡ firstFault (cond read [] (fs ++ (f ∷ [])))

@@ -1,21 +1,16 @@
 -- Adding rows, and so reports, is commutative and associative: by which rows are empty, and then number by number.
 -- Rests on no axiom.
-use Prim.Native.Nat.{ℕ, min, max}
-use mathlib.Core.Path.{_≡_, refl, sym, ap, _∙_}
+use Prim.Native.Nat.{ℕ}
+use mathlib.Core.Path.{_≡_, refl, ap, _∙_}
 use mathlib.Core.List.{[], _∷_}
-use mathlib.Core.Bool.{false}
-use native.Mathlib.Nat.{add-comm, add-assoc, min-comm, max-comm}
+use mathlib.Core.Bool.{Bool, true, false, cond, _&&_}
 use native.Mathlib.Omega.{arith}
+use lib.Dec.{eqb}
+use borrow.Author.Tests.{eq-eqb, ne-eqb}
 use Rattle.report.specs.Row.{Row, countIn, noRow, addRow, isOverlarge}
 use Rattle.report.specs.Report.{Report, rowAt, addReports}
 use Rattle.report.proofs.RowLaws.{two-empty-rows, first-row-is-empty, second-row-is-empty, no-row-is-empty}
 use Rattle.report.proofs.RowLaws.{bothAdded, by-count, row-fits, fitting-row}
-
-min-assoc : (a b c : ℕ) → min (min a b) c ≡ min a (min b c)
-min-assoc a b c = omega arith
-
-max-assoc : (a b c : ℕ) → max (max a b) c ≡ max a (max b c)
-max-assoc a b c = omega arith
 
 same-row
     : {a b c d e f g h : ℕ}
@@ -26,62 +21,48 @@ same-row
     → _≡_ {A = Row} (a ∷ b ∷ c ∷ d ∷ []) (e ∷ f ∷ g ∷ h ∷ [])
 same-row p q r s = cc
 
+-- two rows added, by whether the first and the second are empty
+abbrev sumBy : Bool → Bool → Row → Row → Row
+sumBy s t a b = cond s (cond t noRow b) (cond t a (bothAdded a b))
+
+sum-comm : (s t : Bool) (a b : Row) → sumBy s t a b ≡ sumBy t s b a
+sum-comm true true a b = refl
+sum-comm true false a b = refl
+sum-comm false true a b = refl
+sum-comm false false a b = same-row (omega arith) (omega arith) (omega arith) (omega arith)
+
+sum-assoc : (s t u : Bool) (a b c : Row) → sumBy (s && t) u (sumBy s t a b) c ≡ sumBy s (t && u) a (sumBy t u b c)
+sum-assoc true true true a b c = refl
+sum-assoc true true false a b c = refl
+sum-assoc true false true a b c = refl
+sum-assoc true false false a b c = refl
+sum-assoc false true true a b c = refl
+sum-assoc false true false a b c = refl
+sum-assoc false false true a b c = refl
+sum-assoc false false false a b c = same-row (omega arith) (omega arith) (omega arith) (omega arith)
+
 module _ (a b : Row) where
   pub add-row-comm : addRow a b ≡ addRow b a
-  add-row-comm =
-      by-count a (λ e.
-      by-count b (λ f. two-empty-rows a b e f ∙ sym (two-empty-rows b a f e))
-      (λ f. first-row-is-empty a b e f ∙ sym (second-row-is-empty b a f e)))
-      (λ e.
-      by-count b (λ f. second-row-is-empty a b e f ∙ sym (first-row-is-empty b a f e)) (λ f.
-      no-row-is-empty a b e f
-      ∙ same-row (add-comm _ _) (min-comm _ _) (max-comm _ _) (add-comm _ _)
-      ∙ sym (no-row-is-empty b a f e)))
+  unfolding addRow
+  add-row-comm = sum-comm (eqb (countIn a) 0) (eqb (countIn b) 0) a b
 
   -- a sum is empty only where both rows are
   added-row-is-not-empty : (countIn a ≡ 0 → ⊥) → countIn (addRow a b) ≡ 0 → ⊥
   added-row-is-not-empty e =
       by-count b (λ f. rw (second-row-is-empty a b e f) e) (λ f. rw (no-row-is-empty a b e f) (λ h. e (omega arith)))
 
-module _ (a b c : Row) where
-  first-of-three-is-empty : countIn a ≡ 0 → addRow (addRow a b) c ≡ addRow a (addRow b c)
-  first-of-three-is-empty e =
-      by-count b (λ f.
-      by-count c (λ g.
-      rw (two-empty-rows a b e f)
-      (cc (two-empty-rows noRow c refl g, two-empty-rows a noRow e refl, two-empty-rows b c f g)))
-      (λ g.
-      rw (two-empty-rows a b e f) (first-row-is-empty noRow c refl g
-      ∙ sym (first-row-is-empty a c e g)
-      ∙ ap (addRow a) (sym (first-row-is-empty b c f g)))))
-      (λ f. cc (first-row-is-empty a b e f, first-row-is-empty a (addRow b c) e (added-row-is-not-empty b c f)))
+  added-row-is-empty : eqb (countIn (addRow a b)) 0 ≡ (eqb (countIn a) 0 && eqb (countIn b) 0)
+  added-row-is-empty =
+      by-count a (λ e.
+      by-count b (λ f. rw (two-empty-rows a b e f, eq-eqb (countIn a) 0 e, eq-eqb (countIn b) 0 f))
+      (λ f. rw (first-row-is-empty a b e f, eq-eqb (countIn a) 0 e)))
+      (λ e. rw (ne-eqb (countIn (addRow a b)) 0 (added-row-is-not-empty e), ne-eqb (countIn a) 0 e))
 
-  second-of-three-is-empty
-      : (countIn a ≡ 0 → ⊥) → countIn b ≡ 0 → addRow (addRow a b) c ≡ addRow a (addRow b c)
-  second-of-three-is-empty e f =
-      rw (second-row-is-empty a b e f)
-      (by-count c (λ g. cc (second-row-is-empty a c e g, second-row-is-empty a noRow e refl, two-empty-rows b c f g))
-      (λ g. cc (first-row-is-empty b c f g)))
-
-  none-of-three-is-empty
-      : (countIn a ≡ 0 → ⊥)
-      → (countIn b ≡ 0 → ⊥)
-      → (countIn c ≡ 0 → ⊥)
-      → addRow (addRow a b) c ≡ addRow a (addRow b c)
-  none-of-three-is-empty e f g =
-      no-row-is-empty (addRow a b) c (added-row-is-not-empty a b e) g
-      ∙ ap (λ (r : Row). bothAdded r c) (no-row-is-empty a b e f)
-      ∙ same-row (add-assoc _ _ _) (min-assoc _ _ _) (max-assoc _ _ _) (add-assoc _ _ _)
-      ∙ ap (bothAdded a) (sym (no-row-is-empty b c f g))
-      ∙ sym (no-row-is-empty a (addRow b c) e (added-row-is-not-empty b c f))
-
-  pub add-row-assoc : addRow (addRow a b) c ≡ addRow a (addRow b c)
-  add-row-assoc =
-      by-count a first-of-three-is-empty (λ e.
-      by-count b (second-of-three-is-empty e) (λ f.
-      by-count c (λ g.
-      second-row-is-empty (addRow a b) c (added-row-is-not-empty a b e) g
-      ∙ ap (addRow a) (sym (second-row-is-empty b c f g))) (none-of-three-is-empty e f)))
+pub add-row-assoc : (a b c : Row) → addRow (addRow a b) c ≡ addRow a (addRow b c)
+unfolding addRow
+add-row-assoc a b c =
+    rw (added-row-is-empty a b, added-row-is-empty b c)
+    (sum-assoc (eqb (countIn a) 0) (eqb (countIn b) 0) (eqb (countIn c) 0) a b c)
 
 -- ---- reports, row by row
 
@@ -98,15 +79,12 @@ same-report p q r s t = cc
 pub add-reports-comm : (a b : Report) → addReports a b ≡ addReports b a
 unfolding addReports
 add-reports-comm a b =
-    same-report (add-row-comm (rowAt a 0) (rowAt b 0)) (add-row-comm (rowAt a 1) (rowAt b 1))
-    (add-row-comm (rowAt a 2) (rowAt b 2)) (add-row-comm (rowAt a 3) (rowAt b 3)) (add-row-comm (rowAt a 4) (rowAt b 4))
+    same-report (add-row-comm _ _) (add-row-comm _ _) (add-row-comm _ _) (add-row-comm _ _) (add-row-comm _ _)
 
 pub add-reports-assoc : (a b c : Report) → addReports (addReports a b) c ≡ addReports a (addReports b c)
 unfolding addReports
 add-reports-assoc a b c =
-    same-report (add-row-assoc (rowAt a 0) (rowAt b 0) (rowAt c 0)) (add-row-assoc (rowAt a 1) (rowAt b 1) (rowAt c 1))
-    (add-row-assoc (rowAt a 2) (rowAt b 2) (rowAt c 2)) (add-row-assoc (rowAt a 3) (rowAt b 3) (rowAt c 3))
-    (add-row-assoc (rowAt a 4) (rowAt b 4) (rowAt c 4))
+    same-report (add-row-assoc _ _ _) (add-row-assoc _ _ _) (add-row-assoc _ _ _) (add-row-assoc _ _ _) (add-row-assoc _ _ _)
 
 -- ---- what fits
 

@@ -21,36 +21,25 @@ use Rattle.report.proofs.SpanLaws.{spanned}
 joined : (p : Profile) (ds es : List ℕ) → reportOf p (ds ++ es) ≡ addReports (reportOf p ds) (reportOf p es)
 joined p ds es = simp (report-from-start, report-from-append, cursor-stays)
 
-no-interval : (p : Profile) → reportOf p [] ≡ noReport
-no-interval p = report-from-start p [] ∙ report-of-none (atStart p)
-
 all-joined : (p : Profile) (lists : List (List ℕ)) → reportOf p (allJoined lists) ≡ allAdded p lists
 unfolding allJoined allAdded
-all-joined p [] = no-interval p
+all-joined p [] = report-from-start p [] ∙ report-of-none (atStart p)
 all-joined p (ds ∷ lists) = cc (joined p ds (allJoined lists), all-joined p lists)
 
 -- ---- no interval
 
-no-classes : (p : Profile) → classesOf p [] ≡ []
-no-classes p = classes-from-start p [] ∙ classes-none (atStart p)
-
 neutral-first : (p : Profile) (ds : List ℕ) → addReports (reportOf p []) (reportOf p ds) ≡ reportOf p ds
 unfolding reportOf
-neutral-first p ds = rw (no-classes p) (sym (report-by-append [] (classesOf p ds) [] ds refl))
+neutral-first p ds = rw (classes-from-start p [], classes-none) (sym (report-by-append [] (classesOf p ds) [] ds refl))
 
 -- ---- the operation
 
 module _ (a b c : Report) (first : addRule a b .number ≡ 0) (whole : addRule (added a b) c .number ≡ 0) where
-  whole-row
-      : (k : ℕ) → k < 5 → isOverlarge (addRow (addRow (rowAt a k) (rowAt b k)) (rowAt c k)) ≡ false
-  whole-row k h =
-      rw (row-of-sum a b k h) (row-of-sum-fits (addReports a b) c k h
-      (ap (λ (r : Report). addRule r c .number) (sym (added-if-accepted a b first)) ∙ whole))
-
   later : addRule b c .number ≡ 0
   later =
       sum-is-accepted b c
-      (λ k h. later-rows-fit (rowAt a k) (rowAt b k) (rowAt c k) (row-of-sum-fits a b k h first) (whole-row k h))
+      (λ k h. later-rows-fit (rowAt a k) (rowAt b k) (rowAt c k) (row-of-sum-fits a b k h first)
+      (rw (row-of-sum a b k h) (row-of-sum-fits (addReports a b) c k h (rw (added-if-accepted a b first) at whole))))
 
   whole-again : addRule a (added b c) .number ≡ 0
   unfolding addRule
@@ -62,11 +51,12 @@ module _ (a b c : Report) (first : addRule a b .number ≡ 0) (whole : addRule (
         later-accepted = later;
         whole-accepted = whole-again;
         same =
-            added-if-accepted (added a b) c whole
-            ∙ ap (λ (r : Report). addReports r c) (added-if-accepted a b first)
-            ∙ add-reports-assoc a b c
-            ∙ ap (addReports a) (sym (added-if-accepted b c later))
-            ∙ sym (added-if-accepted a (added b c) whole-again);
+            rw (
+              added-if-accepted (added a b) c whole,
+              added-if-accepted a (added b c) whole-again,
+              added-if-accepted a b first,
+              added-if-accepted b c later,
+            ) (add-reports-assoc a b c);
       }
 
 pub drive-reports : DriveReports

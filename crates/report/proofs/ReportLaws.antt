@@ -67,29 +67,7 @@ pub report-of-none : (cursor : Cursor) → reportFrom cursor [] ≡ noReport
 unfolding reportFrom reportBy ofClass
 report-of-none cursor = rw (classes-none cursor, row-of-none)
 
--- ---- what a class has of a list
-
-pub of-class-count : (c : Class) (cs : List Class) (ds : List ℕ) → length (ofClass c cs ds) ≤ length ds
-unfolding ofClass
-of-class-count c [] ds = zero-le
-of-class-count c (e ∷ cs) [] = zero-le
-of-class-count c (e ∷ cs) (d ∷ ds) =
-    by-test (eqb (classNumber c) (classNumber e)) (ofClass c cs ds) (of-class-count c cs ds)
-  where
-    by-test : (t : Bool) (xs : List ℕ) → length xs ≤ length ds → length (cond t (d ∷ xs) xs) ≤ suc (length ds)
-    by-test true xs h = omega arith
-    by-test false xs h = omega arith
-
-pub of-class-total : (c : Class) (cs : List Class) (ds : List ℕ) → total (ofClass c cs ds) ≤ total ds
-unfolding ofClass total
-of-class-total c [] ds = zero-le
-of-class-total c (e ∷ cs) [] = zero-le
-of-class-total c (e ∷ cs) (d ∷ ds) =
-    by-test (eqb (classNumber c) (classNumber e)) (ofClass c cs ds) (of-class-total c cs ds)
-  where
-    by-test : (t : Bool) (xs : List ℕ) → total xs ≤ total ds → total (cond t (d ∷ xs) xs) ≤ d + total ds
-    by-test true xs h = omega arith
-    by-test false xs h = omega arith
+-- ---- what a list has
 
 pub total-of-small
     : (b : ℕ) (ds : List ℕ) → ((i : ℕ) → getD ds i 0 ≤ b) → total ds ≤ b * length ds

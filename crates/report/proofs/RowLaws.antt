@@ -15,11 +15,9 @@ use Rattle.report.specs.Row.{noRow, addRow, largest, isOverlarge}
 
 -- a row is empty or not
 pub by-count : {P : Type 0} (row : Row) → (countIn row ≡ 0 → P) → ((countIn row ≡ 0 → ⊥) → P) → P
-by-count {P} row empty other = decided (eqb (countIn row) 0) refl
-  where
-    decided : (t : Bool) → eqb (countIn row) 0 ≡ t → P
-    decided true e = empty (eqb-true _ _ e)
-    decided false e = other (eqb-false _ _ e)
+by-count {P} row empty other =
+    (elim (eqb (countIn row) 0) as (λ t. eqb (countIn row) 0 ≡ t → P)
+    [ true ↦ λ e. empty (eqb-true _ _ e) | false ↦ λ e. other (eqb-false _ _ e) ]) refl
 
 -- ---- two rows added, by which of them are empty
 
@@ -98,13 +96,8 @@ fitting-row row fits =
     let both = or-eq-false-eq-eq-false-and-eq-false _ _ .0 fits in
     (ltb-false largest (countIn row) (both .0), ltb-false largest (sumIn row) (both .1))
 
-module _ (a b : Row) where
-  pub fits-if-first-is-empty
-      : countIn a ≡ 0 → countIn b ≤ largest → sumIn b ≤ largest → isOverlarge (addRow a b) ≡ false
-  fits-if-first-is-empty e count sum =
-      by-count b (λ f. cc (two-empty-rows a b e f, row-fits noRow (omega arith) (omega arith)))
-      (λ f. cc (first-row-is-empty a b e f, row-fits b count sum))
-
-  pub fits-if-second-is-empty
-      : (countIn a ≡ 0 → ⊥) → countIn b ≡ 0 → countIn a ≤ largest → sumIn a ≤ largest → isOverlarge (addRow a b) ≡ false
-  fits-if-second-is-empty e f count sum = cc (second-row-is-empty a b e f, row-fits a count sum)
+pub fits-if-first-is-empty
+    : (a b : Row) → countIn a ≡ 0 → countIn b ≤ largest → sumIn b ≤ largest → isOverlarge (addRow a b) ≡ false
+fits-if-first-is-empty a b e count sum =
+    by-count b (λ f. cc (two-empty-rows a b e f, row-fits noRow (omega arith) (omega arith)))
+    (λ f. cc (first-row-is-empty a b e f, row-fits b count sum))

@@ -1,10 +1,9 @@
 -- The least of a list is at most each element and one of them, and the greatest likewise: by induction, element by
 -- element. Rests on no axiom.
 use Prim.Native.Nat.{ℕ, zero, suc, _<_, _≤_, min, max}
-use mathlib.Core.Path.{_≡_, refl, sym}
+use mathlib.Core.Path.{_≡_, refl, sym, _∙_}
 use mathlib.Core.Bool.{Bool, true, false}
 use mathlib.Core.List.{List, [], _∷_}
-use native.Mathlib.Nat.{min-eq-left, min-eq-right, max-eq-left, max-eq-right}
 use native.Mathlib.Omega.{arith}
 use borrow.Author.Tests.{leb-true, leb-false}
 use lib.Dec.{leb}
@@ -44,43 +43,35 @@ none-above (d ∷ ds) (suc k) h = let rest = none-above ds k (omega arith) in om
 abbrev StandsIn : List ℕ → ℕ → Type 0
 StandsIn ds x = (k : ℕ) × (k < length ds) × (getD ds k 0 ≡ x)
 
--- the lesser and the greater of an element and one that stands behind it
+-- of an element and one that stands behind it, one: the lesser, and the greater
 module _ (d x : ℕ) (ds : List ℕ) (there : StandsIn ds x) where
-  one-on : StandsIn (d ∷ ds) x
-  one-on = (suc (there .0), omega (arith, there .1), there .2)
+  one-is-there : (y : ℕ) (t : Bool) → (t ≡ true → y ≡ d) → (t ≡ false → y ≡ x) → StandsIn (d ∷ ds) y
+  one-is-there y true here behind = (0, omega arith, sym (here refl))
+  one-is-there y false here behind = (suc (there .0), omega (arith, there .1), there .2 ∙ sym (behind refl))
 
-  lesser-is-there : (t : Bool) → leb d x ≡ t → StandsIn (d ∷ ds) (min d x)
-  lesser-is-there true q = (0, omega arith, sym (min-eq-left (leb-true d x q)))
-  lesser-is-there false q = let lower = leb-false d x q in rw (min-eq-right {n = x} {m = d} (omega arith)) one-on
+  lesser-is-there : StandsIn (d ∷ ds) (min d x)
+  lesser-is-there = one-is-there _ (leb d x) (λ q. omega (arith, leb-true d x q)) (λ q. omega (arith, leb-false d x q))
 
-  greater-is-there : (t : Bool) → leb x d ≡ t → StandsIn (d ∷ ds) (max d x)
-  greater-is-there true q = (0, omega arith, sym (max-eq-left (leb-true x d q)))
-  greater-is-there false q = let higher = leb-false x d q in rw (max-eq-right {n = d} {m = x} (omega arith)) one-on
+  greater-is-there : StandsIn (d ∷ ds) (max d x)
+  greater-is-there = one-is-there _ (leb x d) (λ q. omega (arith, leb-true x d q)) (λ q. omega (arith, leb-false x d q))
 
-low-is-there : (d : ℕ) (ds : List ℕ) → StandsIn (d ∷ ds) (least (d ∷ ds))
+low-is-there : (ds : List ℕ) → 0 < length ds → StandsIn ds (least ds)
 unfolding least
-low-is-there d [] = (0, omega arith, refl)
-low-is-there d (e ∷ ds) = lesser-is-there d _ (e ∷ ds) (low-is-there e ds) _ refl
+low-is-there [] h = absurd (omega arith)
+low-is-there (d ∷ []) h = (0, omega arith, refl)
+low-is-there (d ∷ e ∷ ds) h = lesser-is-there d _ (e ∷ ds) (low-is-there (e ∷ ds) (omega arith))
 
-high-is-there : (d : ℕ) (ds : List ℕ) → StandsIn (d ∷ ds) (greatest (d ∷ ds))
+high-is-there : (ds : List ℕ) → 0 < length ds → StandsIn ds (greatest ds)
 unfolding greatest
-high-is-there d [] = (0, omega arith, omega arith)
-high-is-there d (e ∷ ds) = greater-is-there d _ (e ∷ ds) (high-is-there e ds) _ refl
-
-there-in
-    : (x : List ℕ → ℕ)
-    → ((d : ℕ) (ds : List ℕ) → StandsIn (d ∷ ds) (x (d ∷ ds)))
-    → (ds : List ℕ)
-    → 0 < length ds
-    → StandsIn ds (x ds)
-there-in x there [] h = absurd (omega arith)
-there-in x there (d ∷ ds) h = there d ds
+high-is-there [] h = absurd (omega arith)
+high-is-there (d ∷ []) h = (0, omega arith, omega arith)
+high-is-there (d ∷ e ∷ ds) h = greater-is-there d _ (e ∷ ds) (high-is-there (e ∷ ds) (omega arith))
 
 pub spanned : (ds : List ℕ) → Spanned ds (least ds) (greatest ds)
 spanned ds =
     record {
       none-below = none-below ds;
       none-above = none-above ds;
-      low-is-there = there-in least low-is-there ds;
-      high-is-there = there-in greatest high-is-there ds;
+      low-is-there = low-is-there ds;
+      high-is-there = high-is-there ds;
     }

@@ -1,10 +1,13 @@
 -- Each interval is of one class: the counts of a report add up to the length of the list, and its sums to the list's
 -- sum. Rests on no axiom.
-use Prim.Native.Nat.{ℕ, _+_}
+use Prim.Native.Nat.{ℕ, _+_, _≤_, zero-le}
 use mathlib.Core.Path.{_≡_, refl}
+use mathlib.Core.Bool.{true, false, cond}
 use mathlib.Core.List.{List, [], _∷_, map}
 use native.Mathlib.Omega.{arith}
+use lib.Dec.{eqb}
 use lib.ListN.{length}
+use Rattle.timing.specs.Class.{classNumber}
 use Rattle.timing.specs.declared.Class.{Class}
 use Rattle.timing.specs.declared.Class.the-variants.{Narrow, Two, Three, Four, Wide}
 use Rattle.report.specs.Row.{countIn, sumIn, total, rowOf}
@@ -26,11 +29,27 @@ module _
     over-classes [] [] h = rw none (omega arith)
     over-classes [] (d ∷ ds) h = absurd (omega arith)
     over-classes (e ∷ cs) [] h = absurd (omega arith)
-    over-classes (Narrow ∷ cs) (d ∷ ds) h = let rest = over-classes cs ds (omega arith) in rw (more, more) (omega arith)
-    over-classes (Two ∷ cs) (d ∷ ds) h = let rest = over-classes cs ds (omega arith) in rw (more, more) (omega arith)
-    over-classes (Three ∷ cs) (d ∷ ds) h = let rest = over-classes cs ds (omega arith) in rw (more, more) (omega arith)
-    over-classes (Four ∷ cs) (d ∷ ds) h = let rest = over-classes cs ds (omega arith) in rw (more, more) (omega arith)
-    over-classes (Wide ∷ cs) (d ∷ ds) h = let rest = over-classes cs ds (omega arith) in rw (more, more) (omega arith)
+    over-classes (e ∷ cs) (d ∷ ds) h = rw (more d ds, ← over-classes cs ds (omega arith)) (by-class e)
+      where
+        by-class : (e : Class)
+            → overClasses (λ (c : Class). f (ofClass c (e ∷ cs) (d ∷ ds)))
+            ≡ step d + overClasses (λ (c : Class). f (ofClass c cs ds))
+        by-class Narrow = rw more (omega arith)
+        by-class Two = rw more (omega arith)
+        by-class Three = rw more (omega arith)
+        by-class Four = rw more (omega arith)
+        by-class Wide = rw more (omega arith)
+
+    -- one class has no more of it
+    pub of-class-at-most : (c : Class) (cs : List Class) (ds : List ℕ) → f (ofClass c cs ds) ≤ f ds
+    unfolding ofClass
+    of-class-at-most c [] ds = rw none zero-le
+    of-class-at-most c (e ∷ cs) [] = rw none zero-le
+    of-class-at-most c (e ∷ cs) (d ∷ ds) =
+        let rest = of-class-at-most c cs ds in
+        elim (eqb (classNumber c) (classNumber e)) as (λ t.
+        f (cond t (d ∷ ofClass c cs ds) (ofClass c cs ds)) ≤ f (d ∷ ds))
+        [ true ↦ rw (more, more) (omega arith) | false ↦ rw more (omega arith) ]
 
 module _ (cs : List Class) (ds : List ℕ) (h : length cs ≡ length ds) where
   pub counts-add-up : total (map countIn (reportBy cs ds)) ≡ length ds

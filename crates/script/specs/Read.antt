@@ -3,7 +3,7 @@
 use Prim.Native.Nat.{ℕ, _+_}
 use mathlib.Core.Path.{_≡_}
 use mathlib.Core.Bool.{Bool, true, false, _&&_}
-use mathlib.Core.List.{List, [], _∷_, map}
+use mathlib.Core.List.{List, map}
 use lib.Dec.{eqb}
 use lib.ListN.{length, take}
 use Rattle.lists.specs.Place.{everywhere}
@@ -13,7 +13,7 @@ use Rattle.refusal.specs.Table.{numberOf, placeOf}
 use Rattle.refusal.specs.declared.Counted.{Counted}
 use Rattle.timing.specs.declared.Profile.{Profile}
 use Rattle.text.specs.Ascii.{tab}
-use Rattle.text.specs.Pieces.{piecesOf}
+use Rattle.text.specs.Pieces.{piecesAfter}
 use Rattle.text.specs.Decimal.{isDecimal, valueOf}
 use Rattle.script.specs.Line.{isItemLine, lineItems, areBytes, raised}
 use Rattle.script.specs.Input.{garbledFrom, inputRule, profileIn, itemsOfLines, itemsIn}
@@ -23,9 +23,8 @@ use Rattle.script.specs.declared.Script.{Script}
 use Rattle.script.specs.declared.Script.the-variants.{Given, Refused}
 
 -- the fields of what stands from a tab on; none where the line ends
-unfoldable pub fieldsAfter : List ℕ → List (List ℕ)
-fieldsAfter [] = []
-fieldsAfter (b ∷ text) = piecesOf tab text
+abbrev pub fieldsAfter : List ℕ → List (List ℕ)
+fieldsAfter text = piecesAfter tab text
 
 -- decimals, as many as there are places for, stand in those places
 pub record NumbersRead (fields : List (List ℕ)) (places : ℕ) (r : Bool) (after : List ℕ) : Type 0 where

@@ -13,28 +13,6 @@ use Rattle.text.specs.Ascii.{tab, lineFeed}
 use Rattle.text.specs.Decimal.{decimal}
 use Rattle.text.specs.Line.{fieldsOf, lineOf}
 
-module _ (numbers : List ℕ) (i : ℕ) (h : i < length numbers) where
-  fields-next : fieldsOf (drop i numbers) ≡ (tab ∷ decimal (getD numbers i 0)) ++ fieldsOf (drop (suc i) numbers)
-  unfolding fieldsOf
-  fields-next = rw (drop-cons numbers i 0 h)
-
-  pub fields-length-next :
-      length (fieldsOf (drop i numbers))
-      ≡ 1 + length (decimal (getD numbers i 0)) + length (fieldsOf (drop (suc i) numbers))
-  fields-length-next = rw fields-next (length-append (tab ∷ decimal (getD numbers i 0)) _ ∙ omega arith)
-
-  -- a tab and a number are stored, and what is left of the fields after them
-  pub fields-stored-next : (out : List ℕ) (end : ℕ)
-      → storedAt
-      (storedAt (set out end tab) (end + 1) (decimal (getD numbers i 0)))
-      (end + 1 + length (decimal (getD numbers i 0))) (fieldsOf (drop (suc i) numbers))
-      ≡ storedAt out end (fieldsOf (drop i numbers))
-  unfolding storedAt
-  fields-stored-next out end =
-      stored-after-stored (decimal (getD numbers i 0)) (fieldsOf (drop (suc i) numbers)) (set out end tab) (end + 1) _
-      refl
-      ∙ rw (fields-next, add-one end)
-
 pub fields-length-of-none : length (fieldsOf []) ≡ 0
 unfolding fieldsOf
 fields-length-of-none = refl
@@ -43,6 +21,23 @@ pub fields-length-of-more : (n : ℕ) (numbers : List ℕ)
     → length (fieldsOf (n ∷ numbers)) ≡ 1 + length (decimal n) + length (fieldsOf numbers)
 unfolding fieldsOf
 fields-length-of-more n numbers = length-append (tab ∷ decimal n) (fieldsOf numbers) ∙ omega arith
+
+module _ (numbers : List ℕ) (i : ℕ) (h : i < length numbers) where
+  pub fields-length-next :
+      length (fieldsOf (drop i numbers))
+      ≡ 1 + length (decimal (getD numbers i 0)) + length (fieldsOf (drop (suc i) numbers))
+  fields-length-next = rw (drop-cons numbers i 0 h) (fields-length-of-more _ _)
+
+  -- a tab and a number are stored, and what is left of the fields after them
+  pub fields-stored-next : (out : List ℕ) (end : ℕ)
+      → storedAt
+      (storedAt (set out end tab) (end + 1) (decimal (getD numbers i 0)))
+      (end + 1 + length (decimal (getD numbers i 0))) (fieldsOf (drop (suc i) numbers))
+      ≡ storedAt out end (fieldsOf (drop i numbers))
+  unfolding storedAt fieldsOf
+  fields-stored-next out end =
+      rw (drop-cons numbers i 0 h, add-one end)
+      (stored-after-stored (decimal (getD numbers i 0)) _ (set out end tab) (suc end) _ refl)
 
 -- a line is its word, its fields and a line feed
 module _ (word numbers : List ℕ) where

@@ -2,14 +2,14 @@
 -- pieces of what stands after it. Rests on no axiom.
 use Prim.Native.Nat.{ℕ, suc, _≤_, _<_}
 use mathlib.Core.Path.{_≡_, refl, ap}
-use mathlib.Core.Bool.{Bool, true, false, cond}
+use mathlib.Core.Bool.{true, false, cond}
 use mathlib.Core.List.{List, [], _∷_}
 use native.Mathlib.Omega.{arith}
 use lib.Dec.{eqb}
-use lib.ListN.{length, take, drop, getD}
-use lib.Seq.{drop-cons}
+use lib.ListN.{length, take, drop, getD, length-take, drop-of-length-le}
+use lib.Seq.{drop-cons, take-all}
 use borrow.Author.Tests.{eq-eqb, ne-eqb}
-use Rattle.text.specs.Pieces.{piecesOf, before, upTo}
+use Rattle.text.specs.Pieces.{piecesOf, piecesAfter, before, upTo}
 
 -- a piece that starts at a separator is empty
 pub up-to-at-separator : (sep : ℕ) (s : List ℕ) (at : ℕ) → at < length s → getD s at 0 ≡ sep → upTo sep (drop at s) ≡ []
@@ -24,64 +24,40 @@ pub up-to-at-other : (sep : ℕ) (s : List ℕ) (at : ℕ)
 unfolding upTo
 up-to-at-other sep s at h e = rw (drop-cons s at 0 h, ne-eqb (getD s at 0) sep e)
 
-pub up-to-length : (sep : ℕ) (s : List ℕ) → length (upTo sep s) ≤ length s
-unfolding upTo
-up-to-length sep [] = omega arith
-up-to-length sep (b ∷ bs) = by-test (eqb b sep) (up-to-length sep bs)
-  where
-    by-test : (t : Bool) → length (upTo sep bs) ≤ length bs → length (cond t [] (b ∷ upTo sep bs)) ≤ suc (length bs)
-    by-test true h = omega arith
-    by-test false h = omega arith
-
 pub up-to-front : (sep : ℕ) (s : List ℕ) → take (length (upTo sep s)) s ≡ upTo sep s
 unfolding upTo
 up-to-front sep [] = refl
-up-to-front sep (b ∷ bs) = by-test (eqb b sep) (up-to-front sep bs)
-  where
-    by-test : (t : Bool)
-        → take (length (upTo sep bs)) bs ≡ upTo sep bs
-        → take (length (cond t [] (b ∷ upTo sep bs))) (b ∷ bs) ≡ cond t [] (b ∷ upTo sep bs)
-    by-test true e = refl
-    by-test false e = ap (λ (l : List ℕ). b ∷ l) e
+up-to-front sep (b ∷ bs) =
+    elim (eqb b sep) as (λ t.
+    let piece = cond t [] (b ∷ upTo sep bs) in
+    take (length piece) (b ∷ bs) ≡ piece)
+    [ true ↦ refl | false ↦ ap (λ (l : List ℕ). b ∷ l) (up-to-front sep bs) ]
 
--- where a separator follows the first piece
-pub pieces-first : (sep : ℕ) (s : List ℕ)
-    → length (upTo sep s) < length s
-    → piecesOf sep s ≡ upTo sep s ∷ piecesOf sep (drop (suc (length (upTo sep s))) s)
-unfolding upTo piecesOf
-pieces-first sep [] h = absurd (omega arith)
-pieces-first sep (b ∷ bs) h = by-test (eqb b sep) (pieces-first sep bs) h
-  where
-    by-test : (t : Bool)
-        → (length (upTo sep bs) < length bs → piecesOf sep bs
-        ≡ upTo sep bs ∷ piecesOf sep (drop (suc (length (upTo sep bs))) bs))
-        → length (cond t [] (b ∷ upTo sep bs)) < suc (length bs)
-        → cond t ([] ∷ piecesOf sep bs) (before b (piecesOf sep bs))
-        ≡ cond t [] (b ∷ upTo sep bs) ∷ piecesOf sep (drop (suc (length (cond t [] (b ∷ upTo sep bs)))) (b ∷ bs))
-    by-test true e h = refl
-    by-test false e h = ap (before b) (e (omega arith))
+pub pieces-of-text : (sep : ℕ) (s : List ℕ)
+    → piecesOf sep s ≡ upTo sep s ∷ piecesAfter sep (drop (length (upTo sep s)) s)
+unfolding upTo piecesOf piecesAfter
+pieces-of-text sep [] = refl
+pieces-of-text sep (b ∷ bs) =
+    elim (eqb b sep) as (λ t.
+    let piece = cond t [] (b ∷ upTo sep bs) in
+    cond t ([] ∷ piecesOf sep bs) (before b (piecesOf sep bs)) ≡ piece ∷ piecesAfter sep (drop (length piece) (b ∷ bs)))
+    [ true ↦ refl | false ↦ ap (before b) (pieces-of-text sep bs) ]
 
--- where none does
-pub pieces-last : (sep : ℕ) (s : List ℕ) → length (upTo sep s) ≡ length s → piecesOf sep s ≡ s ∷ []
-unfolding upTo piecesOf
-pieces-last sep [] h = refl
-pieces-last sep (b ∷ bs) h = by-test (eqb b sep) (pieces-last sep bs) h
-  where
-    by-test : (t : Bool)
-        → (length (upTo sep bs) ≡ length bs → piecesOf sep bs ≡ bs ∷ [])
-        → length (cond t [] (b ∷ upTo sep bs)) ≡ suc (length bs)
-        → cond t ([] ∷ piecesOf sep bs) (before b (piecesOf sep bs)) ≡ (b ∷ bs) ∷ []
-    by-test true e h = absurd (omega arith)
-    by-test false e h = ap (before b) (e (omega arith))
+-- where the first piece was found to end
+module _ (sep : ℕ) (s : List ℕ) (end : ℕ) (e : end ≡ length (upTo sep s)) where
+  pub piece-ends-in-text : end ≤ length s
+  piece-ends-in-text = omega (arith, ap length (up-to-front sep s), length-take (length (upTo sep s)) s)
 
--- there is always a first piece
-pub pieces-some : (sep : ℕ) (s : List ℕ) → (x : List ℕ) × (xs : List (List ℕ)) × (piecesOf sep s ≡ x ∷ xs)
-unfolding piecesOf
-pieces-some sep [] = ([], [], refl)
-pieces-some sep (b ∷ bs) = by-test (eqb b sep) (pieces-some sep bs)
-  where
-    by-test : (t : Bool)
-        → (x : List ℕ) × (xs : List (List ℕ)) × (piecesOf sep bs ≡ x ∷ xs)
-        → (x : List ℕ) × (xs : List (List ℕ)) × (cond t ([] ∷ piecesOf sep bs) (before b (piecesOf sep bs)) ≡ x ∷ xs)
-    by-test true some = ([], piecesOf sep bs, refl)
-    by-test false some = (b ∷ some .0, some .1, ap (before b) (some .2))
+  pub piece-is-a-part : take end s ≡ upTo sep s
+  piece-is-a-part = rw e (up-to-front sep s)
+
+  -- and a separator follows
+  pub pieces-next : end < length s → piecesOf sep s ≡ take end s ∷ piecesOf sep (drop (suc end) s)
+  unfolding piecesAfter
+  pieces-next h = rw (pieces-of-text sep s, ← e, piece-is-a-part, drop-cons s end 0 h)
+
+  -- or none does
+  pub pieces-last : end ≡ length s → piecesOf sep s ≡ s ∷ []
+  unfolding piecesAfter
+  pieces-last h =
+      rw (pieces-of-text sep s, ← e, drop-of-length-le s {i = end} (omega arith), ← piece-is-a-part, take-all end s (omega arith))

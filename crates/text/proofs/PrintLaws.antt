@@ -1,7 +1,7 @@
 -- The digits of a number: the last digit stands after those of the number without it. Rests on no axiom.
 use Prim.Native.Nat.{ℕ, zero, suc, _/_, _%_, _^_, _≤_, _<_}
-use mathlib.Core.Path.{_≡_, refl, _∙_, ap}
-use mathlib.Core.Bool.{Bool, true, false, cond}
+use mathlib.Core.Path.{_≡_, refl, _∙_}
+use mathlib.Core.Bool.{true, false}
 use mathlib.Core.List.{List, [], _∷_, _++_}
 use native.Mathlib.Nat.{pow-suc}
 use native.Mathlib.Omega.{arith}
@@ -16,17 +16,7 @@ unfolding digitsOf
 digits-within zero zero n p q = refl
 digits-within zero (suc k) n p q = rw (lt-ltb n 10 (omega arith))
 digits-within (suc m) zero n p q = rw (lt-ltb n 10 (omega arith))
-digits-within (suc m) (suc k) n p q =
-    by-test (ltb n 10)
-    (λ h. digits-within m k (n / 10) (omega (arith, ltb-false n 10 h)) (omega (arith, ltb-false n 10 h))) refl
-  where
-    by-test : (t : Bool)
-        → (ltb n 10 ≡ false → digitsOf m (n / 10) ≡ digitsOf k (n / 10))
-        → ltb n 10 ≡ t
-        → cond t (digit n ∷ []) (digitsOf m (n / 10) ++ (digit (n % 10) ∷ []))
-        ≡ cond t (digit n ∷ []) (digitsOf k (n / 10) ++ (digit (n % 10) ∷ []))
-    by-test true e h = refl
-    by-test false e h = ap (λ (l : List ℕ). l ++ (digit (n % 10) ∷ [])) (e h)
+digits-within (suc m) (suc k) n p q = rw (digits-within m k (n / 10) (omega arith) (omega arith))
 
 pub decimal-of-digit : (n : ℕ) → n < 10 → decimal n ≡ digit n ∷ []
 unfolding decimal digitsOf
@@ -37,8 +27,7 @@ pub decimal-of-more : (n : ℕ) → 10 ≤ n → decimal n ≡ decimal (n / 10) 
 unfolding decimal digitsOf
 decimal-of-more zero h = absurd (omega arith)
 decimal-of-more (suc n) h =
-    rw (le-ltb (suc n) 10 h) (ap (λ (l : List ℕ). l ++ (digit (suc n % 10) ∷ []))
-    (digits-within n (suc n / 10) (suc n / 10) (omega arith) (omega arith)))
+    rw (le-ltb (suc n) 10 h, digits-within n (suc n / 10) (suc n / 10) (omega arith) (omega arith))
 
 pub decimal-length-of-digit : (n : ℕ) → n < 10 → length (decimal n) ≡ 1
 decimal-length-of-digit n h = rw (decimal-of-digit n h)
@@ -50,13 +39,13 @@ decimal-length-of-more n h =
 -- a number below ten to the k has at most k digits, but for 0, which has one
 pub decimal-within : (k n : ℕ) → n < 10 ^ suc k → length (decimal n) ≤ suc k
 decimal-within zero n h = omega (arith, decimal-length-of-digit n h)
-decimal-within (suc k) n h = by-test (ltb n 10) (ltb-true n 10) (ltb-false n 10) (decimal-within k (n / 10))
-  where
-    by-test : (t : Bool)
-        → (t ≡ true → n < 10)
-        → (t ≡ false → 10 ≤ n)
-        → (n / 10 < 10 ^ suc k → length (decimal (n / 10)) ≤ suc k)
-        → length (decimal n) ≤ suc (suc k)
-    by-test true small large front = omega (arith, decimal-length-of-digit n (small refl))
-    by-test false small large front =
-        omega (arith, decimal-length-of-more n (large refl), front (omega (arith, h, pow-suc 10 (suc k))))
+decimal-within (suc k) n h =
+    (elim (ltb n 10) as (λ t. ltb n 10 ≡ t → length (decimal n) ≤ suc (suc k)) [
+      | true ↦ λ e. omega (arith, decimal-length-of-digit n (ltb-true n 10 e))
+      | false ↦ λ e.
+          omega (
+            arith,
+            decimal-length-of-more n (ltb-false n 10 e),
+            decimal-within k (n / 10) (omega (arith, pow-suc 10 (suc k))),
+          )
+    ]) refl

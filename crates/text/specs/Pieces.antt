@@ -19,3 +19,8 @@ piecesOf separator (b ∷ bs) =
 unfoldable pub upTo : ℕ → List ℕ → List ℕ
 upTo separator [] = []
 upTo separator (b ∷ bs) = cond (eqb b separator) [] (b ∷ upTo separator bs)
+
+-- the pieces of what stands from a separator on; none where the text ends
+unfoldable pub piecesAfter : ℕ → List ℕ → List (List ℕ)
+piecesAfter separator [] = []
+piecesAfter separator (b ∷ text) = piecesOf separator text

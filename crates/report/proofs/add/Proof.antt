@@ -7,9 +7,6 @@ use borrow.Author.Needs.{needs}
 use Rattle.report.proofs.add.Statement.{statement}
 use Rattle.report.proofs.add.Tie as tie
 
-add-rows-requires : tie.Need-add-rows-requires
-add-rows-requires c κs = verdict-accepts _ _ (c .before .before .check-sum .ensures) (c .enum-told2 .given .1)
-
 returns : tie.Need-returns
 unfolding added
 returns c = refused-gives-zeros _ _ _ (c .before .before .check-sum .ensures) _ (c .enum-told .given .1)
@@ -24,4 +21,5 @@ returns-2 c =
 pub add-spec : {M : Type 1} → statement M
 add-spec =
     tie.close
-    (tie.spec (λ c κs. search needs) (λ c. search needs) (λ c. search needs) add-rows-requires returns returns-2)
+    (tie.spec (λ c κs. search needs) (λ c. search needs) (λ c. search needs)
+    (λ c κs. verdict-accepts _ _ (c .before .before .check-sum .ensures) (c .enum-told2 .given .1)) returns returns-2)

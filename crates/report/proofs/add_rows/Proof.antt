@@ -17,17 +17,11 @@ Inv-loop a b rows₀ k₀ rows k = (k ≤ 5) × (rows ≡ take k (addReports a b
 abbrev μ-loop : tie.MeasureT-loop
 μ-loop a b rows₀ k₀ rows k = 5 - k
 
-add-requires : tie.Need-add-requires Inv-loop μ-loop
-add-requires c κs =
-    let turn = c .before .before in row-of-sum-fits _ _ _ (turn .loop-test .taken) (turn .before .before .pre)
-
 loop-again : tie.Need-loop-again Inv-loop μ-loop
 loop-again c =
-    let turn = c .before .before .before in
-    let k = turn .before .loop .k in (
+    let turn = c .before .before .before in (
       omega (arith, turn .loop-test .taken),
-      ap₂ (λ (rows : Report) (row : Row). set rows k row) (turn .before .loop .inv .1) (c .add .ensures)
-          ∙ next-row _ _ _ (turn .loop-test .taken),
+      rw (turn .before .loop .inv .1, c .add .ensures) (next-row _ _ _ (turn .loop-test .taken)),
     )
 
 returns : tie.Need-returns Inv-loop μ-loop
@@ -39,5 +33,7 @@ pub add-rows-spec : {M : Type 1} → statement M
 add-rows-spec =
     tie.close
     (tie.spec Inv-loop μ-loop (λ c. (search needs, refl)) (λ c. search needs) (λ c. search needs) (λ c. search needs)
-    (λ c. search needs) add-requires (λ c. search needs) (λ c. search needs) (λ c. search needs) (λ c. search needs)
+    (λ c. search needs)
+    (λ c κs.
+    let turn = c .before .before in row-of-sum-fits _ _ _ (turn .loop-test .taken) (turn .before .before .pre)) (λ c. search needs) (λ c. search needs) (λ c. search needs) (λ c. search needs)
     loop-again returns)

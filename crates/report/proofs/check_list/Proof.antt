@@ -9,22 +9,14 @@ use borrow.Author.Needs.{needs}
 use Rattle.report.proofs.check_list.Statement.{statement}
 use Rattle.report.proofs.check_list.Tie as tie
 
-returns : tie.Need-returns
-unfolding reportRule
-returns c =
-    ap (λ (t : Bool). refuseIf t 4 0 (accepted 0)) (sym (lt-ltb _ _ (c .if1 .taken)))
-    ∙ verdict-passes _ _ _ (c .before .before .before .check .ensures) (c .before .enum-told .given .1)
-
-returns-2 : tie.Need-returns-2
-unfolding reportRule
-returns-2 c = verdict-refuses _ _ _ _ (c .before .before .before .check .ensures) (c .before .refusal .given .1)
-
-returns-3 : tie.Need-returns-3
-unfolding reportRule
-returns-3 c =
-    ap (λ (t : Bool). refuseIf t 4 0 (accepted 0)) (sym (le-ltb _ _ (c .if1 .left)))
-    ∙ verdict-passes _ _ _ (c .before .before .before .check .ensures) (c .before .enum-told .given .1)
-
 pub check-list-spec : {M : Type 1} → statement M
+unfolding reportRule
 check-list-spec =
-    tie.close (tie.spec (λ c κs. search needs) (λ c. search needs) (λ c. search needs) returns returns-2 returns-3)
+    tie.close (tie.spec (λ c κs. search needs) (λ c. search needs) (λ c. search needs)
+    (λ c.
+    rw (lt-ltb _ _ (c .if1 .taken))
+    (verdict-passes _ _ _ (c .before .before .before .check .ensures) (c .before .enum-told .given .1)))
+    (λ c. verdict-refuses _ _ _ _ (c .before .before .before .check .ensures) (c .before .refusal .given .1))
+    (λ c.
+    rw (le-ltb _ _ (c .if1 .left))
+    (verdict-passes _ _ _ (c .before .before .before .check .ensures) (c .before .enum-told .given .1))))

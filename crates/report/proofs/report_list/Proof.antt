@@ -10,12 +10,6 @@ use borrow.Author.Needs.{needs}
 use Rattle.report.proofs.report_list.Statement.{statement}
 use Rattle.report.proofs.report_list.Tie as tie
 
-gather-requires : tie.Need-gather-requires
-gather-requires c κs =
-    let told = c .before in
-    let accepts = verdict-accepts _ _ (told .before .before .check-list .ensures) (told .enum-told2 .given .1) in
-    reported-list-is-short _ _ accepts
-
 returns : tie.Need-returns
 unfolding reported
 returns c = refused-gives-zeros _ _ _ (c .before .before .check-list .ensures) _ (c .enum-told .given .1)
@@ -24,14 +18,14 @@ returns-2 : tie.Need-returns-2
 unfolding reported
 returns-2 c =
     let told = c .before .before in
-    let intervals = told .before .before .before .before .args .intervals .now in
-    c .gather .ensures
-    ∙ ap (λ (cursor : Cursor). reportFrom cursor intervals) (c .before .start .ensures)
-    ∙ sym (report-from-start _ _)
-    ∙ accepted-gives-report _ _ _ (told .before .before .check-list .ensures) (told .enum-told2 .given .1)
+    rw (c .gather .ensures, c .before .start .ensures, ← report-from-start _ _)
+    (accepted-gives-report _ _ _ (told .before .before .check-list .ensures) (told .enum-told2 .given .1))
 
 pub report-list-spec : {M : Type 1} → statement M
 report-list-spec =
     tie.close
-    (tie.spec (λ c κs. search needs) (λ c. search needs) (λ c. search needs) (λ c κs. search needs) gather-requires
+    (tie.spec (λ c κs. search needs) (λ c. search needs) (λ c. search needs) (λ c κs. search needs)
+    (λ c κs.
+    reported-list-is-short _ _
+    (verdict-accepts _ _ (c .before .before .before .check-list .ensures) (c .before .enum-told2 .given .1)))
     returns returns-2)

@@ -4,9 +4,6 @@ use Rattle.fifo.specs.State.{heldItems}
 use Rattle.fifo.proofs.Fifo.new.Statement.{statement}
 use Rattle.fifo.proofs.Fifo.new.Tie as tie
 
-returns : tie.Need-returns
-unfolding heldItems
-returns c = refl
-
 pub new-spec : {M : Type 1} → statement M
-new-spec = tie.close (tie.spec returns)
+unfolding heldItems
+new-spec = tie.close (tie.spec (λ c. refl))

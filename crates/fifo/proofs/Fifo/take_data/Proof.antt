@@ -1,18 +1,15 @@
 -- Why `take_data` answers its rule: the processor takes in read mode, which the code's test of the mode tells.
 use mathlib.Core.Path.{_∙_}
 use Rattle.fifo.specs.Rules.{takeRule}
-use Rattle.fifo.proofs.StateLaws.{mode-of-zero-is-write, mode-of-other-is-read}
+use Rattle.fifo.specs.State.{modeOf}
+use borrow.Author.Tests.{eq-eqb, ne-eqb}
 use borrow.Author.Needs.{needs}
 use Rattle.fifo.proofs.Fifo.take_data.Statement.{statement}
 use Rattle.fifo.proofs.Fifo.take_data.Tie as tie
 
-returns : tie.Need-returns
-unfolding takeRule
-returns c = c .given .ensures ∙ rw (mode-of-zero-is-write _ (c .before .if1 .taken))
-
-returns-2 : tie.Need-returns-2
-unfolding takeRule
-returns-2 c = c .shift .ensures ∙ rw (mode-of-other-is-read _ (c .before .if1 .left))
-
 pub take-data-spec : {M : Type 1} → statement M
-take-data-spec = tie.close (tie.spec (λ c κs. search needs) (λ c κs. search needs) returns returns-2)
+unfolding takeRule modeOf
+take-data-spec =
+    tie.close (tie.spec (λ c κs. search needs) (λ c κs. search needs)
+    (λ c. c .given .ensures ∙ rw (eq-eqb _ 0 (c .before .if1 .taken)))
+    (λ c. c .shift .ensures ∙ rw (ne-eqb _ 0 (c .before .if1 .left))))

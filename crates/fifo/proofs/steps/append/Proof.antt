@@ -1,50 +1,44 @@
 -- Why `append` answers `putting`: its branches are the cases of the definition, in the same order.
-use mathlib.Core.Path.{sym, _∙_, ap}
-use Rattle.fifo.specs.State.{heldItems, stateOf}
-use Rattle.fifo.specs.Rules.{gives}
-use Rattle.fifo.proofs.StateLaws.{items-of-none, items-of-one, items-of-two}
-use Rattle.fifo.proofs.StepLaws.{put-into-empty, put-after-one, put-when-full, put-of-no-item}
+use mathlib.Core.Path.{_∙_, ap}
+use Rattle.fifo.specs.State.{heldItems}
+use Rattle.fifo.specs.Rules.{gives, putting}
+use Rattle.fifo.proofs.StateLaws.{items-of-two}
 use borrow.Author.Needs.{needs}
 use Rattle.fifo.proofs.steps.append.Statement.{statement}
 use Rattle.fifo.proofs.steps.append.Tie as tie
 
 returns : tie.Need-returns
-unfolding heldItems
+unfolding putting heldItems
 returns c =
     let at-none = c .before .before in
     let at-item = at-none .before .before in
-    let a = at-item .before .before .args in
-    let item = sym (at-item .before .is-item .ensures) ∙ at-item .if1 .taken in
     c .given .ensures ∙ ap (gives 0) (c .before .with-items .ensures)
-    ∙ sym (put-into-empty (a .fault) (a .item) (stateOf (a .fifo)) item (items-of-none _ _ _ (at-none .if2 .taken)))
+    ∙ rw (← at-item .before .is-item .ensures, at-item .if1 .taken, at-none .if2 .taken)
 
 returns-2 : tie.Need-returns-2
-unfolding heldItems
+unfolding putting heldItems
 returns-2 c =
     let at-one = c .before .before in
     let at-item = at-one .before .before .before .before in
-    let a = at-item .before .before .args in
-    let item = sym (at-item .before .is-item .ensures) ∙ at-item .if1 .taken in
     c .given2 .ensures ∙ ap (gives 0) (c .before .with-items2 .ensures)
-    ∙ sym (put-after-one (a .fault) (a .item) (stateOf (a .fifo)) _ item (items-of-one _ _ _ (at-one .if3 .taken)))
+    ∙ rw (← at-item .before .is-item .ensures, at-item .if1 .taken, at-one .if3 .taken)
 
 returns-3 : tie.Need-returns-3
+unfolding putting
 returns-3 c =
     let at-one = c .before .before in
     let at-none = at-one .before .before in
     let at-item = at-none .before .before in
-    let a = at-item .before .before .args in
-    let item = sym (at-item .before .is-item .ensures) ∙ at-item .if1 .taken in
-    let two = items-of-two _ _ _ (at-none .if2 .left) (at-one .if3 .left) in
     c .given3 .ensures ∙ ap (gives 0) (c .before .with-fault .ensures)
-    ∙ sym (put-when-full (a .fault) (a .item) (stateOf (a .fifo)) _ _ item two)
+    ∙ rw (
+      ← at-item .before .is-item .ensures,
+      at-item .if1 .taken,
+      items-of-two _ _ _ (at-none .if2 .left) (at-one .if3 .left),
+    )
 
 returns-4 : tie.Need-returns-4
-returns-4 c =
-    let at-item = c .before in
-    let a = at-item .before .before .args in
-    let no-item = sym (at-item .before .is-item .ensures) ∙ at-item .if1 .left in
-    c .not-an-item .ensures ∙ sym (put-of-no-item (a .fault) (a .item) (stateOf (a .fifo)) no-item)
+unfolding putting
+returns-4 c = c .not-an-item .ensures ∙ rw (← c .before .before .is-item .ensures, c .before .if1 .left)
 
 pub append-spec : {M : Type 1} → statement M
 append-spec =

@@ -3,8 +3,5 @@ use borrow.Author.Needs.{needs}
 use Rattle.fifo.proofs.steps.not_an_item.Statement.{statement}
 use Rattle.fifo.proofs.steps.not_an_item.Tie as tie
 
-returns : tie.Need-returns
-returns c = cc
-
 pub not-an-item-spec : {M : Type 1} → statement M
-not-an-item-spec = tie.close (tie.spec (λ c κs. search needs) (λ c κs. search needs) returns)
+not-an-item-spec = tie.close (tie.spec (λ c κs. search needs) (λ c κs. search needs) (λ c. cc))

@@ -1,30 +1,15 @@
 -- Why `without_first` answers the tail: below two held nothing is left, from two on the second item.
-use Prim.Native.Nat.{ℕ}
-use mathlib.Core.Path.{sym, _∙_, ap}
-use mathlib.Core.List.{List}
-use Rattle.fifo.specs.State.{heldItems, stateOf}
-use Rattle.fifo.specs.Rules.{withItems}
-use Rattle.fifo.proofs.StateLaws.{rest-below-two-is-empty, rest-from-two-is-second}
+use mathlib.Core.Path.{_∙_}
+use Rattle.fifo.specs.State.{heldItems}
+use Rattle.fifo.proofs.StateLaws.{rest-of-items}
 use borrow.Author.Needs.{needs}
+use borrow.Author.Tests.{lt-ltb, le-ltb}
 use Rattle.fifo.proofs.steps.without_first.Statement.{statement}
 use Rattle.fifo.proofs.steps.without_first.Tie as tie
 
-returns : tie.Need-returns
-unfolding heldItems
-returns c =
-    let at-two = c .before in
-    let fifo = at-two .before .before .args .fifo in
-    c .with-items .ensures
-    ∙ ap (λ (ns : List ℕ). withItems ns (stateOf fifo)) (sym (rest-below-two-is-empty _ _ _ (at-two .if1 .taken)))
-
-returns-2 : tie.Need-returns-2
-unfolding heldItems
-returns-2 c =
-    let at-two = c .before in
-    let fifo = at-two .before .before .args .fifo in
-    c .with-items2 .ensures
-    ∙ ap (λ (ns : List ℕ). withItems ns (stateOf fifo)) (sym (rest-from-two-is-second _ _ _ (at-two .if1 .left)))
-
 pub without-first-spec : {M : Type 1} → statement M
+unfolding heldItems
 without-first-spec =
-    tie.close (tie.spec (λ c κs. search needs) (λ c κs. search needs) returns returns-2)
+    tie.close (tie.spec (λ c κs. search needs) (λ c κs. search needs)
+    (λ c. c .with-items .ensures ∙ rw (rest-of-items, lt-ltb _ 2 (c .before .if1 .taken)))
+    (λ c. c .with-items2 .ensures ∙ rw (rest-of-items, le-ltb _ 2 (c .before .if1 .left))))

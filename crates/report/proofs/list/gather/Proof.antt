@@ -24,15 +24,13 @@ renew-requires c κs =
     renewed-row-fits (turn .loop .inv) (c .before .before .loop-test .taken) (turn .before .before .pre) small
     (c .step .ensures)
 
-loop-again : tie.Need-loop-again Inv-loop μ-loop
-loop-again c =
-    let turn = c .before .before .before .before in
-    gathered-by-step (turn .before .loop .inv) (turn .loop-test .taken) (c .before .before .step .ensures)
-    (c .before .renew .ensures)
-
 pub gather-spec : {M : Type 1} → statement M
 gather-spec =
     tie.close
     (tie.spec Inv-loop μ-loop (λ c. nothing-gathered _ _) (λ c. search needs) (λ c. search needs) (λ c κs. search needs)
-    renew-requires (λ c. search needs) (λ c. search needs) loop-again
+    renew-requires (λ c. search needs) (λ c. search needs)
+    (λ c.
+    let turn = c .before .before .before .before in
+    gathered-by-step (turn .before .loop .inv) (turn .loop-test .taken) (c .before .before .step .ensures)
+    (c .before .renew .ensures))
     (λ c. gathered-all (c .before .loop .inv) (c .loop-test .left)))

@@ -11,32 +11,6 @@ use borrow.Author.Needs.{needs}
 use Rattle.report.proofs.row.add.Statement.{statement}
 use Rattle.report.proofs.row.add.Tie as tie
 
-both-fit
-    : (a b : Row)
-    → isOverlarge (addRow a b) ≡ false
-    → (countIn a ≡ 0 → ⊥)
-    → (countIn b ≡ 0 → ⊥)
-    → (countIn a + countIn b ≤ largest) × (sumIn a + sumIn b ≤ largest)
-both-fit a b fits e f = fitting-row (bothAdded a b) (cc (no-row-is-empty a b e f))
-
-returns : tie.Need-returns
-returns c = sym (two-empty-rows _ _ (c .before .if1 .taken) (c .if2 .taken))
-
-returns-2 : tie.Need-returns-2
-returns-2 c = sym (first-row-is-empty _ _ (c .before .if1 .taken) (c .if2 .left))
-
-returns-3 : tie.Need-returns-3
-returns-3 c = sym (second-row-is-empty _ _ (c .before .if1 .left) (c .if3 .taken))
-
-add-t20 : tie.Need-add-t20
-add-t20 c = let fit = both-fit _ _ (c .before .before .pre) (c .before .if1 .left) (c .if3 .left) .0 in omega arith
-
-add-t41 : tie.Need-add-t41
-add-t41 c =
-    let at = c .before .before in
-    let fit = both-fit _ _ (at .before .before .pre) (at .before .if1 .left) (at .if3 .left) .1 in
-    omega arith
-
 returns-4 : tie.Need-returns-4
 returns-4 c =
     let at = c .before .before in
@@ -45,7 +19,14 @@ returns-4 c =
 
 pub add-spec : {M : Type 1} → statement M
 add-spec =
-    tie.close (tie.spec (λ c. search needs) (λ c. search needs) returns returns-2 (λ c. search needs) returns-3
-    (λ c. search needs) (λ c. search needs) add-t20 (λ c. search needs) (λ c. search needs) (λ c κs. search needs)
-    (λ c. search needs) (λ c. search needs) (λ c κs. search needs) (λ c. search needs) (λ c. search needs) add-t41
+    tie.close (tie.spec (λ c. search needs) (λ c. search needs)
+    (λ c. sym (two-empty-rows _ _ (c .before .if1 .taken) (c .if2 .taken)))
+    (λ c. sym (first-row-is-empty _ _ (c .before .if1 .taken) (c .if2 .left))) (λ c. search needs)
+    (λ c. sym (second-row-is-empty _ _ (c .before .if1 .left) (c .if3 .taken))) (λ c. search needs)
+    (λ c. search needs) (λ c. omega (arith, fitting-row _ (rw (no-row-is-empty _ _ (c .before .if1 .left) (c .if3 .left)) at (c .before .before .pre))))
+    (λ c. search needs) (λ c. search needs) (λ c κs. search needs) (λ c. search needs) (λ c. search needs)
+    (λ c κs. search needs) (λ c. search needs) (λ c. search needs)
+    (λ c.
+    let at = c .before .before in
+    omega (arith, fitting-row _ (rw (no-row-is-empty _ _ (at .before .if1 .left) (at .if3 .left)) at (at .before .before .pre))))
     returns-4)

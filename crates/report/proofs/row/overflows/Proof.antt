@@ -3,21 +3,10 @@
 use mathlib.Core.Path.{sym, ap, ap₂, _∙_}
 use mathlib.Core.Bool.{Bool, _||_}
 use Rattle.report.specs.Row.{isOverlarge}
-use Rattle.report.proofs.RowLaws.{fits-if-first-is-empty, fits-if-second-is-empty, no-row-is-empty}
+use Rattle.report.proofs.RowLaws.{fits-if-first-is-empty, second-row-is-empty, no-row-is-empty, row-fits}
 use borrow.Author.Needs.{needs}
 use Rattle.report.proofs.row.overflows.Statement.{statement}
 use Rattle.report.proofs.row.overflows.Tie as tie
-
-returns : tie.Need-returns
-returns c =
-    sym (fits-if-first-is-empty _ _ (c .if1 .taken) (c .before .before .exceed .ensures .second-fits)
-    (c .before .exceed2 .ensures .second-fits))
-
-returns-2 : tie.Need-returns-2
-returns-2 c =
-    let counts = c .before .before .before .exceed .ensures in
-    let sums = c .before .before .exceed2 .ensures in
-    sym (fits-if-second-is-empty _ _ (c .before .if1 .left) (c .if2 .taken) (counts .first-fits) (sums .first-fits))
 
 returns-3 : tie.Need-returns-3
 unfolding isOverlarge
@@ -30,4 +19,12 @@ pub overflows-spec : {M : Type 1} → statement M
 overflows-spec =
     tie.close
     (tie.spec (λ c. search needs) (λ c. search needs) (λ c κs. search needs) (λ c. search needs) (λ c. search needs)
-    (λ c κs. search needs) (λ c. search needs) returns (λ c. search needs) returns-2 returns-3)
+    (λ c κs. search needs) (λ c. search needs)
+    (λ c.
+    sym (fits-if-first-is-empty _ _ (c .if1 .taken) (c .before .before .exceed .ensures .second-fits)
+    (c .before .exceed2 .ensures .second-fits)))
+    (λ c. search needs)
+    (λ c.
+    rw (second-row-is-empty _ _ (c .before .if1 .left) (c .if2 .taken)) (sym (row-fits _
+    (c .before .before .before .exceed .ensures .first-fits) (c .before .before .exceed2 .ensures .first-fits))))
+    returns-3)

@@ -9,28 +9,12 @@ use Rattle.text.proofs.LineLaws.{line-length, line-stored}
 use Rattle.text.proofs.print.append_line.Statement.{statement}
 use Rattle.text.proofs.print.append_line.Tie as tie
 
--- the buffer has room for the parts
-room : (c : tie.Start)
-    → c .args .at + (length (c .args .word .now) + length (fieldsOf (c .args .numbers .now)) + 1) ≤ length
-    (c .args .out .now)
-room c = rw line-length at (c .pre)
-
-append-fields-requires : tie.Need-append-fields-requires
-append-fields-requires c κs = omega (arith, room (c .before .before .before .before .before .before .before .before))
-
-append-requires-2 : tie.Need-append-requires-2
-append-requires-2 c κs =
-    let word = c .before .before .before .before .before .before .before .before in
-    omega (arith, room (word .before .before .before .before .before))
-
 returns : tie.Need-returns
 returns c =
     let end = c .before .before .append2 in
     let fields = c .before .before .before .before .before .before .before in
-    let word = fields .before .before .before .before in
-    let args = word .before .before .before .before .before .args in
-    let length-of = line-length (args .word .now) (args .numbers .now) in (
-      omega (arith, end .ensures .0),
+    let word = fields .before .before .before .before in (
+      rw line-length (omega (arith, end .ensures .0)),
       rw (
         end .ensures .1,
         fields .append-fields .ensures .1,
@@ -42,5 +26,10 @@ returns c =
 
 pub append-line-spec : {M : Type 1} → statement M
 append-line-spec =
-    tie.close (tie.spec (λ c κs. omega (arith, room (c .before .before .before .before))) append-fields-requires
-    (λ c. search needs) append-requires-2 (λ c. search needs) returns)
+    tie.close (tie.spec (λ c κs. omega (arith, rw line-length at (c .before .before .before .before .pre)))
+    (λ c κs. omega (arith, rw line-length at (c .before .before .before .before .before .before .before .before .pre)))
+    (λ c. search needs)
+    (λ c κs.
+    let word = c .before .before .before .before .before .before .before .before in
+    omega (arith, rw line-length at (word .before .before .before .before .before .pre)))
+    (λ c. search needs) returns)

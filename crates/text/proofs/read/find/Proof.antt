@@ -20,25 +20,13 @@ abbrev μ-loop : tie.MeasureT-loop
 
 returns : tie.Need-returns Inv-loop μ-loop
 returns c =
-    let h = c .before .before .before in
-    let a = h .before .args in
-    omega (
-      arith,
-      ap length
-          (up-to-at-separator (a .separator) (a .text .now) (h .loop .at) (c .before .before .loop-test .taken)
-          (c .if1 .taken)),
-    )
+    let text = c .before .before .before .before .args .text .now in
+    omega (arith, ap length (up-to-at-separator _ text _ (c .before .before .loop-test .taken) (c .if1 .taken)))
 
 loop-again : tie.Need-loop-again Inv-loop μ-loop
 loop-again c =
-    let h = c .before .before .before in
-    let a = h .before .args in
-    rw add-one
-    (omega (
-      arith,
-      ap length
-          (up-to-at-other (a .separator) (a .text .now) (h .loop .at) (c .before .before .loop-test .taken) (c .if1 .left)),
-    ))
+    let text = c .before .before .before .before .args .text .now in
+    rw add-one (omega (arith, ap length (up-to-at-other _ text _ (c .before .before .loop-test .taken) (c .if1 .left))))
 
 returns-2 : tie.Need-returns-2 Inv-loop μ-loop
 unfolding upTo

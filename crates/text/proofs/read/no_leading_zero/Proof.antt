@@ -1,14 +1,14 @@
 -- Why `text::no_leading_zero` answers `noLeadingZero`: they part fields alike, into those of no character, of one and
 -- of more. Rests on no axiom.
-use mathlib.Core.Path.{sym}
-use native.Mathlib.Omega.{arith}
 use borrow.Author.Needs.{needs}
-use Rattle.text.proofs.DecimalLaws.{no-leading-zero-of-none, no-leading-zero-of-one, no-leading-zero-of-more}
+use borrow.Author.Tests.{eq-eqb, ne-eqb}
+use Rattle.text.proofs.DecimalLaws.{no-leading-zero-by-length}
 use Rattle.text.proofs.read.no_leading_zero.Statement.{statement}
 use Rattle.text.proofs.read.no_leading_zero.Tie as tie
 
 pub no-leading-zero-spec : {M : Type 1} → statement M
 no-leading-zero-spec =
-    tie.close (tie.spec (λ c. sym (no-leading-zero-of-none _ (c .if1 .taken)))
-    (λ c. sym (no-leading-zero-of-one _ (c .if2 .taken))) (λ c. search needs)
-    (λ c. sym (no-leading-zero-of-more _ (omega arith))))
+    tie.close (tie.spec (λ c. rw (no-leading-zero-by-length, eq-eqb _ 0 (c .if1 .taken)))
+    (λ c. rw (no-leading-zero-by-length, ne-eqb _ 0 (c .before .if1 .left), eq-eqb _ 1 (c .if2 .taken)))
+    (λ c. search needs)
+    (λ c. rw (no-leading-zero-by-length, ne-eqb _ 0 (c .before .before .if1 .left), ne-eqb _ 1 (c .before .if2 .left))))

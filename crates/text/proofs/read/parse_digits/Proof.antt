@@ -21,37 +21,18 @@ abbrev μ-loop : tie.MeasureT-loop
 μ-loop field value₀ i₀ value i = length field - i
 
 -- the digit at place i and those after it
-module _ (s : List ℕ) (i value : ℕ) (h : i < length s) (inv : digitsAfter value (drop i s) ≡ digitsRead s) where
-  next-digit : digitsRead s ≡ digitsAfter value (getD s i 0 ∷ drop (suc i) s)
-  next-digit = cc (drop-cons s i 0 h)
-
-returns : tie.Need-returns Inv-loop μ-loop
-returns c =
-    let at = c .before .before .before in
-    sym (next-digit _ _ _ (c .before .before .loop-test .taken) (at .loop .inv .2) ∙ digits-below _ _ _ (c .if1 .taken))
-
-returns-2 : tie.Need-returns-2 Inv-loop μ-loop
-returns-2 c =
-    sym
-    (next-digit _ _ _ (c .before .before .before .loop-test .taken) (c .before .before .before .before .loop .inv .2)
-    ∙ digits-above _ _ _ (c .if2 .taken))
-
-returns-3 : tie.Need-returns-3 Inv-loop μ-loop
-returns-3 c =
-    sym (next-digit _ _ _ (c .before .before .before .before .loop-test .taken)
-    (c .before .before .before .before .before .loop .inv .2)
-    ∙ digits-at-digit _ _ _ (c .before .before .if1 .left) (c .before .if2 .left)
-    ∙ digits-too-large _ _ (c .if3 .taken))
+turn : (c : tie.In-loop Inv-loop μ-loop)
+    → let s = c .before .before .args .field .now in
+    let i = c .before .loop .i in digitsAfter (c .before .loop .value) (getD s i 0 ∷ drop (suc i) s) ≡ digitsRead s
+turn c = rw (drop-cons {A = ℕ} _ _ 0 (c .loop-test .taken)) at (c .before .loop .inv .2)
 
 loop-again : tie.Need-loop-again Inv-loop μ-loop
 loop-again c = (
   omega arith,
   c .if3 .left,
   rw add-one
-      (sym
-      (next-digit _ _ _ (c .before .before .before .before .loop-test .taken)
-      (c .before .before .before .before .before .loop .inv .2)
-      ∙ digits-at-digit _ _ _ (c .before .before .if1 .left) (c .before .if2 .left))),
+      (sym (digits-at-digit _ _ _ (c .before .before .if1 .left) (c .before .if2 .left))
+      ∙ turn (c .before .before .before .before)),
 )
 
 returns-4 : tie.Need-returns-4 Inv-loop μ-loop
@@ -60,6 +41,10 @@ returns-4 c = cc (drop-of-length-le _ (c .loop-test .left), digits-at-the-end _ 
 pub parse-digits-spec : {M : Type 1} → statement M
 parse-digits-spec =
     tie.close
-    (tie.spec Inv-loop μ-loop (λ c. (omega arith, omega arith, digits-after-none _)) (λ c. omega arith) returns
-    returns-2 (λ c. omega arith) (λ c. omega arith) (λ c. omega arith) returns-3 (λ c. omega arith) (λ c. omega arith)
-    loop-again (λ c. omega arith) returns-4)
+    (tie.spec Inv-loop μ-loop (λ c. (omega arith, omega arith, digits-after-none _)) (λ c. omega arith)
+    (λ c. sym (digits-below _ _ _ (c .if1 .taken)) ∙ turn (c .before .before))
+    (λ c. sym (digits-above _ _ _ (c .if2 .taken)) ∙ turn (c .before .before .before)) (λ c. omega arith)
+    (λ c. omega arith) (λ c. omega arith)
+    (λ c. sym (digits-too-large _ _ (c .if3 .taken))
+    ∙ sym (digits-at-digit _ _ _ (c .before .before .if1 .left) (c .before .if2 .left))
+    ∙ turn (c .before .before .before .before)) (λ c. omega arith) (λ c. omega arith) loop-again (λ c. omega arith) returns-4)

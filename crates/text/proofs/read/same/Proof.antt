@@ -20,16 +20,17 @@ abbrev μ-loop : tie.MeasureT-loop
 returns-2 : tie.Need-returns-2 Inv-loop μ-loop
 returns-2 c =
     let h = c .before .before .before .before in
-    let a = h .before .before .args in
-    let step = same-at (a .a .now) (a .b .now) (h .loop .i) (omega arith) (omega arith) in
-    rw (← h .loop .inv .2, step, ne-eqb _ _ (c .if2 .taken))
+    let taken = c .before .before .before .loop-test .taken in
+    rw (← h .loop .inv .2, same-at _ _ _ taken (h .loop .inv .1), ne-eqb _ _ (c .if2 .taken))
 
 loop-again : tie.Need-loop-again Inv-loop μ-loop
 loop-again c =
     let h = c .before .before .before .before in
-    let a = h .before .before .args in
-    let step = same-at (a .a .now) (a .b .now) (h .loop .i) (omega arith) (omega arith) in
-    (omega arith, h .loop .inv .1, rw (add-one, ← h .loop .inv .2, step, eq-eqb _ _ (c .if2 .left)))
+    let taken = c .before .before .before .loop-test .taken in (
+      omega arith,
+      h .loop .inv .1,
+      rw (add-one, ← h .loop .inv .2, same-at _ _ _ taken (h .loop .inv .1), eq-eqb _ _ (c .if2 .left)),
+    )
 
 returns-3 : tie.Need-returns-3 Inv-loop μ-loop
 unfolding sameText

@@ -20,7 +20,8 @@ use Rattle.report.specs.Row.{total, rowOf, addRow, isOverlarge}
 use Rattle.report.specs.Report.{Report, rowAt, rowsBy, ofClass, reportBy, reportFrom, noReport}
 use Rattle.report.proofs.RowLaws.{row-of-none, row-of-append, row-fits, total-of-append}
 use Rattle.report.proofs.AddLaws.{same-report}
-use Rattle.report.proofs.ReportLaws.{of-class-count, of-class-total, total-of-small}
+use Rattle.report.proofs.WholeLaws.{of-class-at-most}
+use Rattle.report.proofs.ReportLaws.{total-of-small}
 
 -- what a class has of the intervals from a cursor on
 abbrev pub has : Cursor → List ℕ → Class → List ℕ
@@ -141,13 +142,13 @@ module _
         → ((i : ℕ) → getD ds i 0 ≤ 65535)
         → s ≡ classed cursor d
         → isOverlarge (addRow (rowAt rows (classNumber (s .class) - 1)) (rowOf (d ∷ []))) ≡ false
-    unfolding rowOf
+    unfolding rowOf total
     renewed-row-fits h long small step =
         let counts : length mine + _ ≡ length (has start ds e) =
         sym (length-append mine _) ∙ ap length (mine-first h) in
         let sums : total mine + _ ≡ total (has start ds e) = sym (total-of-append mine _) ∙ ap total (mine-first h) in
-        let count = of-class-count e (classesFrom start ds) ds in
-        let sum = of-class-total e (classesFrom start ds) ds in
+        let count = of-class-at-most length (λ d. 1) refl (λ d es. omega arith) e (classesFrom start ds) ds in
+        let sum = of-class-at-most total (λ d. d) refl (λ d es. refl) e (classesFrom start ds) ds in
         let limit = total-of-small 65535 ds small in
         rw (step, g .rows-are, row-of-class (g .seen) e)
         (cc (more (g .seen) d e, row-fits (rowOf mine) (omega arith) (omega arith)))
