@@ -11,21 +11,15 @@ use Rattle.symbols.specs.declared.Cell.the-variants.{Short, Medium, Long}
 use Rattle.intervals.proofs.CellLaws.{classOfCell}
 use Rattle.lengths.specs.Units.{classOfUnits}
 
--- the class that units ask for has their number
-pub number-of-units : (xs : List Cell) → map classNumber (map classOfUnits (map units xs)) ≡ map units xs
+-- the class that units ask for is the class that is read as the cell, and has their number
+pub classes-of-cells
+    : (xs : List Cell)
+    → (map classOfUnits (map units xs) ≡ map classOfCell xs) × (map classNumber (map classOfCell xs) ≡ map units xs)
 unfolding classOfUnits
-number-of-units [] = refl
-number-of-units (Short ∷ xs) = cc (number-of-units xs)
-number-of-units (Medium ∷ xs) = cc (number-of-units xs)
-number-of-units (Long ∷ xs) = cc (number-of-units xs)
-
--- and is the class that is read as the cell
-pub classes-of-cells : (xs : List Cell) → map classOfUnits (map units xs) ≡ map classOfCell xs
-unfolding classOfUnits
-classes-of-cells [] = refl
-classes-of-cells (Short ∷ xs) = cc (classes-of-cells xs)
-classes-of-cells (Medium ∷ xs) = cc (classes-of-cells xs)
-classes-of-cells (Long ∷ xs) = cc (classes-of-cells xs)
+classes-of-cells [] = (refl, refl)
+classes-of-cells (Short ∷ xs) = let rest = classes-of-cells xs in (cc, cc)
+classes-of-cells (Medium ∷ xs) = let rest = classes-of-cells xs in (cc, cc)
+classes-of-cells (Long ∷ xs) = let rest = classes-of-cells xs in (cc, cc)
 
 -- and a class is known by its number
 class-of-number : (c : Class) → classOfUnits (classNumber c) ≡ c
@@ -36,9 +30,6 @@ class-of-number Three = refl
 class-of-number Four = refl
 class-of-number Wide = refl
 
-classes-of-numbers : (cs : List Class) → map classOfUnits (map classNumber cs) ≡ cs
+pub classes-of-numbers : (cs : List Class) → map classOfUnits (map classNumber cs) ≡ cs
 classes-of-numbers [] = refl
 classes-of-numbers (c ∷ cs) = cc (class-of-number c, classes-of-numbers cs)
-
-pub class-numbers-injective : (cs ds : List Class) → map classNumber cs ≡ map classNumber ds → cs ≡ ds
-class-numbers-injective cs ds h = cc (classes-of-numbers cs, classes-of-numbers ds)

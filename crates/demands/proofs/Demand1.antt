@@ -1,117 +1,52 @@
 -- Why demand 1 holds: every operation's rule makes the tests of its order one after the other, and each test means its
 -- cause. Rests on no axiom.
 use Prim.Native.Nat.{ℕ, zero, suc, _-_, _≤_}
-use mathlib.Core.Path.{_≡_, refl, ap}
-use mathlib.Core.Bool.{true, false, cond, true≢false}
+use mathlib.Core.Path.{_≡_, refl}
+use mathlib.Core.Bool.{_||_, true, false, cond, true≢false}
 use mathlib.Core.List.{List}
 use mathlib.Core.Logic.{_⊎_, inl, inr, ⊎-elim}
 use native.Mathlib.Omega.{arith}
 use lib.ListN.{length, drop}
-use Rattle.lists.specs.Place.{everywhere}
 use Rattle.refusal.specs.Answer.{accepted, refused}
-use Rattle.timing.specs.Class.{classesOf, classOf, classNumber, classRule}
+use Rattle.timing.specs.Class.{classesOf, classRule}
 use Rattle.timing.specs.declared.Profile.{Profile}
 use Rattle.timing.specs.declared.Class.{Class}
-use Rattle.symbols.specs.Reading.{readBits}
-use Rattle.symbols.specs.Strip.{isRagged, bytesRead, isStray, strayPlace, stripRule}
+use Rattle.symbols.specs.Strip.{stripRule}
 use Rattle.items.specs.Written.{written}
 use Rattle.items.specs.Rule.{listRule}
-use Rattle.lengths.specs.Stream.{byteStream, streamOf}
-use Rattle.lengths.specs.Margin.{marginOf, marginRule}
-use Rattle.codec.specs.Writer.{streamRule, writeRule}
-use Rattle.intervals.specs.Cells.{cellsRead}
-use Rattle.codec.specs.Reader.{itemsOfStream, readRule}
+use Rattle.lengths.specs.Stream.{streamOf}
+use Rattle.lengths.specs.Margin.{marginRule}
+use Rattle.codec.specs.Writer.{streamRule, writeRule, writeOutput}
+use Rattle.codec.specs.Reader.{itemsOfStream, readRule, readOutput}
 use Rattle.fields.specs.Lock.{lockAt, firstLock, lockFrom, countedFrom, searchRule, findRule}
-use Rattle.fields.specs.Field.{fieldStop, fieldStray, fieldStrayPlace}
-use Rattle.fields.specs.FieldRule.{gatherRule, deliverRule, checkedRule, fieldRule}
+use Rattle.fields.specs.Field.{fieldStop}
+use Rattle.fields.specs.FieldRule.{gatherRule, deliverRule, checkedRule, fieldRule, fieldOutput}
 use Rattle.fields.proofs.FirstLockLaws.{lock-from-found, adrift-has-no-lock}
-use Rattle.sectors.specs.Sector.{isMisfit, sectorItems, sectorRule}
-use Rattle.demands.specs.Order.{accept, turn, at0, InTurn, orderNumbers, Answers}
-use Rattle.demands.specs.Causes.{profileOrder, writerOrder, stripOrder, finderOrder, fieldOrder, makerOrder}
+use Rattle.sectors.specs.Sector.{isMisfit, sectorRule, sectorOutput}
+use Rattle.demands.specs.Order.{accept, turn, at0, Answers}
+use Rattle.demands.specs.Causes.{stripOrder}
 use Rattle.demands.specs.Demand1.{Demand1}
-use Rattle.demands.proofs.OrderLaws.{turn-by-test, turn-before, means-itself, means-below}
-use Rattle.demands.proofs.OrderLaws.{means-either, means-at, answers, first-refusal-of-first, NoCauseOf}
-use Rattle.demands.proofs.OrderLaws.{not-answered}
-use Rattle.demands.proofs.ProfileOrder.{profile-in-turn, accepted-in-turn}
-use Rattle.demands.proofs.ReportOrder.{drive-report, report-sum}
-use Rattle.demands.proofs.ImageOrder.{image-maker, image-reader, image-output, image-items}
-use Rattle.demands.proofs.IndexOrder.{track-index}
-use Rattle.demands.proofs.MergeOrder.{merge, merge-output}
+use Rattle.demands.proofs.OrderLaws.{turn-by-test, turn-before, profile-first, means-below, last-below, means-or}
+use Rattle.demands.proofs.OrderLaws.{means-either, means-at, answers-accepted, answers-here, answers-later}
+use Rattle.demands.proofs.OrderLaws.{first-refusal-of-first, NoCauseOf, not-answered, told-after, told-by-test}
+use Rattle.demands.proofs.OrderLaws.{told-once-accepted}
+use Rattle.demands.proofs.OrderLaws.{told-room, told-if-room, told-bytes, settled-is-lent}
+use Rattle.timing.specs.Profile.{outside, profileRule}
+use Rattle.intervals.specs.Cells.{edgeRule, cellsRead}
 use Rattle.demands.proofs.StopLaws.{edges-in-turn, stop-in-turn}
-use Rattle.demands.proofs.LentLaws.{writer-output, strip-output, field-output, maker-output}
-
--- ---- margin and class
-
-margin : (p : Profile) → Answers (profileOrder p accept) (marginRule p)
-unfolding marginRule orderNumbers everywhere
-margin p = answers refl (profile-in-turn p accept (accepted (marginOf p)) (accepted-in-turn (marginOf p)))
-
-class : (p : Profile) (d : ℕ) → Answers (profileOrder p accept) (classRule p d)
-unfolding classRule orderNumbers everywhere
-class p d =
-    let n = classNumber (classOf p d) in answers refl (profile-in-turn p accept (accepted n) (accepted-in-turn n))
-
--- ---- writer
-
-writer : (p : Profile) (items : List ℕ) (room : ℕ) → Answers (writerOrder p items room) (writeRule p items room)
-unfolding writeRule listRule streamRule streamOf orderNumbers everywhere
-writer p items room =
-    let stream = byteStream p (written items) in
-    answers refl (profile-in-turn p _ _
-    (turn-before 3 _ _ _ (means-either 6400 _ 6400 _)
-    (turn-before 2 _ _ _ (means-at _ _)
-    (turn-by-test 9 accept (accepted (length stream)) (means-below room (length stream))
-    (accepted-in-turn (length stream))))))
-
--- ---- maker
-
-maker
-    : (track side sector code : ℕ) (bytes : List ℕ) (room : ℕ)
-    → Answers (makerOrder track side sector code bytes room) (sectorRule track side sector code bytes room)
-unfolding sectorRule orderNumbers everywhere
-maker track side sector code bytes room =
-    let n = length (sectorItems track side sector code bytes) in
-    answers refl (turn-by-test 13 _ _ (means-itself (isMisfit code bytes))
-    (turn-by-test 9 accept (accepted n) (means-below room n) (accepted-in-turn n)))
-
--- ---- strip reader
-
-strip-reader : (p : Profile) (ds : List ℕ) (room : ℕ) → Answers (stripOrder p ds room) (readRule p ds room)
-unfolding readRule stripRule orderNumbers everywhere
-strip-reader p ds room =
-    let bits = readBits (cellsRead p ds) in
-    let n = length (itemsOfStream p ds) in
-    answers refl (profile-in-turn p _ _
-    (turn-by-test 4 _ _ (means-below 51202 (length ds))
-    (edges-in-turn (classesOf p ds) _ _
-    (turn-before 6 _ _ _ (means-itself (isRagged bits))
-    (turn-before 3 _ _ _ (means-below 6400 (bytesRead bits))
-    (turn-before 7 _ _ _ (means-at (isStray bits) (strayPlace (cellsRead p ds)))
-    (turn-by-test 9 accept (accepted n) (means-below room n) (accepted-in-turn n))))))))
-
--- 9 is answered for want of room alone
-pub room-for-its-list-is-enough
-    : (p : Profile) (ds : List ℕ) (room : ℕ)
-    → length (itemsOfStream p ds) ≤ room
-    → readRule p ds room .number ≡ 9
-    → ⊥
-unfolding NoCauseOf
-room-for-its-list-is-enough p ds room enough =
-    not-answered 8 (stripOrder p ds room) (readRule p ds room) (strip-reader p ds room .in-turn)
-    (λ place cause. omega arith, tt)
-
--- ---- field reader
-
-field-reader : (p : Profile) (ds : List ℕ) (n room : ℕ) → Answers (fieldOrder p ds n room) (fieldRule p ds n room)
-unfolding fieldRule checkedRule gatherRule deliverRule orderNumbers everywhere
-field-reader p ds n room =
-    let cs = classesOf p ds in
-    answers refl (profile-in-turn p _ _
-    (turn-by-test 12 _ _ (means-either n 1 1030 n)
-    (rw (← first-refusal-of-first (fieldStop cs n) _ _)
-    (stop-in-turn cs _ _
-    (turn-before 7 _ _ _ (means-at (fieldStray cs n) (fieldStrayPlace cs n))
-    (turn-by-test 9 accept (accepted n) (means-below room n) (accepted-in-turn n))) n))))
+use Rattle.report.specs.Report.{reportRule, addRule}
+use Rattle.refusal.proofs.AnswerLaws.{first-refusal-accepts}
+use Rattle.symbols.specs.Bits.{O}
+use Rattle.images.specs.Image.{imageOf, bytesIn}
+use Rattle.images.specs.Rules.{roomRule, makeRule, makeOutput, wordsRule, readImageRule, readImageOutput}
+use Rattle.images.proofs.ImageLaws.{length-of-image, length-of-bytes}
+use Rattle.track.specs.Index.{crowdRule, indexRule}
+use Rattle.merge.specs.Merge.{isCrowded, numbers, atOddsAt}
+use Rattle.merge.specs.Set.{isMisfitSet, sectorsIn}
+use Rattle.lists.specs.Place.{anywhere}
+use lib.Dec.{ltb}
+use Rattle.merge.specs.Rule.{roomRule as merge-room, mergeRule, mergeAnswer, mergeOutput}
+use Rattle.fields.proofs.FieldLaws.{field-items-count}
 
 -- ---- finder
 
@@ -127,39 +62,103 @@ lock-or-adrift cs (suc places) k =
 
 lock-in-turn
     : (cs : List Class) (start : ℕ)
-    → InTurn (turn 10 (at0 ((k : ℕ) → lockAt cs k ≡ true → ⊥)) accept) (countedFrom start (lockFrom cs 0))
-unfolding InTurn lockFrom
+    → Answers (turn 10 (at0 ((k : ℕ) → lockAt cs k ≡ true → ⊥)) accept) (countedFrom start (lockFrom cs 0))
+unfolding lockFrom
 lock-in-turn cs start =
-    ⊎-elim (λ found. inr (λ k none. none .0 _ (lock-from-found cs 0 found .stands), cc)) (λ adrift.
-    let same = ap (countedFrom start) adrift in
-    inl ((λ k stands. true≢false (cc (adrift-has-no-lock cs 0 (cc adrift) k (omega arith))), cc same), cc same))
+    ⊎-elim (λ found.
+    rw found (answers-later (λ k none. none .0 _ (lock-from-found cs 0 found .stands)) answers-accepted))
+    (λ adrift.
+    rw adrift (answers-here (λ k stands. true≢false (cc (adrift-has-no-lock cs 0 (cc adrift) k (omega arith))), refl)))
     (lock-or-adrift cs (length cs - 0) 0)
 
-finder : (p : Profile) (ds : List ℕ) (start : ℕ) → Answers (finderOrder p ds start) (findRule p ds start)
-unfolding findRule searchRule orderNumbers everywhere
-finder p ds start = answers refl (profile-in-turn p _ _ (lock-in-turn (classesOf p (drop start ds)) start))
+-- ---- images
+
+image-count : (items : List ℕ) → length (imageOf (written items)) ≡ length (written items)
+unfolding imageOf
+image-count items = length-of-image O (written items)
+
+item-count : (words : List ℕ) → length (bytesIn words) ≡ length words
+unfolding bytesIn
+item-count words = length-of-bytes O words
 
 pub demand-1 : Demand1
+unfolding marginRule classRule writeRule listRule streamRule streamOf sectorRule readRule stripRule fieldRule
+    checkedRule gatherRule deliverRule findRule searchRule reportRule addRule makeRule wordsRule readImageRule roomRule
+    indexRule crowdRule mergeRule merge-room isCrowded writeOutput readOutput fieldOutput sectorOutput makeOutput
+    readImageOutput mergeOutput mergeAnswer
 demand-1 =
     record {
-      margin = margin;
-      class = class;
-      writer = writer;
-      strip-reader = strip-reader;
-      finder = finder;
-      field-reader = field-reader;
-      maker = maker;
-      drive-report = drive-report;
-      report-sum = report-sum;
-      image-maker = image-maker;
-      image-reader = image-reader;
-      track-index = track-index;
-      merge = merge;
-      writer-output = writer-output;
-      strip-output = strip-output;
-      field-output = field-output;
-      maker-output = maker-output;
-      image-output = image-output;
-      image-items = image-items;
-      merge-output = merge-output;
+      margin = λ p. profile-first p _ answers-accepted;
+      class = λ p d. profile-first p _ answers-accepted;
+      writer = λ p items room.
+          profile-first p _
+          (turn-before 3 _ _ (means-either 6400 _ 6400 _)
+          (turn-before 2 _ _ (means-at _ _) (last-below room _ _)));
+      strip-reader = λ p ds room.
+          profile-first p _
+          (turn-by-test (means-below 51202 _)
+          (edges-in-turn (classesOf p ds) _ _
+          (turn-before 6 _ _ (means-at _ _)
+          (turn-before 3 _ _ (means-below 6400 _)
+          (turn-before 7 _ _ (means-at _ _) (last-below room _ _))))));
+      finder = λ p ds start. profile-first p _ (lock-in-turn (classesOf p (drop start ds)) start);
+      field-reader = λ p ds n room.
+          let cs = classesOf p ds in
+          profile-first p _
+          (turn-by-test (means-either n 1 1030 n)
+          (rw (← first-refusal-of-first (fieldStop cs n) _ _)
+          (stop-in-turn cs _ _ (turn-before 7 _ _ (means-at _ _) (last-below room n _)) n)));
+      maker = λ track side sector code bytes room. turn-by-test (means-at _ _) (last-below room _ _);
+      drive-report = λ p ds. profile-first p _ (last-below 51202 _ _);
+      report-sum = λ a b. turn-by-test (means-at _ _) answers-accepted;
+      image-maker = λ items room.
+          turn-before 3 _ _ (means-either 6400 _ 6400 _)
+          (turn-before 2 _ _ (means-at _ _) (rw (image-count items) (last-below room _ _)));
+      image-reader = λ words room.
+          turn-before 3 _ _ (means-below 6400 _)
+          (turn-before 15 _ _ (means-at _ _) (rw (item-count words) (last-below room _ _)));
+      track-index = λ p ds. profile-first p _ (last-below 32 _ _);
+      merge = λ first second room.
+          turn-by-test (means-or (means-at _ _) (means-at _ _))
+          (turn-by-test (means-or (means-either 32 _ 32 _) (means-below 32 _))
+          (turn-by-test (means-at _ _) (last-below room _ _)));
+      writer-output = λ p items old.
+          settled-is-lent _ _ old (told-after (profileRule p) (told-after (listRule items) (told-room _ _ refl)));
+      strip-output = λ p ds old.
+          settled-is-lent _ _ old
+          (told-after (profileRule p)
+          (told-by-test (ltb 51202 (length ds)) 3 _
+          (told-after (edgeRule (classesOf p ds)) (told-after (stripRule (cellsRead p ds)) (told-room _ _ refl)))));
+      field-output = λ p ds n old.
+          let cs = classesOf p ds in
+          settled-is-lent _ _ old
+          (told-after (profileRule p)
+          (told-by-test (outside 1 1030 n) 11 _
+          (told-once-accepted (gatherRule cs n) (λ gathers.
+          told-room n _ (field-items-count cs n (first-refusal-accepts (fieldStop cs n) _ gathers .0))))));
+      maker-output = λ track side sector code bytes old.
+          settled-is-lent _ _ old (told-by-test (isMisfit code bytes) 12 _ (told-room _ _ refl));
+      image-output = λ items old.
+          settled-is-lent _ _ old (told-after (listRule items) (told-room _ _ (image-count items)));
+      image-items = λ words old.
+          settled-is-lent _ _ old (told-after (wordsRule words) (told-room _ _ (item-count words)));
+      merge-output = λ first second old.
+          let a = sectorsIn first in
+          let b = sectorsIn second in
+          settled-is-lent _ _ old
+          (told-bytes (mergeRule first second (length old)) _ _
+          (told-by-test (isMisfitSet first || isMisfitSet second) 12 _
+          (told-by-test (isCrowded a b) 14 _
+          (told-by-test (anywhere (atOddsAt a b) numbers) 16 _ (told-if-room _ (length old) _ (λ fits. fits))))));
     }
+
+-- 9 is answered for want of room alone
+pub room-for-its-list-is-enough
+    : (p : Profile) (ds : List ℕ) (room : ℕ)
+    → length (itemsOfStream p ds) ≤ room
+    → readRule p ds room .number ≡ 9
+    → ⊥
+unfolding NoCauseOf
+room-for-its-list-is-enough p ds room enough =
+    not-answered 8 (stripOrder p ds room) (readRule p ds room) (demand-1 .strip-reader p ds room .in-turn)
+    (omega arith)

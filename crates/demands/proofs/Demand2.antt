@@ -26,72 +26,41 @@ use Rattle.demands.specs.Demand2.{CellsAreClasses, Demand2}
 use Rattle.demands.proofs.ListLaws.{listed, bytes-are-accepted}
 use Rattle.demands.proofs.ReadLaws.{Passed, passed-of-accepted, reads-as-its-list}
 
--- ---- reading
-
-pub read-only-lists
-    : (p : Profile) (ds output : List ℕ)
-    → readRule p ds (length output) .number ≡ 0
-    → (ws : List ℕ) × AcceptedList ws × CellsAreClasses p ws ds × ReadsAs p ds output ws
-unfolding cellsRead itemsOfStream
-read-only-lists p ds output h =
-    let passed = passed-of-accepted p ds (length output) h in
-    let read = write-of-read (cellsRead p ds) (passed .strip) in
-    let few : length (stripItems (cellsRead p ds)) ≤ 6400 = rw (read .count) (read .few) in (
-      itemsOfStream p ds,
-      bytes-are-accepted (stripItems (cellsRead p ds)) (read .bytes) few,
-      cc (cells-are-classes (classesOf p ds) (passed .edges)),
-      reads-as-its-list p ds output (itemsOfStream p ds) passed refl,
-    )
-
-pub one-list
-    : (p : Profile) (ds us ws : List ℕ)
-    → AcceptedList us
-    → AcceptedList ws
-    → CellsAreClasses p us ds
-    → CellsAreClasses p ws ds
-    → us ≡ ws
-one-list p ds us ws a b g h = cells-injective us ws (listed a .bytes) (listed b .bytes) (sym g ∙ h)
-
 -- a stream whose classes are the cells of a list within the limit has no more intervals than a strip may have
 few-intervals : (p : Profile) (ds ws : List ℕ) → CellsAreClasses p ws ds → length ws ≤ 6400 → length ds ≤ 51202
 few-intervals p ds ws h few =
     let same = sym (classes-length p ds) ∙ sym (length-map (classesOf p ds) classNumber) ∙ ap length h in
     let most = cells-at-most ws in omega arith
 
-pub every-list-is-read
-    : (p : Profile) (ds output ws : List ℕ)
-    → AcceptedProfile p
-    → AcceptedList ws
-    → CellsAreClasses p ws ds
-    → length ws ≤ length output
-    → ReadsAs p ds output ws
-unfolding cellsRead itemsOfStream
-every-list-is-read p ds output ws accepts a h enough =
-    let l = listed a in
-    let (xs, same) = cells-are-read ws in
-    let (edges, cells) = classes-are-cells (classesOf p ds) xs (h ∙ sym same) in
-    let items : itemsOfStream p ds ≡ ws = cc (read-back ws xs (l .bytes) same .items) in
-    let passed : Passed p ds (length output) =
-    record {
-      profile = accepts;
-      short = few-intervals p ds ws h (l .few);
-      edges = ap (λ a. a .number) edges;
-      strip = rw cells (ap (λ a. a .number) (rule-of-write ws xs (l .bytes) (l .few) same));
-      enough = rw items enough;
-    } in
-    reads-as-its-list p ds output ws passed items
-
 pub demand-2 : Demand2
-unfolding byteStream streamOf writeOutput writeRule streamRule
+unfolding byteStream streamOf writeOutput writeRule streamRule cellsRead itemsOfStream
 demand-2 =
     record {
       written-lengths = λ p items output h.
           acceptance-fills-the-buffer (writeRule p items (length output)) (streamOf p items) output h;
       written-if-accepted = λ p items output accepts listed-items enough.
-          first-refusal-passes (profileRule p) _ accepts
-          ∙ first-refusal-passes (listRule items) _ listed-items
-          ∙ refuse-if-passes _ 9 0 _ (le-ltb (length output) (length (streamOf p items)) enough);
-      read-only-lists = read-only-lists;
-      one-list = one-list;
-      every-list-is-read = every-list-is-read;
+          rw (accepts, listed-items, le-ltb (length output) _ enough);
+      read-only-lists = λ p ds output h.
+          let passed = passed-of-accepted p ds (length output) h in
+          let read = write-of-read (cellsRead p ds) (passed .strip) in
+          let few : length (stripItems (cellsRead p ds)) ≤ 6400 = rw (read .count) (read .few) in (
+            itemsOfStream p ds,
+            bytes-are-accepted (stripItems (cellsRead p ds)) (read .bytes) few,
+            cc (cells-are-classes (classesOf p ds) (passed .edges)),
+            reads-as-its-list p ds output passed,
+          );
+      one-list = λ p ds us ws a b g h. cells-injective us ws (listed a .bytes) (listed b .bytes) (sym g ∙ h);
+      every-list-is-read = λ p ds output ws accepts a h enough.
+          let l = listed a in
+          let (xs, same) = cells-are-read ws in
+          let (edges, cells) = classes-are-cells (classesOf p ds) xs (h ∙ sym same) in
+          let items : itemsOfStream p ds ≡ ws = cc (read-back ws xs (l .bytes) same .items) in
+          rw items at (reads-as-its-list p ds output
+          (record {
+            profile = accepts;
+            short = few-intervals p ds ws h (l .few);
+            edges = ap (λ a. a .number) edges;
+            strip = rw cells (ap (λ a. a .number) (rule-of-write ws xs (l .bytes) (l .few) same));
+            enough = rw items enough;
+          }));
     }

@@ -34,17 +34,17 @@ use Rattle.demands.specs.Streams.{another}
 use Rattle.demands.specs.Demand2.{CellsAreClasses}
 use Rattle.demands.specs.Demand3.{stated, Demand3}
 use Rattle.demands.proofs.ListLaws.{listed, one-byte-is-listed, written-is-listed, stream-of-written}
-use Rattle.demands.proofs.ClassCells.{number-of-units, class-numbers-injective}
+use Rattle.demands.proofs.ClassCells.{classes-of-cells, classes-of-numbers}
 use Rattle.demands.proofs.Demand1.{room-for-its-list-is-enough}
-use Rattle.demands.proofs.Demand2.{read-only-lists, one-list, every-list-is-read}
+use Rattle.demands.proofs.Demand2.{demand-2}
 
 pub stated-is-the-margin : (p : Profile) → AcceptedProfile p → stated p ≡ marginOf p
 unfolding marginRule
-stated-is-the-margin p h = cc (first-refusal-passes (profileRule p) (accepted (marginOf p)) h)
+stated-is-the-margin p h = rw (h, stated)
 
 -- the numbers of the classes that the cells of written bytes ask for are the cells
 numbers-of-cells : (ws : List ℕ) → map classNumber (map classOfUnits (writtenCells ws)) ≡ writtenCells ws
-numbers-of-cells ws = let (xs, same) = cells-are-read ws in rw (← same) (number-of-units xs)
+numbers-of-cells ws = let (xs, same) = cells-are-read ws in cc (classes-of-cells xs .0, classes-of-cells xs .1)
 
 module _ (p : Profile) (accepts : AcceptedProfile p) where
   -- a stream near the written one has the cells' classes
@@ -54,9 +54,6 @@ module _ (p : Profile) (accepts : AcceptedProfile p) where
       → classesOf p ds ≡ map classOfUnits (writtenCells ws)
   near-has-classes = near-stream-has-classes (margin-leaves-room (kept p accepts)) (kept p accepts)
 
-  near-has-cells : (ws ds : List ℕ) → Near (marginOf p) ds (byteStream p ws) → CellsAreClasses p ws ds
-  near-has-cells ws ds near = ap (map classNumber) (near-has-classes ws ds near) ∙ numbers-of-cells ws
-
   -- so has the stream of any items, moved by at most the margin
   pub moved-has-classes
       : (items ds : List ℕ)
@@ -65,11 +62,10 @@ module _ (p : Profile) (accepts : AcceptedProfile p) where
   unfolding streamOf
   moved-has-classes items ds moved =
       near-has-classes (written items) ds
-      (subst (λ (m : ℕ). Near m ds (streamOf p items)) (stated-is-the-margin p accepts)
-      (near-of-each (stated p) ds (streamOf p items) (moved .as-many)
-      (λ k h.
-      let j : k < length ds = subst (λ (n : ℕ). k < n) (sym (moved .as-many)) h in
-      (moved .no-longer k j, moved .no-shorter k j))))
+      (rw (stated-is-the-margin p accepts) at
+      (near-of-each (stated p) ds (streamOf p items) (moved .as-many) (λ k h.
+      let here : k < length ds = rw (moved .as-many) h in
+      (moved .no-longer k here, moved .no-shorter k here))))
 
   moved-has-cells
       : (ws ds : List ℕ) → AcceptedList ws → Moved (stated p) (streamOf p ws) ds → CellsAreClasses p ws ds
@@ -84,10 +80,11 @@ module _ (p : Profile) (accepts : AcceptedProfile p) where
       → Misread p ds output (b ∷ [])
   misread b ds output other false e = turned-away (eqb-false _ 0 e)
   misread b ds output other true e =
-      let (ws, a, cells, reads) = read-only-lists p ds output (eqb-true _ 0 e) in
+      let (ws, a, cells, reads) = demand-2 .read-only-lists p ds output (eqb-true _ 0 e) in
       another ws reads (λ same.
-      other (class-numbers-injective (classesOf p ds) (classesOf p (byteStream p (b ∷ [])))
-      (cc (near-has-cells (b ∷ []) (byteStream p (b ∷ [])) (near-itself (marginOf p) (byteStream p (b ∷ [])))))))
+      let stream = byteStream p (b ∷ []) in
+      let near = near-itself (marginOf p) stream in
+      other (cc (near-has-classes (b ∷ []) stream near, classes-of-numbers (classesOf p ds))))
 
   -- the stream with one interval moved still holds 16-bit numbers
   broken-fits
@@ -120,10 +117,11 @@ demand-3 p accepts =
     record {
       check-orders-turned = λ items h. (written-is-listed items h, stream-of-written p items h);
       never-equal = λ us ws a b differ ds es moved-us moved-ws same.
-          differ (one-list p es us ws a b (rw same at (moved-has-cells p accepts us ds a moved-us))
+          differ (demand-2 .one-list p es us ws a b (rw same at (moved-has-cells p accepts us ds a moved-us))
           (moved-has-cells p accepts ws es b moved-ws));
       reads-back = λ ws a changed moved output enough.
-          every-list-is-read p changed output ws accepts a (moved-has-cells p accepts ws changed a moved) enough;
+          let cells = moved-has-cells p accepts ws changed a moved in
+          demand-2 .every-list-is-read p changed output ws accepts a cells enough;
       largest = λ n above.
           let x : Broken p n =
           above-margin-is-broken (kept p accepts) n (rw (stated-is-the-margin p accepts) at above) in

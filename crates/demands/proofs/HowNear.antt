@@ -37,36 +37,22 @@ inner-of-window (three low high) = tt
 inner-of-window (four low high) = tt
 
 module _ (p : Profile) (accepts : AcceptedProfile p) where
-  -- an interval no more than c from a length has m − c left where m has room
-  near-length-is-clear
-      : (m : ℕ)
-      → Spare p m
-      → {l u : ℕ}
-      → Window p l u
-      → (c : ℕ)
-      → c ≤ m
-      → (d : ℕ)
-      → d ≤ l + c
-      → l ≤ d + c
-      → m - c ≤ clearanceOf p d
-  near-length-is-clear m s w c few d longer shorter =
-      let here = near-length-has-class s d w (omega arith) (omega arith) in
-      kept-is-cleared p accepts d (m - c) (rw here (inner-of-window w))
-      (λ moved up down. cc (near-length-has-class s moved w (omega arith) (omega arith)))
-
   module _
       (items : List ℕ) (c : ℕ) (few : c ≤ stated p) (changed : List ℕ) (moved : Moved c (streamOf p items) changed)
     where
-      -- each interval of a changed stream
+      -- each interval of a changed stream: no more than c from a length, it has the margin's room less c
       pub each-is-clear : (k : ℕ) → k < length changed → stated p - c ≤ clearanceOf p (getD changed k 0)
       unfolding streamOf
       each-is-clear k h =
           let room = rw (← stated-is-the-margin p accepts) at (margin-leaves-room (kept p accepts)) in
-          let us = writtenCells (written items) in
           let there : k < length (streamOf p items) = rw (← moved .as-many) h in
-          let window = window-at us (streamOf p items) (stream-has-windows (kept p accepts) (written items)) k there in
-          near-length-is-clear (stated p) room window c few (getD changed k 0) (moved .no-longer k h)
-          (moved .no-shorter k h)
+          let window =
+          window-at (writtenCells (written items)) _ (stream-has-windows (kept p accepts) (written items)) k there in
+          let longer = moved .no-longer k h in
+          let shorter = moved .no-shorter k h in
+          let here = near-length-has-class room (getD changed k 0) window (omega arith) (omega arith) in
+          kept-is-cleared p accepts (getD changed k 0) (stated p - c) (rw here (inner-of-window window))
+          (λ d up down. cc (near-length-has-class room d window (omega arith) (omega arith)))
 
       pub within-the-margin : Moved (stated p) (streamOf p items) changed
       within-the-margin =
@@ -79,11 +65,9 @@ module _ (p : Profile) (accepts : AcceptedProfile p) where
 
       changed-strip : listRule items .number ≡ 0 → ReadsClear p changed (written items) (stated p - c)
       changed-strip lists =
-          let listed = written-is-listed items lists in
-          let same = sym (stream-of-written p items lists) in
           let read =
-          demand-3 p accepts .reads-back (written items) listed changed
-          (subst (λ (ls : List ℕ). Moved (stated p) ls changed) same within-the-margin) in
+          demand-3 p accepts .reads-back (written items) (written-is-listed items lists) changed
+          (rw (stream-of-written p items lists) within-the-margin) in
           -- there is an interval, since it is read
           let answer = read (written items) (le-refl _) .answer in
           let some = strip-has-intervals p changed _ (ap (λ (a : Answer). a .number) answer) in
@@ -100,30 +84,19 @@ module _ (p : Profile) (accepts : AcceptedProfile p) where
         no-shorter = λ k h. omega arith;
       }
 
-  written-strip
-      : (items : List ℕ) → listRule items .number ≡ 0 → ReadsClear p (streamOf p items) (written items) (stated p)
-  written-strip items lists =
-      let strip = changed-strip items 0 (omega arith) (streamOf p items) (unmoved items) lists in
-      record { reads = strip .reads; clear = omega arith }
-
   -- the one-byte list that margin + 1 breaks
   broken-strip : Broken p (suc (stated p)) → ExactlyClear p (stated p)
   broken-strip x =
-      let stream = one-byte-is-written p (x .byte) (x .is-byte) in
+      let one = x .byte ∷ [] in
       let listed = one-byte-is-listed (x .byte) (x .is-byte) in
-      let here = getD (byteStream p (x .byte ∷ [])) (x .place) 0 in
       let broken =
-      broken-is-not-cleared p accepts here (suc (stated p)) (x .moved) (x .not-longer) (x .not-shorter)
-      (x .other-class) in
-      let among = least-is-no-more-than-each p (byteStream p (x .byte ∷ [])) (x .place) (x .in-stream) in
-      let most : leastClearance p (streamOf p (x .byte ∷ [])) ≤ stated p = rw stream (omega arith) in
-      let least = written-strip (x .byte ∷ []) (listed .passes) .clear in
+      broken-is-not-cleared p accepts (getD (byteStream p one) (x .place) 0) (suc (stated p)) (x .moved) (x .not-longer)
+      (x .not-shorter) (x .other-class) in
+      let among = least-is-no-more-than-each p (byteStream p one) (x .place) (x .in-stream) in
+      let most : leastClearance p (streamOf p one) ≤ stated p =
+      rw (one-byte-is-written p (x .byte) (x .is-byte)) (omega arith) in
+      let least = changed-strip one 0 (omega arith) _ (unmoved one) (listed .passes) .clear in
       record { byte = x .byte; accepted = listed; exactly = omega arith }
-
-  some-strip : ExactlyClear p (stated p)
-  some-strip =
-      let same = stated-is-the-margin p accepts in
-      broken-strip (above-margin-is-broken (kept p accepts) (suc (stated p)) (omega arith))
 
 pub how-near : HowNear
 how-near =
@@ -131,8 +104,12 @@ how-near =
       strips = λ p accepts.
           record {
             changed-strip = λ items lists c few changed moved. changed-strip p accepts items c few changed moved lists;
-            written-strip = written-strip p accepts;
-            some-strip = some-strip p accepts;
+            written-strip = λ items lists.
+                let strip = changed-strip p accepts items 0 (omega arith) _ (unmoved p accepts items) lists in
+                record { reads = strip .reads; clear = let least = strip .clear in omega arith };
+            some-strip =
+                let same = stated-is-the-margin p accepts in
+                broken-strip p accepts (above-margin-is-broken (kept p accepts) (suc (stated p)) (omega arith));
           };
       strip-has-intervals = strip-has-intervals;
       field-has-intervals = field-has-intervals;

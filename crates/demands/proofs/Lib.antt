@@ -1,12 +1,6 @@
 pub mod OrderLaws
-pub mod ProfileOrder
-pub mod ReportOrder
-pub mod ImageOrder
-pub mod IndexOrder
-pub mod MergeOrder
 pub mod UnreadLaws
 pub mod StopLaws
-pub mod LentLaws
 pub mod Demand1
 pub mod SettledCases
 pub mod ListLaws

@@ -18,6 +18,7 @@ use Rattle.symbols.specs.Strip.{stripRule}
 use Rattle.intervals.specs.Cells.{edgeRule, cellsRead}
 use Rattle.codec.specs.Reader.{itemsOfStream, readRule, readOutput}
 use Rattle.demands.specs.Streams.{ReadsAs}
+use Rattle.demands.proofs.Demand1.{demand-1}
 
 -- each test in its turn
 pub record Passed (p : Profile) (ds : List ℕ) (room : ℕ) : Type 0 where
@@ -30,46 +31,30 @@ pub record Passed (p : Profile) (ds : List ℕ) (room : ℕ) : Type 0 where
 pub passed-of-accepted : (p : Profile) (ds : List ℕ) (room : ℕ) → readRule p ds room .number ≡ 0 → Passed p ds room
 unfolding readRule
 passed-of-accepted p ds room h =
-    let after-1-2 = first-refusal-accepts (profileRule p) _ h in
-    let after-4 = refuse-if-accepts (ltb 51202 (length ds)) 3 0 _ (after-1-2 .1) in
-    let after-5-6 = first-refusal-accepts (edgeRule (classesOf p ds)) _ (after-4 .1) in
-    let after-8 = first-refusal-accepts (stripRule (cellsRead p ds)) _ (after-5-6 .1) in
-    let after-9 = refuse-if-accepts _ 8 0 _ (after-8 .1) in
+    let (profile, after-2) = first-refusal-accepts (profileRule p) _ h in
+    let (short, after-4) = refuse-if-accepts (ltb 51202 (length ds)) 3 0 _ after-2 in
+    let (edges, after-6) = first-refusal-accepts (edgeRule (classesOf p ds)) _ after-4 in
+    let (strip, after-8) = first-refusal-accepts (stripRule (cellsRead p ds)) _ after-6 in
+    let (enough, after-9) = refuse-if-accepts _ 8 0 _ after-8 in
     record {
-      profile = after-1-2 .0;
-      short = ltb-false 51202 (length ds) (after-4 .0);
-      edges = after-5-6 .0;
-      strip = after-8 .0;
-      enough = ltb-false room (length (itemsOfStream p ds)) (after-9 .0);
+      profile = profile;
+      short = ltb-false 51202 (length ds) short;
+      edges = edges;
+      strip = strip;
+      enough = ltb-false room (length (itemsOfStream p ds)) enough;
     }
 
-pub accepted-of-passed
+accepted-of-passed
     : (p : Profile) (ds : List ℕ) (room : ℕ)
     → Passed p ds room
     → readRule p ds room ≡ accepted (length (itemsOfStream p ds))
 unfolding readRule
 accepted-of-passed p ds room q =
-    first-refusal-passes (profileRule p) _ (q .profile)
-    ∙ refuse-if-passes (ltb 51202 (length ds)) 4 0 _ (le-ltb 51202 (length ds) (q .short))
-    ∙ first-refusal-passes (edgeRule (classesOf p ds)) _ (q .edges)
-    ∙ first-refusal-passes (stripRule (cellsRead p ds)) _ (q .strip)
-    ∙ refuse-if-passes (ltb room (length (itemsOfStream p ds))) 9 0 _
-    (le-ltb room (length (itemsOfStream p ds)) (q .enough))
+    rw (q .profile, le-ltb 51202 _ (q .short), q .edges, q .strip, le-ltb room _ (q .enough))
 
 -- a stream that passes reads as its list
 pub reads-as-its-list
-    : (p : Profile) (ds output ws : List ℕ)
-    → Passed p ds (length output)
-    → itemsOfStream p ds ≡ ws
-    → ReadsAs p ds output ws
-unfolding readOutput filled
-reads-as-its-list p ds output ws q e =
+    : (p : Profile) (ds output : List ℕ) → Passed p ds (length output) → ReadsAs p ds output (itemsOfStream p ds)
+reads-as-its-list p ds output q =
     let answer = accepted-of-passed p ds (length output) q in
-    record {
-      answer = answer ∙ ap (λ (us : List ℕ). accepted (length us)) e;
-      front = ap (take (length ws))
-          (acceptance-fills-the-buffer (readRule p ds (length output)) (itemsOfStream p ds) output
-          (ap (λ a. a .number) answer)
-          ∙ ap (λ (us : List ℕ). filled us output) e)
-          ∙ take-append-seam ws _;
-    }
+    record { answer = answer; front = demand-1 .strip-output p ds output .front (ap (λ a. a .number) answer) }

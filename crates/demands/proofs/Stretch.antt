@@ -23,12 +23,6 @@ in-one-unit : (c z u t : ℕ) → 2 * c + z ≡ u → c * (2 * t) + z * t ≡ u 
 in-one-unit c z u t e = cc (mul-assoc c 2 t, mul-comm c 2, add-mul (2 * c) z t)
 
 module _ (p : Profile) (k : Kept p) (items : List ℕ) where
-  by-cells
-      : trackLength p items + 2 * firstPointOf p items
-      ≡ length (streamOf p items) * p .t1 .0 + zerosOf items * p .t0 .0 + 2 * lastPointOf p items
-  unfolding streamOf
-  by-cells = sum-of-stream p k (written items)
-
   units : 2 * length (streamOf p items) + zerosOf items ≡ 16 * writtenBytes items + 4
   unfolding streamOf
   units = cc (units-of-stream p k (written items), units-of-written (written items), length-of-written items)
@@ -37,31 +31,27 @@ module _ (p : Profile) (k : Kept p) (items : List ℕ) where
       : p .t1 .0 ≡ 2 * p .t0 .0
       → trackLength p items + 2 * firstPointOf p items
       ≡ (16 * writtenBytes items + 4) * p .t0 .0 + 2 * lastPointOf p items
+  unfolding streamOf
   by-written-bytes double =
-      let cells = length (streamOf p items) in cc (by-cells, double, in-one-unit cells _ _ _ units)
-
--- both sums lie between (16n + 4) × T0 and that with 2 × (Late − Early) added
-within-one-swing
-    : (sum other whole first last first-too last-too early normal late : ℕ)
-    → sum + 2 * first ≡ whole + 2 * last
-    → other + 2 * first-too ≡ whole + 2 * last-too
-    → (early ≤ first) × (last ≤ late)
-    → (first-too ≤ normal) × (normal ≤ last-too)
-    → sum ≤ other + 2 * (late - early)
-within-one-swing sum other whole first last first-too last-too early normal late e f a b = omega arith
+      cc (sum-of-stream p k (written items), double, in-one-unit (length (streamOf p items)) _ _ _ units)
 
 pub compensation-stretches-nothing : CompensationStretchesNothing
+unfolding streamOf
 compensation-stretches-nothing p accepts =
     let k = kept p accepts in
     record {
-      by-cells-and-zeros = λ items listed. by-cells p k items;
+      by-cells-and-zeros = λ items listed. sum-of-stream p k (written items);
       in-units = λ items listed. units p k items;
       by-bytes = λ double items listed. by-written-bytes p k items double;
+      -- both sums lie between (16n + 4) × T0 and that with 2 × (Late − Early) added
       near-each-other = λ double items others listed listed-too same.
-          let bytes = ap (λ (n : ℕ). (16 * n + 4) * p .t0 .0 + 2 * lastPointOf p others) (sym same) in
-          within-one-swing (trackLength p items) (trackLength p others) _ (firstPointOf p items) (lastPointOf p items)
-          (firstPointOf p others) (lastPointOf p others) (p .early .0) (p .normal .0) (p .late .0)
-          (by-written-bytes p k items double) (by-written-bytes p k others double ∙ bytes)
-          (first-point-is-early p k (written items) .0, last-point-is-late p k (written items) .1)
-          (first-point-is-early p k (written others) .1, last-point-is-late p k (written others) .0);
+          let sum = rw same at (by-written-bytes p k items double) in
+          let other = by-written-bytes p k others double in
+          omega (
+            arith,
+            first-point-is-early p k (written items),
+            last-point-is-late p k (written items),
+            first-point-is-early p k (written others),
+            last-point-is-late p k (written others),
+          );
     }

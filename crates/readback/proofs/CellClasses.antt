@@ -1,12 +1,12 @@
 -- The classes of cells: of a sync, of a mark A1, and of the gap between the fields, in which no run of 64 stands. They
 -- are the cells of those bytes, one class for each. Rests on no axiom.
-use Prim.Native.Nat.{ℕ, zero, suc, _+_, _<_}
+use Prim.Native.Nat.{ℕ, zero, suc, _+_, _<_, _-_}
 use mathlib.Core.Path.{_≡_, refl, sym, ap, _∙_}
 use mathlib.Core.Bool.{true, false}
-use mathlib.Core.List.{List, [], _∷_, _++_, map, map-append}
+use mathlib.Core.List.{List, _∷_, _++_, map, map-append, append-assoc, []}
 use native.Mathlib.Omega.{arith}
 use lib.ListN.{length, getD, drop, replicate, length-append, length-map, length-replicate, getD-replicate}
-use lib.ListN.{List·getD-append}
+use lib.ListN.{List·getD-append, length-drop}
 use lib.Seq.{drop-at, getD-append-add}
 use Rattle.timing.specs.Class.{classesOf}
 use Rattle.timing.specs.declared.Profile.{Profile}
@@ -45,7 +45,7 @@ abbrev pub classesFor : List ℕ → List Class
 classesFor ws = map classOfUnits (writtenCells ws)
 
 pub cells-classes : (ws : List ℕ) → classesFor ws ≡ map classOfCell (cells ws)
-cells-classes ws = cc (cells-units ws, classes-of-cells (cells ws))
+cells-classes ws = cc (cells-units ws, classes-of-cells (cells ws) .0)
 
 -- ---- sync, mark and gap
 
@@ -86,7 +86,7 @@ pub filler-classes
     → map classOfCell xs ≡ fillerClasses b n ++ (replicate 95 Two ++ classesFor ws)
 unfolding classOfUnits
 filler-classes b n ws xs no-gap h =
-    sym (classes-of-cells xs)
+    sym (classes-of-cells xs .0)
     ∙ ap (map classOfUnits) (filler-is-read b n (replicate 11 0x00 ++ ws) xs no-gap h
     ∙ ap (λ (us : List ℕ). fillerAfter b n ++ (replicate 7 2 ++ us)) (cells-of-zero-bytes 11 ws))
     ∙ map-append classOfUnits (fillerAfter b n) _
@@ -104,47 +104,36 @@ pub classes-from
 classes-from p ds before rest k h long = cc (classes-of-drop p k ds, drop-at before rest k long)
 
 -- the classes after a run of class 2, where a list is classed as from its start on
-module _ (p : Profile) (ds : List ℕ) (front rest : List Class) (m : ℕ) where
-  abbrev run : List Class
-  run = replicate (suc m) Two
+pub classes-after-run
+    : (p : Profile) (ds : List ℕ) (front rest : List Class) (n : ℕ)
+    → 0 < n
+    → classesOf p ds ≡ front ++ (replicate n Two ++ rest)
+    → classesOf p (drop (length front + n) ds) ≡ rest
+classes-after-run p ds front rest n some h =
+    let run : List Class = front ++ replicate n Two in
+    let last : ℕ = length front + (n - 1) in
+    let next : length front + n ≡ suc last = omega arith in
+    let whole : classesOf p ds ≡ run ++ rest = h ∙ sym (append-assoc front _ rest) in
+    let long : length run ≡ suc last = simp (length-append, length-replicate) next in
+    let all = sym (classes-length p ds) ∙ ap length whole ∙ length-append run rest in
+    let two : getD (classesOf p ds) last Narrow ≡ Two =
+    rw whole
+    (List·getD-append run rest Narrow last (omega arith)
+    ∙ getD-append-add front (replicate n Two) (n - 1) Narrow
+    ∙ getD-replicate n (n - 1) Two Narrow (omega arith)) in
+    cc (classes-after-two p ds last (omega arith) two, drop-at run rest (suc last) long)
 
-  module _ (h : classesOf p ds ≡ (front ++ run) ++ rest) where
-    run-length : length (front ++ run) ≡ suc (length front + m)
-    run-length = simp (length-append, length-replicate) (omega arith)
-
-    run-inside : length front + m < length ds
-    run-inside =
-        let all = sym (classes-length p ds) ∙ ap length h ∙ length-append (front ++ run) rest in
-        let long = run-length in
-        omega arith
-
-    last-is-two : getD (classesOf p ds) (length front + m) Narrow ≡ Two
-    last-is-two =
-        let long = run-length in
-        rw h (List·getD-append (front ++ run) rest Narrow (length front + m) (omega arith)
-        ∙ getD-append-add front run m Narrow
-        ∙ getD-replicate (suc m) m Two Narrow (omega arith))
-
-    pub classes-after-run : (k : ℕ) → length (front ++ run) ≡ k → classesOf p (drop k ds) ≡ rest
-    classes-after-run k long =
-        let next : k ≡ suc (length front + m) = sym long ∙ run-length in
-        cc (
-          classes-after-two p ds (length front + m) run-inside last-is-two,
-          drop-at (front ++ run) rest (suc (length front + m)) run-length,
-        )
-
--- the place after a byte 00, by the classes before what follows
-pub place-after-zero
-    : (us ws : List ℕ) (before : List Class)
-    → classesFor (us ++ (0x00 ∷ ws)) ≡ before ++ classesFor ws
-    → placeAfter (us ++ (0x00 ∷ [])) ≡ length before
+-- the place from which on the intervals are those of bytes behind a byte 00: so many cells stand before them
+pub place-is
+    : (p : Profile) (changed before us ws : List ℕ) (k : ℕ)
+    → classesOf p changed ≡ classesFor (before ++ (us ++ (0x00 ∷ ws)))
+    → classesOf p (drop k changed) ≡ classesFor ws
+    → k < length changed
+    → placeAfter (before ++ (us ++ (0x00 ∷ []))) ≡ k
 unfolding cellsBefore
-place-after-zero us ws before h =
-    let all : List ℕ = writtenCells (us ++ (0x00 ∷ ws)) in
-    let split : length all ≡ placeAfter (us ++ (0x00 ∷ [])) + length (writtenCells ws) =
-    ap length (cells-after-byte us ws 0x00 (omega arith) refl)
-    ∙ length-append (cellsBefore (us ++ (0x00 ∷ []))) (writtenCells ws) in
-    let same : length all ≡ length before + length (classesFor ws) =
-    cc (length-map all classOfUnits, length-append before (classesFor ws)) in
-    let follow : length (classesFor ws) ≡ length (writtenCells ws) = length-map (writtenCells ws) classOfUnits in
-    omega arith
+place-is p changed before us ws k whole there within =
+    let split = ap length (simp append-assoc at (cells-after-byte (before ++ us) ws 0x00 (omega arith) refl)) in
+    let bytes : List ℕ = before ++ (us ++ (0x00 ∷ ws)) in
+    let all = sym (classes-length p changed) ∙ ap length whole ∙ length-map (writtenCells bytes) classOfUnits in
+    let left = sym (classes-length p (drop k changed)) ∙ ap length there ∙ length-map (writtenCells ws) classOfUnits in
+    omega (arith, length-append (cellsBefore (before ++ (us ++ (0x00 ∷ [])))) (writtenCells ws), length-drop k changed)

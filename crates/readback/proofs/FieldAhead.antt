@@ -3,9 +3,9 @@
 use Prim.Native.Nat.{ℕ, suc, _+_, _≤_}
 use mathlib.Core.Path.{_≡_, sym, ap, _∙_}
 use mathlib.Core.Bool.{true, false}
-use mathlib.Core.List.{List, [], _∷_, _++_, map, map-append, append-assoc}
+use mathlib.Core.List.{List, _∷_, _++_, map, map-append, []}
 use native.Mathlib.Omega.{arith}
-use lib.ListN.{length, drop, replicate, length-append, length-map, length-replicate}
+use lib.ListN.{length, drop, replicate, length-map}
 use lib.Seq.{drop-drop}
 use Rattle.lists.specs.Place.{everywhere}
 use Rattle.refusal.specs.Answer.{accepted}
@@ -38,7 +38,7 @@ pub record SyncAhead (p : Profile) (changed : List ℕ) (start : ℕ) (ws : List
   pub filler : List Class
   pub more : ℕ
   pub no-run : passes 0 filler ≡ true
-  pub classes : classesOf p (drop start changed) ≡ filler ++ (replicate (suc (more + 63)) Two ++ classesFor ws)
+  pub classes : classesOf p (drop start changed) ≡ filler ++ (replicate (more + 64) Two ++ classesFor ws)
 
 -- bytes that begin where a field has ended
 pub record BytesAhead (p : Profile) (changed : List ℕ) (start : ℕ) (ws : List ℕ) : Type 0 where
@@ -81,34 +81,21 @@ module _
     abbrev field : List ℕ
     field = withCheck (A1 ∷ ws)
 
-    abbrev run : ℕ
-    run = ahead .more + 64
-
     abbrev on : ℕ
-    on = length (ahead .filler) + run
+    on = length (ahead .filler) + (ahead .more + 64)
 
     abbrev at : ℕ
     at = start + on
 
-    run-is : suc (ahead .more + 63) ≡ run
-    run-is = omega arith
-
     first-lock : lockFrom (classesOf p (drop start changed)) 0 ≡ accepted on
     first-lock =
-        let (rest-classes, mark) = mark-classes _ in
-        ap (λ (cs : List Class). lockFrom cs 0) (ahead .classes
-        ∙ ap (λ (n : ℕ). ahead .filler ++ (replicate n Two ++ classesFor (field ++ rest))) run-is
-        ∙ ap (λ (cs : List Class). ahead .filler ++ (replicate run Two ++ cs)) mark)
-        ∙ lock-after-filler (ahead .filler) (ahead .more) rest-classes (ahead .no-run)
-
-    on-is : length (ahead .filler ++ replicate (suc (ahead .more + 63)) Two) ≡ on
-    on-is = cc (length-append (ahead .filler) _, length-replicate (suc (ahead .more + 63)) Two, run-is)
+        let (rest-classes, mark) = mark-classes (drop 1 (field ++ rest)) in
+        cc (ahead .classes, mark, lock-after-filler (ahead .filler) (ahead .more) rest-classes (ahead .no-run))
 
     there : classesOf p (drop at changed) ≡ classesFor (field ++ rest)
     there =
         ap (classesOf p) (sym (drop-drop on start changed))
-        ∙ classes-after-run p (drop start changed) (ahead .filler) (classesFor (field ++ rest)) (ahead .more + 63)
-        (ahead .classes ∙ sym (append-assoc (ahead .filler) _ (classesFor (field ++ rest)))) on on-is
+        ∙ classes-after-run p (drop start changed) (ahead .filler) _ (ahead .more + 64) (omega arith) (ahead .classes)
 
     all : List Cell
     all = cells (field ++ rest)

@@ -4,8 +4,8 @@ pub mod CellClasses
 -- A field with its check bytes, a field and a sector ahead of a search
 pub mod CheckedField
 pub mod FieldAhead
-pub mod SectorAhead
 pub mod FieldIndexed
+pub mod SectorAhead
 -- The law of one sector
 pub mod SectorReads
 -- No lock in data, and the page with every dot raised

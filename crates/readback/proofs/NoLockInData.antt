@@ -4,7 +4,7 @@
 use Prim.Native.Nat.{ℕ, _<_}
 use mathlib.Core.Path.{_≡_, refl, _∙_}
 use mathlib.Core.Bool.{Bool, true, false, cond}
-use mathlib.Core.List.{List, [], _∷_, map}
+use mathlib.Core.List.{List, _∷_, []}
 use mathlib.Core.Logic.{⊎-elim}
 use native.Mathlib.Omega.{arith}
 use lib.ListN.{drop}
@@ -13,7 +13,6 @@ use Rattle.lists.proofs.PlaceLaws.{anywhere-of-none, anywhere-of-append, nowher
 use Rattle.timing.specs.Class.{classesOf}
 use Rattle.timing.specs.declared.Profile.{Profile}
 use Rattle.timing.proofs.ClassLaws.{classes-of-drop}
-use Rattle.timing.proofs.ProfileLaws.{kept}
 use Rattle.items.specs.Item.{isMark}
 use Rattle.register.specs.Register.{highByte, lowByte}
 use Rattle.items.specs.Written.{freshCheck, itemBytes, afterItem, writtenFrom, written}
@@ -24,9 +23,7 @@ use Rattle.items.proofs.WrittenLaws.{item-bytes-of-check, item-bytes-of-byte, w
 use Rattle.symbols.specs.Bits.{O, I, byteBits, writtenBits, allBits}
 use Rattle.symbols.specs.Bytes.{isGap}
 use Rattle.symbols.specs.Reading.{readBits}
-use Rattle.intervals.proofs.CellLaws.{classOfCell}
 use Rattle.lengths.specs.Stream.{streamOf}
-use Rattle.lengths.proofs.StreamLaws.{length-fits}
 use Rattle.fields.specs.Lock.{lockAt}
 use Rattle.fields.proofs.MarkLaws.{no-lock-without-gap}
 use Rattle.fields.proofs.FirstLockLaws.{none-is-found}
@@ -35,6 +32,7 @@ use Rattle.demands.specs.Demand3.{stated}
 use Rattle.demands.proofs.Demand3.{moved-has-classes}
 use Rattle.readback.specs.NoLockInData.{NoLock, DataAlone, NoLockInData}
 use Rattle.readback.proofs.CellClasses.{cells, cells-bits, cells-classes}
+use Rattle.demands.proofs.HowNear.{unmoved, within-the-margin}
 
 -- ---- the letters of data bytes
 
@@ -45,17 +43,7 @@ letter-is-no-gap false = refl
 data-bits-have-no-gap : (w : ℕ) → isMark w ≡ false → anywhere isGap (writtenBits w) ≡ false
 unfolding anywhere writtenBits byteBits
 data-bits-have-no-gap w e =
-    rw (
-      e,
-      letter-is-no-gap,
-      letter-is-no-gap,
-      letter-is-no-gap,
-      letter-is-no-gap,
-      letter-is-no-gap,
-      letter-is-no-gap,
-      letter-is-no-gap,
-      letter-is-no-gap,
-    )
+    simp (e, letter-is-no-gap)
 
 all-bits-have-no-gap : (ws : List ℕ) → anywhere isMark ws ≡ false → anywhere isGap (allBits ws) ≡ false
 unfolding allBits
@@ -105,14 +93,16 @@ written-has-no-mark ns e = no-mark-from freshCheck ns fresh-bound e
 
 module _ (p : Profile) (accepts : AcceptedProfile p) (items : List ℕ) (data-alone : DataAlone items) where
   module _ (changed : List ℕ) (moved : Moved (stated p) (streamOf p items) changed) where
-    classes-are : classesOf p changed ≡ map classOfCell (cells (written items))
-    classes-are = moved-has-classes p accepts items changed moved ∙ cells-classes (written items)
-
     -- that a search from the middle has the classes of the whole rests on edges that are the same for each interval
     none-stands : (start k : ℕ) → lockAt (classesOf p (drop start changed)) k ≡ false
     unfolding readBits
     none-stands start k =
-        rw (classes-of-drop p start changed, classes-are) (no-lock-without-gap O (cells (written items))
+        rw (
+          classes-of-drop p start changed,
+          moved-has-classes p accepts items changed moved,
+          cells-classes (written items),
+        )
+        (no-lock-without-gap O (cells (written items))
         (data-is-read-without-gap (written items) (written-has-no-mark items (data-alone .no-marks))) start k)
 
     moved-has-no-lock : NoLock p changed
@@ -122,20 +112,7 @@ module _ (p : Profile) (accepts : AcceptedProfile p) (items : List ℕ) (data-al
           adrift = λ start. none-is-found p changed start accepts (none-stands start);
         }
 
-  unmoved : Moved (stated p) (streamOf p items) (streamOf p items)
-  unfolding streamOf
-  unmoved =
-      record {
-        as-many = refl;
-        sixteen-bits = length-fits (kept p accepts) (written items);
-        no-longer = λ k h. omega arith;
-        no-shorter = λ k h. omega arith;
-      }
-
-  written-has-no-lock
-      : NoLock p (streamOf p items)
-      × ((changed : List ℕ) → Moved (stated p) (streamOf p items) changed → NoLock p changed)
-  written-has-no-lock = (moved-has-no-lock (streamOf p items) unmoved, moved-has-no-lock)
-
 pub no-lock-in-data : NoLockInData
-no-lock-in-data = written-has-no-lock
+no-lock-in-data p accepts items data-alone =
+    let stays = within-the-margin p accepts items 0 (omega arith) _ (unmoved p accepts items) in
+    (moved-has-no-lock p accepts items data-alone _ stays, moved-has-no-lock p accepts items data-alone)

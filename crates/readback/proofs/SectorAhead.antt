@@ -1,69 +1,33 @@
 -- A made sector that a search has ahead of it: its ID field is found, behind it its data field, and behind that the
 -- gap. Rests on no axiom.
-use Prim.Native.Nat.{ℕ, _+_, _≤_, _<_}
-use mathlib.Core.Path.{_≡_, refl, sym, ap, _∙_}
-use mathlib.Core.List.{List, [], _∷_, _++_}
+use Prim.Native.Nat.{ℕ, _+_}
+use mathlib.Core.Path.{_≡_, refl, _∙_}
+use mathlib.Core.List.{List, _∷_, _++_, []}
 use native.Mathlib.Omega.{arith}
-use lib.ListN.{length, take, drop, replicate, take-append-drop}
-use lib.Seq.{length-take-le}
+use lib.ListN.{length, drop, replicate}
 use Rattle.timing.specs.Class.{classesOf}
 use Rattle.timing.specs.declared.Profile.{Profile}
-use Rattle.timing.specs.declared.Class.{Class}
-use Rattle.timing.proofs.ClassLaws.{classes-length, classes-of-drop}
 use Rattle.items.specs.Item.{isMark}
 use Rattle.symbols.specs.Bits.{byteBits, writtenBits, allBits}
 use Rattle.fields.specs.Field.{fieldUsed}
 use Rattle.sectors.specs.Sector.{sectorSize}
 use Rattle.sectors.proofs.SectorCounts.{size-of-code, size-at-most-1024}
 use Rattle.demands.specs.Streams.{AcceptedProfile}
-use Rattle.readback.specs.SectorReads.{placeAfter, withCheck, Made}
+use Rattle.readback.specs.SectorReads.{placeAfter}
 use Rattle.readback.specs.TrackIndexed.{Sector}
-use Rattle.readback.proofs.WrittenSector.{A1, idBytes, dataBytes, id-bytes, data-bytes}
-use Rattle.readback.proofs.CellClasses.{classesFor, sync-classes, no-run-of-none, place-after-zero}
+use Rattle.readback.proofs.WrittenSector.{A1, idBytes, dataBytes, id-bytes, data-bytes, MadeOf, datas, fromData}
+use Rattle.readback.proofs.WrittenSector.{fromId, ids, afterId}
+use Rattle.readback.proofs.CellClasses.{classesFor, sync-classes, no-run-of-none, place-is}
 use Rattle.readback.proofs.CheckedField.{checked-length}
 use Rattle.readback.proofs.FieldAhead.{SyncAhead, BytesAhead, FieldFound, gap-and-sync, field-found}
+use Rattle.readback.proofs.FieldIndexed.{lock-within}
 
--- ---- the sector's fields
+module _ (s : Sector) (made : MadeOf s) where
+  size-is : length (s .bytes) ≡ sectorSize (s .code)
+  size-is = size-of-code (s .track) (s .side) (s .sector) (s .code) (s .bytes) (made .fits)
 
-abbrev pub MadeOf : Sector → Type 0
-MadeOf s = Made (s .track) (s .side) (s .sector) (s .code) (s .bytes)
-
-module _ (s : Sector) where
-  abbrev pub idRest : List ℕ
-  idRest = idBytes (s .track) (s .side) (s .sector) (s .code) (s .bytes)
-
-  abbrev pub dataRest : List ℕ
-  dataRest = dataBytes (s .track) (s .side) (s .sector) (s .code) (s .bytes)
-
-  abbrev pub ids : List ℕ
-  ids = withCheck (A1 ∷ idRest)
-
-  abbrev pub datas : List ℕ
-  datas = withCheck (A1 ∷ dataRest)
-
-  -- from the data's marks on, and from the ID's marks on, up to the bytes of other sectors
-  abbrev pub fromData : List ℕ → List ℕ
-  fromData rest = datas ++ (replicate 54 0x4e ++ rest)
-
-  abbrev pub fromId : List ℕ → List ℕ
-  fromId rest = ids ++ (replicate 22 0x4e ++ (replicate 12 0x00 ++ fromData rest))
-
-  -- what stands between the two fields, and behind them
-  abbrev pub afterId : List ℕ → List ℕ
-  afterId rest = replicate 22 0x4e ++ (replicate 12 0x00 ++ fromData rest)
-
-  module _ (made : MadeOf s) where
-    size-is : length (s .bytes) ≡ sectorSize (s .code)
-    size-is = size-of-code (s .track) (s .side) (s .sector) (s .code) (s .bytes) (made .fits)
-
-    pub data-count : length datas ≡ sectorSize (s .code) + 6
-    data-count = let size = size-is in checked-length (A1 ∷ dataRest) ∙ omega arith
-
-    data-is-short : length dataRest + 3 ≤ 1030
-    data-is-short =
-        let size = size-is in
-        let most = size-at-most-1024 (s .code) in
-        omega arith
+  pub data-count : length (datas s) ≡ sectorSize (s .code) + 6
+  data-count = checked-length (A1 ∷ dataBytes s) ∙ omega (arith, size-is)
 
 -- ---- found one after the other
 
@@ -81,28 +45,22 @@ module _
     (rest : List ℕ) (ahead : SyncAhead p changed start (fromId s rest))
   where
     id-found : FieldFound p changed start (ids s) (afterId s rest)
-    id-found =
-        field-found p accepts changed start (idRest s) (afterId s rest)
-        (id-bytes (s .track) (s .side) (s .sector) (s .code) (s .bytes) made) (omega arith) ahead
+    id-found = field-found p accepts changed start (idBytes s) (afterId s rest) (id-bytes s made) (omega arith) ahead
 
     abbrev id-end : ℕ
     id-end = endOf p changed (id-found .place) 10
 
-    id-behind : BytesAhead p changed id-end (afterId s rest)
-    unfolding allBits writtenBits byteBits isMark
-    id-behind = id-found .behind _ refl
-
     data-found : FieldFound p changed id-end (datas s) (replicate 54 0x4e ++ rest)
+    unfolding allBits writtenBits byteBits isMark
     data-found =
-        field-found p accepts changed id-end (dataRest s) (replicate 54 0x4e ++ rest)
-        (data-bytes (s .track) (s .side) (s .sector) (s .code) (s .bytes) made) (data-is-short s made)
-        (gap-and-sync p changed id-end 21 (fromData s rest) id-behind)
+        let size = size-is s made in
+        let most = size-at-most-1024 (s .code) in
+        field-found p accepts changed id-end (dataBytes s) (replicate 54 0x4e ++ rest) (data-bytes s made) (omega arith)
+        (gap-and-sync p changed id-end 21 (fromData s rest) (id-found .behind _ refl))
 
     pub fields-found : FieldsFound p changed start s rest
     unfolding allBits writtenBits byteBits isMark
     fields-found = record { id = id-found; contents = data-found; behind = data-found .behind _ refl }
-
--- ---- places
 
 -- a sync at the front of a list is ahead of a search from 0
 pub sync-at-front
@@ -112,17 +70,20 @@ pub sync-at-front
 sync-at-front p changed ws whole =
     record { filler = []; more = 32; no-run = no-run-of-none; classes = whole ∙ sync-classes ws }
 
--- the place from which on the intervals are those of bytes behind a byte 00
-pub place-is
-    : (p : Profile) (changed us ws : List ℕ) (k : ℕ)
-    → classesOf p changed ≡ classesFor (us ++ (0x00 ∷ ws))
-    → classesOf p (drop k changed) ≡ classesFor ws
-    → k < length changed
-    → placeAfter (us ++ (0x00 ∷ [])) ≡ k
-place-is p changed us ws k whole there within =
-    let cs : List Class = classesOf p changed in
-    let long = classes-length p changed in
-    place-after-zero us ws (take k cs) (sym whole
-    ∙ sym (take-append-drop k cs)
-    ∙ ap (λ (rest : List Class). take k cs ++ rest) (sym (classes-of-drop p k changed) ∙ there))
-    ∙ length-take-le k cs (omega arith)
+-- ---- the places of a sector behind other bytes
+
+module _
+    {p : Profile} {changed : List ℕ} {start : ℕ} {s : Sector} {rest : List ℕ} (before : List ℕ)
+    (whole : classesOf p changed ≡ classesFor (before ++ (replicate 12 0x00 ++ fromId s rest)))
+    (f : FieldsFound p changed start s rest)
+  where
+    pub id-place : placeAfter (before ++ replicate 12 0x00) ≡ f .id .place
+    id-place =
+        place-is p changed before (replicate 11 0x00) (fromId s rest) _ whole (f .id .classes) (lock-within (f .id))
+
+    pub data-place
+        : placeAfter (before ++ (replicate 12 0x00 ++ (ids s ++ (replicate 22 0x4e ++ replicate 12 0x00))))
+        ≡ f .contents .place
+    data-place =
+        place-is p changed before (replicate 12 0x00 ++ (ids s ++ (replicate 22 0x4e ++ replicate 11 0x00)))
+        (fromData s rest) _ whole (f .contents .classes) (lock-within (f .contents))

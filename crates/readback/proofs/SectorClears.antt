@@ -83,11 +83,16 @@ module _ (track side sector code : ℕ) (bytes : List ℕ) (made : Made track si
               (read .data-reads);
         }
 
-    written-sector : SectorClears track side sector code bytes p stream (stated p)
-    written-sector =
-        let items = sectorItems track side sector code bytes in
-        let sector = changed-sector 0 (omega arith) stream (unmoved p accepts items) in
-        record { id-clear = omega arith; data-clear = omega arith }
-
 pub made-sectors-clear : MadeSectorsClear
-made-sectors-clear = record { changed-sector = changed-sector; written-sector = written-sector }
+made-sectors-clear =
+    record {
+      changed-sector = changed-sector;
+      written-sector = λ track side sector code bytes made p accepts.
+          let items = sectorItems track side sector code bytes in
+          let clears =
+          changed-sector track side sector code bytes made p accepts 0 (omega arith) _ (unmoved p accepts items) in
+          record {
+            id-clear = let least = clears .id-clear in omega arith;
+            data-clear = let least = clears .data-clear in omega arith;
+          };
+    }

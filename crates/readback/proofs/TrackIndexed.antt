@@ -1,18 +1,15 @@
 -- Why a track of made sectors is indexed: each sector is written as if it stood alone, so each is ahead of the search
 -- that the sector before it leaves, and behind the last one no lock stands. Rests on no axiom.
-use Prim.Native.Nat.{ℕ, suc}
-use mathlib.Core.Path.{_≡_, refl, sym, ap, ap₂, _∙_}
+use Prim.Native.Nat.{ℕ, suc, _≤_}
+use mathlib.Core.Path.{_≡_, refl, sym, ap, _∙_}
 use mathlib.Core.Bool.{false}
-use mathlib.Core.List.{List, [], _∷_, _++_, append-assoc}
+use mathlib.Core.List.{List, _∷_, _++_, append-assoc, []}
 use native.Mathlib.Omega.{arith}
 use borrow.Author.Tests.{le-ltb}
-use lib.Dec.{ltb}
 use lib.ListN.{length, drop, replicate}
 use Rattle.lists.specs.Place.{anywhere}
 use Rattle.refusal.specs.Answer.{accepted}
 use Rattle.refusal.specs.declared.Refusal.the-variants.{NoLock}
-use Rattle.refusal.proofs.AnswerLaws.{first-refusal-passes}
-use Rattle.timing.specs.Profile.{profileRule}
 use Rattle.timing.specs.Class.{classesOf}
 use Rattle.timing.specs.declared.Profile.{Profile}
 use Rattle.items.specs.Item.{isMark, writtenBytes}
@@ -22,26 +19,25 @@ use Rattle.items.specs.declared.Check.{Check}
 use Rattle.items.proofs.WrittenLaws.{written-from-none}
 use Rattle.symbols.specs.Bits.{O, byteBits, writtenBits, allBits}
 use Rattle.symbols.specs.Bytes.{isGap}
-use Rattle.lengths.specs.Stream.{streamOf}
 use Rattle.fields.specs.Lock.{lockAt}
 use Rattle.fields.proofs.MarkLaws.{no-lock-without-gap}
 use Rattle.fields.proofs.FirstLockLaws.{none-is-found}
 use Rattle.track.specs.Index.{entriesFrom, entriesOf, crowdRule, indexRule, handedBack, indexEntries}
 use Rattle.track.specs.declared.Entry.{Entry}
 use Rattle.track.proofs.SearchLaws.{refused-is-no-lock, search-ends}
-use Rattle.demands.specs.Streams.{AcceptedProfile, Moved}
-use Rattle.demands.specs.Demand3.{stated}
+use Rattle.demands.specs.Streams.{AcceptedProfile}
 use Rattle.demands.proofs.Demand3.{moved-has-classes}
 use Rattle.readback.specs.NoLockInData.{DataAlone}
-use Rattle.readback.specs.SectorReads.{placeAfter, idField, dataField}
+use Rattle.readback.specs.SectorReads.{idField}
 use Rattle.readback.specs.TrackIndexed.{Sector, itemsOfSector, Makes, AllMade, trackItems, entryBehind}
-use Rattle.readback.specs.TrackIndexed.{entriesBehind, MadeTracksAreIndexed}
-use Rattle.readback.proofs.WrittenSector.{sector-written, sector-written-before}
+use Rattle.readback.specs.TrackIndexed.{entriesBehind, TrackIndexed, MadeTracksAreIndexed}
+use Rattle.readback.proofs.WrittenSector.{sector-written, sector-written-before, fromId}
 use Rattle.readback.proofs.CellClasses.{classesFor}
 use Rattle.readback.proofs.FieldAhead.{SyncAhead, BytesAhead, gap-and-sync}
-use Rattle.readback.proofs.SectorAhead.{ids, fromData, fromId, sync-at-front, place-is}
-use Rattle.readback.proofs.SectorIndexed.{made-of, listedAs, SectorFound, sector-found}
+use Rattle.readback.proofs.SectorAhead.{sync-at-front, FieldsFound, fields-found, data-place, id-place}
+use Rattle.readback.proofs.SectorIndexed.{made-of, dataEnd, sector-listed}
 use Rattle.readback.proofs.NoLockInData.{no-lock-in-data}
+use Rattle.fields.proofs.FillerLaws.{passes}
 
 -- ---- the written bytes
 
@@ -50,49 +46,32 @@ bytesOf [] = []
 bytesOf (s ∷ ss) = replicate 12 0x00 ++ fromId s (bytesOf ss)
 
 track-written : (c : Check) (ss : List Sector) → AllMade ss → writtenFrom c (trackItems ss) ≡ bytesOf ss
-unfolding trackItems bytesOf idField dataField
+unfolding trackItems bytesOf
 track-written c [] made = written-from-none c
 track-written c (s ∷ ss) (makes, made) =
-    let (after, all) =
-    sector-written-before (s .track) (s .side) (s .sector) (s .code) (s .bytes) (made-of s makes) c (trackItems ss) in
+    let (after, all) = sector-written-before s (made-of s makes) c (trackItems ss) in
     all ∙ ap (λ (rest : List ℕ). replicate 12 0x00 ++ fromId s rest) (track-written after ss made)
 
 -- one sector and what follows it
 sector-then
     : (s : Sector) (makes : Makes s) (before rest : List ℕ)
     → before ++ (replicate 12 0x00 ++ fromId s rest) ≡ (before ++ written (itemsOfSector s)) ++ rest
-unfolding idField dataField
-sector-then s makes before rest =
-    ap (λ (us : List ℕ). before ++ us) (sym
-    (ap (λ (us : List ℕ). us ++ rest)
-    (sector-written (s .track) (s .side) (s .sector) (s .code) (s .bytes) (made-of s makes))
-    ∙ simp append-assoc))
-    ∙ sym (append-assoc before (written (itemsOfSector s)) rest)
+sector-then s makes before rest = rw (sector-written s (made-of s makes)) (simp append-assoc)
 
 module _ (p : Profile) (accepts : AcceptedProfile p) (changed : List ℕ) where
-  module _ (before : List ℕ) (s : Sector) (rest : List ℕ) where
-    abbrev Whole : Type 0
-    Whole = classesOf p changed ≡ classesFor (before ++ (replicate 12 0x00 ++ fromId s rest))
+  abbrev Whole : List ℕ → Sector → List ℕ → Type 0
+  Whole before s rest = classesOf p changed ≡ classesFor (before ++ (replicate 12 0x00 ++ fromId s rest))
 
-    entry-is
-        : {start : ℕ}
-        → Whole
-        → (f : SectorFound p changed start s rest)
-        → listedAs s (f .id-place) (f .data-place) ≡ entryBehind before s
-    unfolding idField
-    entry-is whole f =
-        let to-data : List ℕ = replicate 12 0x00 ++ (ids s ++ (replicate 22 0x4e ++ replicate 11 0x00)) in
-        let id : placeAfter (before ++ replicate 12 0x00) ≡ f .id-place =
-        ap placeAfter (sym (append-assoc before (replicate 11 0x00) (0x00 ∷ [])))
-        ∙ place-is p changed (before ++ replicate 11 0x00) (fromId s rest) (f .id-place)
-        (whole ∙ ap classesFor (sym (append-assoc before (replicate 11 0x00) (0x00 ∷ fromId s rest)))) (f .id-classes)
-        (f .id-within) in
-        let data-there =
-        ap placeAfter (sym (append-assoc before to-data (0x00 ∷ [])))
-        ∙ place-is p changed (before ++ to-data) (fromData s rest) (f .data-place)
-        (whole ∙ ap classesFor (sym (append-assoc before to-data (0x00 ∷ fromData s rest)))) (f .data-classes)
-        (f .data-within) in
-        ap₂ (listedAs s) (sym id) (sym data-there)
+  -- a sector's entry, and those of what follows it
+  sector-first
+      : {start : ℕ} {rest : List ℕ} {tail : List Entry} (before : List ℕ) (s : Sector) (makes : Makes s)
+      → Whole before s rest
+      → (f : FieldsFound p changed start s rest)
+      → entriesFrom p changed (dataEnd makes f) ≡ tail
+      → entriesFrom p changed start ≡ entryBehind before s ∷ tail
+  unfolding idField
+  sector-first before s makes whole f e =
+      cc (sector-listed makes f, id-place before whole f, data-place before whole f)
 
   -- ---- behind the last sector
 
@@ -118,17 +97,14 @@ module _ (p : Profile) (accepts : AcceptedProfile p) (changed : List ℕ) where
       → entriesFrom p changed start ≡ entriesBehind before (s ∷ ss)
   unfolding bytesOf entriesBehind
   sectors-listed s [] (makes, made) before start ahead whole =
-      let f = sector-found p accepts changed start s makes [] ahead in
-      f .listed
-      ∙ ap₂ (λ (e : Entry) (rest : List Entry). e ∷ rest) (entry-is before s [] whole f)
-      (nothing-behind (f .next) (f .behind))
+      let f = fields-found p accepts changed start s (made-of s makes) [] ahead in
+      sector-first before s makes whole f (nothing-behind _ (f .behind))
   sectors-listed s (next ∷ ss) (makes, made) before start ahead whole =
       let rest : List ℕ = replicate 12 0x00 ++ fromId next (bytesOf ss) in
-      let f = sector-found p accepts changed start s makes rest ahead in
-      f .listed
-      ∙ ap₂ (λ (e : Entry) (rest : List Entry). e ∷ rest) (entry-is before s rest whole f)
-      (sectors-listed next ss made (before ++ written (itemsOfSector s)) (f .next)
-      (gap-and-sync p changed (f .next) 53 (fromId next (bytesOf ss)) (f .behind))
+      let f = fields-found p accepts changed start s (made-of s makes) rest ahead in
+      sector-first before s makes whole f
+      (sectors-listed next ss made (before ++ written (itemsOfSector s)) (dataEnd makes f)
+      (gap-and-sync p changed _ 53 (fromId next (bytesOf ss)) (f .behind))
       (whole ∙ ap classesFor (sector-then s makes before rest)))
 
 -- ---- the track
@@ -138,46 +114,32 @@ unfolding entriesBehind
 as-many before [] = refl
 as-many before (s ∷ ss) = ap suc (as-many _ ss)
 
--- the whole track, from its first sync on
-whole-track
-    : (s : Sector) (ss : List Sector)
-    → AllMade (s ∷ ss)
-    → (p : Profile)
-    → AcceptedProfile p
-    → (changed : List ℕ)
-    → Moved (stated p) (streamOf p (trackItems (s ∷ ss))) changed
-    → classesOf p changed ≡ classesFor (replicate 12 0x00 ++ fromId s (bytesOf ss))
-unfolding written bytesOf
-whole-track s ss made p accepts changed moved =
-    moved-has-classes p accepts (trackItems (s ∷ ss)) changed moved
-    ∙ ap classesFor (track-written freshCheck (s ∷ ss) made)
-
 nothing-is-data : DataAlone []
 unfolding listRule writtenBytes anywhere
 nothing-is-data = record { passes = refl; no-marks = refl }
 
-all-listed
-    : (ss : List Sector)
-    → AllMade ss
-    → (p : Profile)
+indexed-by-entries
+    : (ss : List Sector) (p : Profile) (changed : List ℕ)
+    → length ss ≤ 32
     → AcceptedProfile p
-    → (changed : List ℕ)
-    → Moved (stated p) (streamOf p (trackItems ss)) changed
     → entriesOf p changed ≡ entriesBehind [] ss
-unfolding entriesOf entriesBehind trackItems
-all-listed [] made p accepts changed moved =
-    let none = no-lock-in-data p accepts [] nothing-is-data .1 changed moved in
-    search-ends p changed 0 (refused-is-no-lock p changed 0 NoLock (sym (none .adrift 0)))
-all-listed (s ∷ ss) made p accepts changed moved =
-    let whole = whole-track s ss made p accepts changed moved in
-    sectors-listed p accepts changed s ss made [] 0 (sync-at-front p changed (fromId s (bytesOf ss)) whole) whole
+    → TrackIndexed p changed ss
+unfolding indexRule crowdRule indexEntries handedBack
+indexed-by-entries ss p changed few accepts all =
+    let count = as-many [] ss in
+    let answer : indexRule p changed ≡ accepted (length ss) =
+    rw (accepts, all, le-ltb 32 (length (entriesBehind [] ss)) (omega arith), count) in
+    record { answer = answer; entries = rw (answer, all) }
 
 pub made-tracks-are-indexed : MadeTracksAreIndexed
-unfolding indexRule crowdRule indexEntries handedBack
-made-tracks-are-indexed ss few made p accepts changed moved =
-    let all = all-listed ss made p accepts changed moved in
-    let count = as-many [] ss in
-    let fit : ltb 32 (length (entriesBehind [] ss)) ≡ false = le-ltb 32 (length (entriesBehind [] ss)) (omega arith) in
-    let answer : indexRule p changed ≡ accepted (length ss) =
-    first-refusal-passes (profileRule p) (crowdRule (entriesOf p changed)) accepts ∙ rw (all, fit, count) in
-    record { answer = answer; entries = rw (answer, all) }
+unfolding entriesOf entriesBehind trackItems written bytesOf
+made-tracks-are-indexed [] few made p accepts changed moved =
+    let none = no-lock-in-data p accepts [] nothing-is-data .1 changed moved in
+    indexed-by-entries [] p changed few accepts
+    (search-ends p changed 0 (refused-is-no-lock p changed 0 NoLock (sym (none .adrift 0))))
+made-tracks-are-indexed (s ∷ ss) few made p accepts changed moved =
+    let whole : Whole p accepts changed [] s (bytesOf ss) =
+    moved-has-classes p accepts (trackItems (s ∷ ss)) changed moved
+    ∙ ap classesFor (track-written freshCheck (s ∷ ss) made) in
+    indexed-by-entries (s ∷ ss) p changed few accepts
+    (sectors-listed p accepts changed s ss made [] 0 (sync-at-front p changed (fromId s (bytesOf ss)) whole) whole)

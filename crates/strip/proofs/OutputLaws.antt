@@ -9,7 +9,6 @@ use Rattle.lists.specs.Filled.{filled, storedAt}
 use Rattle.lists.proofs.StoreLaws.{stored-after-stored, stored-at-front-fills}
 use Rattle.refusal.specs.Answer.{Answer}
 use Rattle.text.specs.Ascii.{ascii}
-use Rattle.text.specs.Decimal.{decimal}
 use Rattle.text.specs.Line.{lineOf}
 use Rattle.text.proofs.PrintLaws.{decimal-within}
 use Rattle.text.proofs.LineLaws.{fields-length-of-none, fields-length-of-more, line-length}
@@ -39,28 +38,8 @@ printed-is-front text before after r p =
     omega (arith, p .size, ap length (p .output), length-append text (drop (length text) before)) in
     (fits, sym (length-take-le r after fits))
 
--- a line of one, two or three numbers
-line-of-one : (word : List ℕ) (a : ℕ) → length (lineOf word (a ∷ [])) ≡ length word + length (decimal a) + 2
-line-of-one word a = line-length word (a ∷ []) ∙ omega (arith, fields-length-of-more a [], fields-length-of-none)
-
-line-of-two : (word : List ℕ) (a b : ℕ)
-    → length (lineOf word (a ∷ b ∷ [])) ≡ length word + length (decimal a) + length (decimal b) + 3
-line-of-two word a b =
-    line-length word (a ∷ b ∷ [])
-    ∙ omega (arith, fields-length-of-more a (b ∷ []), fields-length-of-more b [], fields-length-of-none)
-
-line-of-three : (word : List ℕ) (a b c : ℕ)
-    → length (lineOf word (a ∷ b ∷ c ∷ []))
-    ≡ length word + length (decimal a) + length (decimal b) + length (decimal c) + 4
-line-of-three word a b c =
-    line-length word (a ∷ b ∷ c ∷ [])
-    ∙ omega (
-      arith,
-      fields-length-of-more a (b ∷ c ∷ []),
-      fields-length-of-more b (c ∷ []),
-      fields-length-of-more c [],
-      fields-length-of-none,
-    )
+-- how long a line is, by its numbers
+ruleset lineSizes = (line-length, fields-length-of-more, fields-length-of-none)
 
 -- the numbers of a refusal fit 32 bits
 pub refusal-fits : (answer : Answer)
@@ -69,12 +48,8 @@ pub refusal-fits : (answer : Answer)
     → length (refusalText answer) ≤ outputLength
 unfolding refusalText
 refusal-fits answer h k =
-    omega (
-      arith,
-      line-of-two (ascii "refused") (answer .number) (answer .place),
-      decimal-within 9 (answer .number) (omega arith),
-      decimal-within 9 (answer .place) (omega arith),
-    )
+    simp lineSizes
+    (omega (arith, decimal-within 9 (answer .number) (omega arith), decimal-within 9 (answer .place) (omega arith)))
 
 class-is-a-digit : (c : Class) → classNumber c < 10
 class-is-a-digit Narrow = omega arith
@@ -86,13 +61,13 @@ class-is-a-digit Wide = omega arith
 cell-length : (place : ℕ) (c : Class) (d : ℕ) → place < 10000 → d < 65536 → length (cellText place c d) ≤ 18
 unfolding cellText
 cell-length place c d h k =
-    omega (
+    simp lineSizes
+    (omega (
       arith,
-      line-of-three (ascii "cell") place (classNumber c) d,
       decimal-within 3 place h,
       decimal-within 0 (classNumber c) (class-is-a-digit c),
       decimal-within 4 d (omega arith),
-    )
+    ))
 
 -- 18 bytes for each cell
 cells-length : (k : ℕ) (cs : List Class) (ds : List ℕ)
@@ -147,38 +122,40 @@ module _ (c : Cursor) (stream : List ℕ) (k : ℕ) (h : k < length stream) wher
       cc (stored-after-stored (cellHere c k stream) (cellsAfter c k stream) out end next e, cells-next)
 
 -- the report is its three parts, and fits
+abbrev pub marginLine : ℕ → List ℕ
+marginLine margin = lineOf (ascii "margin") (margin ∷ [])
+
+abbrev pub endLine : List ℕ → List ℕ
+endLine stream = lineOf (ascii "end") (length stream ∷ [])
+
 module _ (p : Profile) (margin : ℕ) (stream : List ℕ) where
+  abbrev pub reportSize : ℕ
+  reportSize = length (marginLine margin) + length (streamText p stream) + length (endLine stream)
+
   pub report-fits : margin < 2 ^ 64
       → length stream ≤ 4098
       → ((i : ℕ) → getD stream i 0 < 65536)
-      → length (lineOf (ascii "margin") (margin ∷ []))
-      + length (streamText p stream) + length (lineOf (ascii "end") (length stream ∷ [])) ≤ outputLength
+      → reportSize ≤ outputLength
   unfolding streamText
   report-fits h few fits =
-      omega (
+      simp lineSizes
+      (omega (
         arith,
-        line-of-one (ascii "margin") margin,
         decimal-within 19 margin (omega arith),
         cells-length 0 (classesOf p stream) stream (omega arith) fits,
-        line-of-one (ascii "end") (length stream),
         decimal-within 3 (length stream) (omega arith),
-      )
+      ))
 
-  pub report-length :
-      length (reportText p margin stream)
-      ≡ length (lineOf (ascii "margin") (margin ∷ [])) + length (streamText p stream)
-      + length (lineOf (ascii "end") (length stream ∷ []))
+  pub report-length : length (reportText p margin stream) ≡ reportSize
   unfolding reportText
   report-length = simp length-append
 
   pub report-stored : (out : List ℕ) (cells end : ℕ)
-      → cells ≡ 0 + length (lineOf (ascii "margin") (margin ∷ []))
+      → cells ≡ 0 + length (marginLine margin)
       → end ≡ cells + length (streamText p stream)
-      → storedAt
-      (storedAt (storedAt out 0 (lineOf (ascii "margin") (margin ∷ []))) cells (streamText p stream)) end
-      (lineOf (ascii "end") (length stream ∷ []))
+      → storedAt (storedAt (storedAt out 0 (marginLine margin)) cells (streamText p stream)) end (endLine stream)
       ≡ storedAt out 0 (reportText p margin stream)
   unfolding reportText
   report-stored out cells end e k =
       rw (stored-after-stored _ _ out 0 cells e) (stored-after-stored _ _ out 0 end
-      (omega (arith, length-append (lineOf (ascii "margin") (margin ∷ [])) (streamText p stream))))
+      (omega (arith, length-append (marginLine margin) (streamText p stream))))

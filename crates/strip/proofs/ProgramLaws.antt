@@ -8,16 +8,10 @@ use native.Mathlib.Omega.{arith}
 use lib.Dec.{eqb, ltb}
 use lib.ListN.{length, take, length-take}
 use lib.Seq.{take-all}
-use borrow.Author.Tests.{lt-ltb, le-ltb, eq-eqb, ltb-true, ltb-false}
-use Rattle.lists.specs.Filled.{filled}
+use borrow.Author.Tests.{lt-ltb, le-ltb, ltb-true, ltb-false}
 use Rattle.lists.proofs.StoreLaws.{front-of-filled}
 use Rattle.refusal.specs.Answer.{Answer, accepted, refused, firstRefusal}
-use Rattle.refusal.specs.Table.{numberOf, placeOf}
-use Rattle.refusal.specs.declared.Refusal.{Refusal}
-use Rattle.refusal.proofs.AnswerLaws.{number-is-not-zero, refusal-decides, first-refusal-accepts}
-use Rattle.refusal.proofs.AnswerLaws.{refused-earlier, accepted-later}
-use Rattle.refusal.proofs.AnswerLaws.{first-refusal-passes, refuse-if-accepts, refuse-if-passes}
-use Rattle.refusal.proofs.AnswerLaws.{acceptance-fills-the-buffer}
+use Rattle.refusal.proofs.AnswerLaws.{first-refusal-accepts}
 use Rattle.timing.specs.Profile.{profileRule}
 use Rattle.timing.specs.declared.Profile.{Profile}
 use Rattle.items.specs.Item.{writtenBytes}
@@ -27,48 +21,10 @@ use Rattle.items.proofs.ItemLaws.{written-bytes-bounds}
 use Rattle.items.proofs.WrittenLaws.{length-of-written}
 use Rattle.symbols.proofs.UnitLaws.{cells-at-most}
 use Rattle.lengths.specs.Stream.{byteStream, streamOf}
-use Rattle.lengths.specs.Margin.{marginOf, marginRule}
 use Rattle.lengths.proofs.StreamLaws.{stream-is-as-long-as-its-cells}
 use Rattle.codec.specs.Writer.{streamRule, writeRule, writeOutput}
-use Rattle.script.specs.Input.{inputRule, profileIn, itemsIn}
-use Rattle.strip.specs.Output.{refusalText, reportText}
-use Rattle.strip.specs.Program.{scriptRule, scriptText, programRule, programText}
-
--- what the margin operation's answer says of the profile
-pub margin-refused : (p : Profile) (r : Refusal)
-    → refused (numberOf r) (placeOf r) ≡ marginRule p
-    → refused (numberOf r) (placeOf r) ≡ profileRule p
-unfolding marginRule
-margin-refused p r e = refused-earlier r (profileRule p) (marginOf p) e
-
-pub margin-accepted : (p : Profile) (m : ℕ) → accepted m ≡ marginRule p → (profileRule p .number ≡ 0) × (m ≡ marginOf p)
-unfolding marginRule
-margin-accepted p m e = accepted-later _ m _ e
-
--- the text of a refused and of an accepted script
-module _ (p : Profile) (items : List ℕ) where
-  pub refused-script-text : (r : Refusal)
-      → refused (numberOf r) (placeOf r) ≡ scriptRule p items
-      → scriptText p items ≡ refusalText (refused (numberOf r) (placeOf r))
-  unfolding scriptText
-  refused-script-text r e = rw (← e, number-is-not-zero r)
-
-  pub accepted-script-text : scriptRule p items .number ≡ 0
-      → scriptText p items ≡ reportText p (marginOf p) (streamOf p items)
-  unfolding scriptText
-  accepted-script-text e = rw eq-eqb
-
-  -- 1 and 2
-  pub profile-refuses-script : (r : Refusal)
-      → refused (numberOf r) (placeOf r) ≡ profileRule p
-      → refused (numberOf r) (placeOf r) ≡ scriptRule p items
-  unfolding scriptRule
-  profile-refuses-script r e = refusal-decides r (profileRule p) _ e
-
-  -- 4, above 512 written bytes
-  pub long-list-is-refused : profileRule p .number ≡ 0 → 512 < writtenBytes items → scriptRule p items ≡ refused 4 0
-  unfolding scriptRule
-  long-list-is-refused e h = rw (eq-eqb, lt-ltb)
+use Rattle.strip.specs.Output.{refusalText}
+use Rattle.strip.specs.Program.{scriptRule, scriptText}
 
 -- 512 written bytes have at most 4,098 cells
 module _ (p : Profile) (items : List ℕ) (h : writtenBytes items ≤ 512) where
@@ -85,29 +41,26 @@ module _ (p : Profile) (items : List ℕ) (h : writtenBytes items ≤ 512) where
       rw (le-ltb 512 (writtenBytes items) h, le-ltb 4098 (length (byteStream p (written items))) stream-fits)
 
   module _ (n : ℕ) (e : accepted n ≡ scriptRule p items) where
-    pub script-count : n ≡ length (streamOf p items)
+    script-count : n ≡ length (streamOf p items)
     unfolding scriptRule
     script-count =
-        let true-profile = first-refusal-accepts (profileRule p) _ (sym (ap (λ (a : Answer). a .number) e)) in
-        let short = refuse-if-accepts (ltb 512 (writtenBytes items)) 3 0 _ (true-profile .1) in
-        let listed = first-refusal-accepts (listRule items) (accepted (length (streamOf p items))) (short .1) in
-        ap (λ (a : Answer). a .count) (e
-        ∙ first-refusal-passes (profileRule p) _ (true-profile .0)
-        ∙ refuse-if-passes (ltb 512 (writtenBytes items)) 4 0 _ (short .0)
-        ∙ first-refusal-passes (listRule items) (accepted (length (streamOf p items))) (listed .0))
+        let short = le-ltb 512 (writtenBytes items) h in
+        let (fair, rest) = first-refusal-accepts (profileRule p) _ (sym (ap (λ (a : Answer). a .number) e)) in
+        let listed = first-refusal-accepts (listRule items) _ (rw short at rest) .0 in
+        ap (λ (a : Answer). a .count) (rw (fair, short, listed) at e)
 
     -- and its output begins with the stream
-    pub stream-written : (old : List ℕ) → length old ≡ 4098 → take n (writeOutput p items old) ≡ streamOf p items
+    pub stream-written
+        : (old : List ℕ)
+        → length old ≡ 4098
+        → (n ≤ 4098) × (take n (writeOutput p items old) ≡ streamOf p items)
     unfolding writeOutput
     stream-written old size =
         let answer : writeRule p items (length old) .number ≡ 0 =
-        rw (size, writer-answers) (sym (ap (λ (a : Answer). a .number) e)) in
-        ap (take n) (acceptance-fills-the-buffer (writeRule p items (length old)) (streamOf p items) old answer)
-        ∙ ap (λ (k : ℕ). take k (filled (streamOf p items) old)) script-count
-        ∙ front-of-filled (streamOf p items) old
-
-    pub few-cells : n ≤ 4098
-    few-cells = omega (arith, script-count, stream-fits)
+        rw (size, writer-answers) (sym (ap (λ (a : Answer). a .number) e)) in (
+          omega (arith, script-count, stream-fits),
+          rw (answer, script-count) (front-of-filled (streamOf p items) old),
+        )
 
 -- a list that is longer than 512 is refused whatever stands beyond its first 513 items
 long-script-text : (p : Profile) (items : List ℕ)
@@ -124,29 +77,12 @@ long-script-text p items h = rw (lt-ltb 512 (writtenBytes items) h, never-accept
 
 pub first-items-decide : (p : Profile) (items : List ℕ) → scriptText p (take 513 items) ≡ scriptText p items
 first-items-decide p items =
-    by-test (ltb 513 (length items)) (ltb-true 513 (length items)) (ltb-false 513 (length items))
-  where
-    by-test : (t : Bool)
-        → (t ≡ true → 513 < length items)
-        → (t ≡ false → length items ≤ 513)
-        → scriptText p (take 513 items) ≡ scriptText p items
-    by-test true long short =
-        long-script-text p (take 513 items)
-        (omega (arith, long refl, length-take 513 items, written-bytes-bounds (take 513 items) .0))
-        ∙ sym (long-script-text p items (omega (arith, long refl, written-bytes-bounds items .0)))
-    by-test false long short = ap (scriptText p) (take-all 513 items (short refl))
-
--- 14 comes before all else
-module _ (text : List ℕ) where
-  pub garbled-input-text : (r : Refusal) (n : ℕ)
-      → refused (numberOf r) (placeOf r) ≡ firstRefusal (inputRule text) (accepted n)
-      → programText text ≡ refusalText (refused (numberOf r) (placeOf r))
-  unfolding programText programRule
-  garbled-input-text r n e =
-      rw (← refusal-decides r (inputRule text) _ (refused-earlier r (inputRule text) n e), number-is-not-zero r)
-
-  pub read-input-text : (m n : ℕ)
-      → accepted m ≡ firstRefusal (inputRule text) (accepted n)
-      → programText text ≡ scriptText (profileIn text) (itemsIn text)
-  unfolding programText programRule scriptText
-  read-input-text m n e = rw (eq-eqb (inputRule text .number) 0 (accepted-later (inputRule text) m n e .0))
+    elim (ltb 513 (length items)) as (λ t.
+    ltb 513 (length items) ≡ t → scriptText p (take 513 items) ≡ scriptText p items) [
+      | true ↦ λ e.
+          let long = ltb-true 513 (length items) e in
+          long-script-text p (take 513 items)
+          (omega (arith, length-take 513 items, written-bytes-bounds (take 513 items) .0))
+          ∙ sym (long-script-text p items (omega (arith, written-bytes-bounds items .0)))
+      | false ↦ λ e. ap (scriptText p) (take-all 513 items (ltb-false 513 (length items) e))
+    ] refl

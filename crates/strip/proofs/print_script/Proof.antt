@@ -3,30 +3,35 @@
 use mathlib.Core.Path.{_≡_, sym, _∙_, ap}
 use native.Mathlib.Omega.{arith}
 use Rattle.refusal.specs.Answer.{countedAnswer}
-use Rattle.refusal.specs.declared.Refusal.the-variants.{TooLong}
-use Rattle.lengths.specs.Margin.{marginOf}
+use Rattle.lengths.specs.Margin.{marginOf, marginRule}
 use Rattle.timing.specs.Profile.{profileRule}
-use Rattle.strip.proofs.ProgramLaws.{margin-refused, margin-accepted, refused-script-text}
-use Rattle.strip.proofs.ProgramLaws.{profile-refuses-script, long-list-is-refused}
 use borrow.Author.Needs.{needs}
 use Rattle.strip.proofs.print_script.Statement.{statement}
+use Rattle.refusal.proofs.AnswerLaws.{accepted-later, refused-earlier, number-is-not-zero}
+use Rattle.strip.specs.Program.{scriptRule, scriptText}
+use borrow.Author.Tests.{lt-ltb}
+use Rattle.items.specs.Item.{writtenBytes}
 use Rattle.strip.proofs.print_script.Tie as tie
 
 -- where the margin operation accepts
 true-profile : (c : tie.After-margin2)
     → let p = c .before .before .before .before .before .args .profile in
     (profileRule p .number ≡ 0) × (c .margin2 .given .0 .0 ≡ marginOf p)
+unfolding marginRule
 true-profile c =
-    margin-accepted _ _ (sym (ap countedAnswer (c .margin2 .given .1)) ∙ c .before .before .margin .ensures)
+    accepted-later _ _ _ (sym (ap countedAnswer (c .margin2 .given .1)) ∙ c .before .before .margin .ensures)
 
 returns : tie.Need-returns
+unfolding scriptText scriptRule
 returns c =
     let counted = c .before .before .before .before .before in
     let given = counted .before .before in
-    let args = given .before .before .before .before .before .args in
-    let long = long-list-is-refused (args .profile) (args .items .now) (true-profile given .0)
-    (omega (arith, counted .written-bytes .ensures, c .before .before .before .before .if1 .taken)) in
-    rw (refused-script-text (args .profile) (args .items .now) TooLong (sym long)) (c .before .before .refuse2 .ensures)
+    let items = given .before .before .before .before .before .args .items .now in
+    rw (
+      true-profile given .0,
+      lt-ltb 512 (writtenBytes items)
+          (omega (arith, counted .written-bytes .ensures, c .before .before .before .before .if1 .taken)),
+    ) (c .before .before .refuse2 .ensures)
 
 print-list-requires : tie.Need-print-list-requires
 print-list-requires c κs =
@@ -35,15 +40,14 @@ print-list-requires c κs =
     (true-profile given, (omega (arith, c .before .if1 .left), start .pre))
 
 returns-2 : tie.Need-returns-2
+unfolding marginRule scriptText scriptRule
 returns-2 c =
     let refusal = c .before .before .before .before .before in
-    let margin = refusal .before .before in
-    let args = margin .before .before .before .args in
     let r = refusal .refusal .given .0 .0 in
-    let rule =
-    margin-refused (args .profile) r (sym (ap countedAnswer (refusal .refusal .given .1)) ∙ margin .margin .ensures) in
-    rw (refused-script-text (args .profile) (args .items .now) r
-    (profile-refuses-script (args .profile) (args .items .now) r rule)) (c .before .before .refuse .ensures)
+    let margin = refusal .before .before in
+    let rule = sym (ap countedAnswer (refusal .refusal .given .1)) ∙ margin .margin .ensures in
+    let same = refused-earlier r (profileRule (margin .before .before .before .args .profile)) _ rule in
+    rw (← same, number-is-not-zero r, number-is-not-zero r) (c .before .before .refuse .ensures)
 
 pub print-script-spec : {M : Type 1} → statement M
 print-script-spec =

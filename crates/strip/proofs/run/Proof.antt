@@ -4,15 +4,15 @@ use Prim.Native.Nat.{_≤_}
 use mathlib.Core.Path.{_≡_, sym, _∙_, ap}
 use lib.ListN.{length, take}
 use lib.Seq.{length-take-le}
-use Rattle.timing.specs.declared.Profile.{Profile}
-use Rattle.script.specs.Input.{itemsIn, profileIn}
+use Rattle.script.specs.Input.{itemsIn, profileIn, inputRule}
 use Rattle.script.specs.Read.{scriptAnswer}
 use Rattle.script.proofs.ScriptLaws.{items-fit, items-stand-in-front}
-use Rattle.strip.specs.Program.{scriptText}
 use Rattle.strip.proofs.OutputLaws.{printed-is-front}
-use Rattle.strip.proofs.ProgramLaws.{first-items-decide, garbled-input-text, read-input-text}
+use Rattle.strip.proofs.ProgramLaws.{first-items-decide}
 use borrow.Author.Needs.{needs}
 use Rattle.strip.proofs.run.Statement.{statement}
+use Rattle.refusal.proofs.AnswerLaws.{accepted-later, number-is-not-zero, refused-earlier}
+use Rattle.strip.specs.Program.{programRule, programText, scriptText}
 use Rattle.strip.proofs.run.Tie as tie
 
 -- where the input is read, the first items stand in the buffer
@@ -29,27 +29,33 @@ slice-aggregate-print-script c =
     let given = c .before .before in sym (length-take-le (given .profile .given .0 .1 .0) _ (fits given))
 
 returns : tie.Need-returns
+unfolding programText programRule
 returns c =
     let refusal = c .before .before .before in
+    let r = refusal .refusal .given .0 .0 in
     let read = refusal .before .before .before in
     let text = read .before .before .before .args .input .now in
-    let rule = sym (ap scriptAnswer (refusal .refusal .given .1)) ∙ read .read .ensures .answer in
-    let same = sym (garbled-input-text text (refusal .refusal .given .0 .0) _ rule) in
-    (rw (← same) (c .refuse .ensures), printed-is-front _ _ _ _ (c .refuse .ensures))
+    let rule = sym (ap scriptAnswer (refusal .refusal .given .1)) ∙ read .read .ensures .answer in (
+      rw (← refused-earlier r (inputRule text) _ rule, number-is-not-zero r, number-is-not-zero r) (c .refuse .ensures),
+      printed-is-front _ _ _ _ (c .refuse .ensures),
+    )
 
 returns-2 : tie.Need-returns-2
+unfolding programText programRule scriptText
 returns-2 c =
     let given = c .before .before .before .before in
     let read = given .before .before .before in
     let text = read .before .before .before .args .input .now in
     let rule = sym (ap scriptAnswer (given .profile .given .1)) ∙ read .read .ensures .answer in
-    let own = read .read .ensures .profile _ _ (given .profile .given .1) in
-    let same =
-    ap (scriptText (given .profile .given .0 .0)) (front given)
-    ∙ ap (λ (q : Profile). scriptText q (take 513 (itemsIn text))) own
-    ∙ first-items-decide (profileIn text) (itemsIn text)
-    ∙ sym (read-input-text text _ _ rule) in
-    (rw (← same) (c .print-script .ensures), printed-is-front _ _ _ _ (c .print-script .ensures))
+    let own = read .read .ensures .profile _ _ (given .profile .given .1) in (
+      rw (
+        accepted-later (inputRule text) _ _ rule .0,
+        ← first-items-decide (profileIn text) (itemsIn text),
+        ← own,
+        ← front given,
+      ) (c .print-script .ensures),
+      printed-is-front _ _ _ _ (c .print-script .ensures),
+    )
 
 pub run-spec : {M : Type 1} → statement M
 run-spec =

@@ -1,14 +1,11 @@
 -- Why `ism::image::ism_read_image` answers as the library does: it hands the arguments over and the answer back.
 -- Rests on no axiom.
-use mathlib.Core.Path.{ap, _∙_}
-use Rattle.ism.specs.Answers.{answerOf}
 use borrow.Author.Needs.{needs}
 use Rattle.ism.proofs.image.ism_read_image.Statement.{statement}
 use Rattle.ism.proofs.image.ism_read_image.Tie as tie
 
-returns : tie.Need-returns
-returns c =
-    let made = c .before .before .before .read-image .ensures in (c .answer .ensures ∙ ap answerOf (made .0), made .1)
-
 pub ism-read-image-spec : {M : Type 1} → statement M
-ism-read-image-spec = tie.close (tie.spec (λ c κs. search needs) (λ c κs. search needs) (λ c. search needs) returns)
+ism-read-image-spec =
+    tie.close
+    (tie.spec (λ c κs. search needs) (λ c κs. search needs) (λ c. search needs)
+    (λ c. let made = c .before .before .before .read-image .ensures in (rw (c .answer .ensures, made .0), made .1)))

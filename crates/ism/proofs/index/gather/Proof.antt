@@ -59,7 +59,6 @@ room c = omega arith
 
 search-holds : tie.Need-search-holds Inv-search μ-search
 search-holds c =
-    let args = c .before .before .before .before .args in
     record {
       fair = verdict-accepts _ _ (c .before .before .check .ensures) (c .enum-told .given .1);
       found = replicate 32 _;

@@ -10,8 +10,8 @@ use Rattle.lists.specs.Filled.{storedAt}
 use Rattle.lists.proofs.StoreLaws.{stored-none}
 use Rattle.timing.specs.declared.cursor.Classed.{Classed}
 use Rattle.strip.specs.Output.{cellText, streamText}
-use Rattle.strip.proofs.OutputLaws.{cellsLeft, cellHere, cellsAfter, cells-of-stream, no-cells-left}
-use Rattle.strip.proofs.OutputLaws.{cells-length-next, cells-stored-next}
+use Rattle.strip.proofs.OutputLaws.{cellsLeft, cellHere, cells-of-stream, no-cells-left, cells-length-next}
+use Rattle.strip.proofs.OutputLaws.{cells-stored-next}
 use Rattle.strip.proofs.output.append_cells.Statement.{statement}
 use Rattle.strip.proofs.output.append_cells.Tie as tie
 
@@ -39,31 +39,28 @@ the-cell : (c : tie.After-step Inv-loop μ-loop)
     ≡ cellHere (turn .loop .cursor) (turn .loop .place) stream
 the-cell c = let turn = c .before .before .before in rw (c .step .ensures)
 
--- its length
-next-length : (c : tie.In-loop Inv-loop μ-loop)
-    → let at = c .before .loop in
-    let stream = c .before .before .before .before .before .args .stream .now in
-    length (cellsLeft (at .cursor) (at .place) stream)
-    ≡ length (cellHere (at .cursor) (at .place) stream) + length (cellsAfter (at .cursor) (at .place) stream)
-next-length c = cells-length-next _ _ _ (c .loop-test .taken)
-
 append-cell-requires : tie.Need-append-cell-requires Inv-loop μ-loop
 append-cell-requires c κs =
     let turn = c .before .before .before in
-    rw (the-cell (c .before)) (omega (arith, next-length turn, ap length (the-text (turn .before .before))))
+    let at = turn .before in
+    let stream = at .before .before .before .before .args .stream .now in
+    let next = cells-length-next (at .loop .cursor) stream (at .loop .place) (turn .loop-test .taken) in
+    rw (the-cell (c .before)) (omega (arith, ap length (the-text (at .before))))
 
 loop-again : tie.Need-loop-again Inv-loop μ-loop
 loop-again c =
     let stepped = c .before .before .before .before .before in
     let turn = stepped .before .before in
     let at = turn .before in
+    let stream = at .before .before .before .before .args .stream .now in
     let call = c .before .before .before .append-cell in
     let cell = the-cell stepped in
     let next = ap (λ (r : Classed). r .next) (stepped .step .ensures) in
+    let long = cells-length-next (at .loop .cursor) stream (at .loop .place) (turn .loop-test .taken) in
     rw (next, add-one (at .loop .place)) (
       turn .loop-test .taken,
       cc,
-      omega (arith, next-length turn, ap length cell),
+      omega (arith, ap length cell),
       rw (call .ensures .1, cell)
           (cells-stored-next _ _ _ (turn .loop-test .taken) (at .loop .out) (at .loop .end) _
           (rw cell at (call .ensures .0))

@@ -16,30 +16,31 @@ use borrow.Author.Needs.{needs}
 use Rattle.strip.proofs.output.refuse.Statement.{statement}
 use Rattle.strip.proofs.output.refuse.Tie as tie
 
-fits : (c : tie.After-place)
-    → let refusal = c .before .before .before .args .refusal in
-    length (refusalText (refused (numberOf refusal) (placeOf refusal))) ≤ outputLength
-fits c =
-    refusal-fits _ (omega (arith, c .before .number .ensures, c .before .number .ok))
-    (omega (arith, c .place .ensures, c .place .ok))
-
 the-text : (c : tie.After-place)
     → let refusal = c .before .before .before .args .refusal in
-    lineOf (ascii "refused") (c .before .number .result ∷ c .place .result ∷ [])
-    ≡ refusalText (refused (numberOf refusal) (placeOf refusal))
+    let text = refusalText (refused (numberOf refusal) (placeOf refusal)) in
+    (lineOf (ascii "refused") (c .before .number .result ∷ c .place .result ∷ []) ≡ text)
+    × (length text ≤ outputLength)
 unfolding refusalText
-the-text c = rw (c .before .number .ensures, c .place .ensures)
+the-text c =
+    let refusal = c .before .before .before .args .refusal in (
+      rw (c .before .number .ensures, c .place .ensures),
+      refusal-fits (refused (numberOf refusal) (placeOf refusal))
+          (omega (arith, c .before .number .ensures, c .before .number .ok))
+          (omega (arith, c .place .ensures, c .place .ok)),
+    )
 
 append-line-requires : tie.Need-append-line-requires
 append-line-requires c κs =
-    let placed = c .before .before .before in omega (arith, ap length (the-text placed), fits placed)
+    let (same, fits) = the-text (c .before .before .before) in omega (arith, ap length same)
 
 returns : tie.Need-returns
 returns c =
     let placed = c .before .before .before .before .before .before in
     let line = c .before .before .append-line in
-    printed-at-front _ (placed .before .before .before .args .out .now) _ _ (rw (the-text placed) at (line .ensures .0))
-    (rw (the-text placed) at (line .ensures .1)) (omega (arith, fits placed))
+    let (same, fits) = the-text placed in
+    printed-at-front _ (placed .before .before .before .args .out .now) _ _ (rw same at (line .ensures .0))
+    (rw same at (line .ensures .1)) (omega arith)
 
 pub refuse-spec : {M : Type 1} → statement M
 refuse-spec =

@@ -1,13 +1,9 @@
 -- Why `strip::report` prints the report: its three parts go one after the other, and at most 4,098 cells leave room
 -- for them. Rests on no axiom.
-use Prim.Native.Nat.{_+_, _≤_}
-use mathlib.Core.List.{[], _∷_}
+use Prim.Native.Nat.{_≤_}
 use native.Mathlib.Omega.{arith}
 use lib.ListN.{length}
-use Rattle.text.specs.Ascii.{ascii}
-use Rattle.text.specs.Line.{lineOf}
-use Rattle.strip.specs.Output.{streamText}
-use Rattle.strip.proofs.OutputLaws.{printed-at-front, report-fits, report-length, report-stored}
+use Rattle.strip.proofs.OutputLaws.{reportSize, printed-at-front, report-fits, report-length, report-stored}
 use borrow.Author.Needs.{needs}
 use Rattle.strip.proofs.output.report.Statement.{statement}
 use Rattle.strip.proofs.output.report.Tie as tie
@@ -15,8 +11,7 @@ use Rattle.strip.proofs.output.report.Tie as tie
 -- the output has room for the three parts
 room : (c : tie.After-shared-slice-known)
     → let args = c .before .args in
-    length (lineOf (ascii "margin") (args .margin ∷ [])) + length (streamText (args .profile) (args .stream .now))
-    + length (lineOf (ascii "end") (length (args .stream .now) ∷ [])) ≤ length (args .out .now)
+    reportSize (args .profile) (args .margin) (args .stream .now) ≤ length (args .out .now)
 room c =
     let args = c .before .args in
     omega (
