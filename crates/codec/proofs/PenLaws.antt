@@ -1,18 +1,18 @@
 -- Why the pen gives the lengths of cells by their neighbours: a one ends a cell, of which the window has the zeros of
 -- the last three, so that the table has the length of the middle one there. Rests on no axiom.
 use Prim.Native.Nat.{ℕ, zero, suc, _+_, _-_, _*_, _/_, _%_, _≤_, _<_}
-use native.Mathlib.Nat.{add-zero}
-use native.Mathlib.Numerals.{add-one}
-use native.Mathlib.Omega.{arith}
 use mathlib.Core.Path.{_≡_, refl, sym, ap, _∙_}
 use mathlib.Core.Bool.{cond}
 use mathlib.Core.List.{List, [], _∷_, _++_}
+use native.Mathlib.Nat.{add-zero}
+use native.Mathlib.Numerals.{add-one}
+use native.Mathlib.Omega.{arith}
 use lib.ListN.{length, getD, drop}
 use Rattle.lists.specs.Filled.{storedAt}
 use Rattle.lists.proofs.StoreLaws.{stored-length}
 use Rattle.lists.proofs.TableLaws.{entry-is-rule}
-use Rattle.symbols.specs.Bits.{Bit, O, I, G, isOne}
 use Rattle.timing.specs.declared.Profile.{Profile}
+use Rattle.symbols.specs.Bits.{Bit, O, I, G, isOne}
 use Rattle.images.specs.Distances.{distancesFrom}
 use Rattle.lengths.specs.Neighbours.{between, nextCell, lengthsBetween}
 use Rattle.lengths.specs.machine.LengthTable.{lengthAt, lengthTable}

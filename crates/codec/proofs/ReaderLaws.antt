@@ -4,9 +4,9 @@ use Prim.Native.Nat.{ℕ, _+_, _-_, _≤_, _<_}
 use mathlib.Core.Path.{_≡_, refl, sym, ap, _∙_}
 use mathlib.Core.List.{List, _++_, map}
 use native.Mathlib.Omega.{arith}
+use native.Mathlib.Nat.{zero-add}
 use lib.Dec.{ltb}
 use lib.ListN.{length, take, drop, length-map}
-use native.Mathlib.Nat.{zero-add}
 use borrow.Author.Tests.{lt-ltb, le-ltb}
 use Rattle.lists.specs.Filled.{storedAt}
 use Rattle.lists.proofs.StoreLaws.{stored-at-front-fills, mapped-at-front}
@@ -16,16 +16,15 @@ use Rattle.refusal.specs.declared.Refusal.{Refusal}
 use Rattle.refusal.specs.declared.Refusal.the-variants.{TooLong, OutputTooShort}
 use Rattle.refusal.specs.declared.Verdict.{Verdict}
 use Rattle.refusal.specs.declared.Verdict.the-variants.{Refused}
-use Rattle.refusal.proofs.AnswerLaws.{first-refusal-passes, refusal-decides}
-use Rattle.refusal.proofs.AnswerLaws.{verdict-refuses, refusal-keeps-the-buffer}
+use Rattle.refusal.proofs.AnswerLaws.{first-refusal-passes, refusal-decides, verdict-refuses, refusal-keeps-the-buffer}
 use Rattle.timing.specs.Profile.{profileRule}
 use Rattle.timing.specs.Class.{atStart, classesOf}
 use Rattle.timing.specs.machine.Edges.{unitsFrom}
 use Rattle.timing.specs.declared.Profile.{Profile}
 use Rattle.timing.proofs.ClassLaws.{classes-from-start, classes-length}
 use Rattle.timing.proofs.EdgeLaws.{accepted-ascends}
-use Rattle.symbols.specs.Strip.{stripRule, stripItems}
 use Rattle.half_cells.specs.machine.Candidate.{candidate}
+use Rattle.symbols.specs.Strip.{stripRule, stripItems}
 use Rattle.symbols.specs.machine.Step.{freshReading, ran, ranWords, stripAnswer}
 use Rattle.symbols.specs.declared.Cell.{Cell}
 use Rattle.symbols.proofs.RoundTripLaws.{rule-of-write, write-of-read}

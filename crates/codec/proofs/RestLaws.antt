@@ -1,12 +1,12 @@
 -- Why the rest of a word is drawn up to its highest one, and from there on: the half cells above it are zeros, and the
 -- number without it has the half cells below. Rests on no axiom.
 use Prim.Native.Nat.{ℕ, zero, suc, _+_, _-_, _*_, _%_, _^_, _≤_, _<_}
-use native.Mathlib.Nat.{zero-add, suc-add, zero-mul, suc-mul, add-mul, pow-succ'}
-use native.Mathlib.Nat.{lt-of-lt-of-le, lt-of-not-le, le-trans, not-le-of-lt, mul-le-mul-right}
-use native.Mathlib.Decide.{decLt}
-use native.Mathlib.Omega.{arith}
 use mathlib.Core.Path.{_≡_, refl, sym, ap, _∙_}
 use mathlib.Core.List.{List, [], _∷_, _++_}
+use native.Mathlib.Nat.{zero-add, suc-add, zero-mul, suc-mul, add-mul, pow-succ', lt-of-lt-of-le, lt-of-not-le}
+use native.Mathlib.Nat.{le-trans, not-le-of-lt, mul-le-mul-right}
+use native.Mathlib.Decide.{decLt}
+use native.Mathlib.Omega.{arith}
 use borrow.Author.Tests.{lt-ltb, le-ltb}
 use lib.ListN.{getD}
 use lib.Pow.{pow-mono, pow-add}

@@ -1,14 +1,15 @@
 -- Why the words of a list, closed, leave its stream: they are its image's half cells, and the distances between their
 -- ones are its cells. Rests on no axiom.
 use Prim.Native.Nat.{ℕ, _+_, _%_, _≤_}
-use native.Mathlib.Omega.{arith}
 use mathlib.Core.Path.{_≡_, refl}
 use mathlib.Core.Bool.{true, false, cond}
 use mathlib.Core.List.{List, [], _∷_, _++_}
+use native.Mathlib.Omega.{arith}
 use lib.Dec.{eqb}
 use lib.ListN.{length, length-append}
 use Rattle.lists.specs.Filled.{storedAt}
 use Rattle.lists.specs.Place.{everywhere}
+use Rattle.timing.specs.declared.Profile.{Profile}
 use Rattle.items.specs.Item.{isByte}
 use Rattle.items.specs.Written.{written}
 use Rattle.items.specs.Rule.{listRule}
@@ -16,7 +17,6 @@ use Rattle.items.proofs.RuleLaws.{listed}
 use Rattle.items.proofs.WrittenLaws.{written-are-bytes}
 use Rattle.symbols.specs.Bits.{Bit, O, I, lastOf}
 use Rattle.symbols.specs.Cells.{writtenCells}
-use Rattle.timing.specs.declared.Profile.{Profile}
 use Rattle.words.specs.Words.{clockBit, lastBit}
 use Rattle.images.specs.Image.{imageOf}
 use Rattle.images.specs.Distances.{imageCells, distancesFrom}
@@ -29,8 +29,8 @@ use Rattle.lengths.proofs.RunLaws.{written-cells-are-short}
 use Rattle.lengths.proofs.StreamLaws.{stream-is-as-long-as-its-cells}
 use Rattle.codec.specs.machine.Pen.{Drawing, drawing, storedLate, ended, passed, drawn, Fits}
 use Rattle.codec.specs.machine.Track.{Writing, writing, freshTrack, wordDrawn, wrote, closingWord, Holds}
-use Rattle.codec.proofs.PenLaws.{drawn-of-append, drawn-length}
-use Rattle.codec.proofs.PenLaws.{fits-before, output-by-cells, cells-by-cells, lengths-one-late}
+use Rattle.codec.proofs.PenLaws.{drawn-of-append, drawn-length, fits-before, output-by-cells, cells-by-cells}
+use Rattle.codec.proofs.PenLaws.{lengths-one-late}
 use Rattle.codec.proofs.TrackLaws.{wrote-length, wrote-is-drawn, last-half-cell-is-last-bit}
 
 -- ---- the closing word

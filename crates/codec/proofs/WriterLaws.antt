@@ -11,11 +11,11 @@ use Rattle.lists.specs.Filled.{storedAt}
 use Rattle.lists.proofs.StoreLaws.{stored-at-front-fills}
 use Rattle.refusal.specs.Answer.{accepted, refused}
 use Rattle.refusal.proofs.AnswerLaws.{first-refusal-passes}
+use Rattle.timing.specs.Profile.{profileRule}
+use Rattle.timing.specs.declared.Profile.{Profile}
 use Rattle.items.specs.Written.{written}
 use Rattle.items.specs.Rule.{listRule}
 use Rattle.symbols.specs.Cells.{writtenCells}
-use Rattle.timing.specs.Profile.{profileRule}
-use Rattle.timing.specs.declared.Profile.{Profile}
 use Rattle.lengths.specs.Stream.{byteStream, streamOf}
 use Rattle.lengths.proofs.StreamLaws.{stream-is-as-long-as-its-cells}
 use Rattle.codec.specs.Writer.{streamRule, writeRule, writeOutput}

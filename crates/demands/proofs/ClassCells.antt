@@ -8,8 +8,8 @@ use Rattle.timing.specs.declared.Class.the-variants.{Narrow, Two, Three, Four, 
 use Rattle.symbols.specs.Reading.{units}
 use Rattle.symbols.specs.declared.Cell.{Cell}
 use Rattle.symbols.specs.declared.Cell.the-variants.{Short, Medium, Long}
-use Rattle.intervals.proofs.CellLaws.{classOfCell}
 use Rattle.lengths.specs.Units.{classOfUnits}
+use Rattle.intervals.proofs.CellLaws.{classOfCell}
 
 -- the class that units ask for is the class that is read as the cell, and has their number
 pub classes-of-cells

@@ -7,46 +7,45 @@ use mathlib.Core.List.{List}
 use mathlib.Core.Logic.{_⊎_, inl, inr, ⊎-elim}
 use native.Mathlib.Omega.{arith}
 use lib.ListN.{length, drop}
+use lib.Dec.{ltb}
+use Rattle.lists.specs.Place.{anywhere}
 use Rattle.refusal.specs.Answer.{accepted, refused}
+use Rattle.refusal.proofs.AnswerLaws.{first-refusal-accepts}
 use Rattle.timing.specs.Class.{classesOf, classRule}
 use Rattle.timing.specs.declared.Profile.{Profile}
 use Rattle.timing.specs.declared.Class.{Class}
-use Rattle.symbols.specs.Strip.{stripRule}
+use Rattle.timing.specs.Profile.{outside, profileRule}
 use Rattle.items.specs.Written.{written}
 use Rattle.items.specs.Rule.{listRule}
+use Rattle.symbols.specs.Strip.{stripRule}
+use Rattle.symbols.specs.Bits.{O}
+use Rattle.images.specs.Image.{imageOf, bytesIn}
+use Rattle.images.specs.Rules.{roomRule, makeRule, makeOutput, wordsRule, readImageRule, readImageOutput}
+use Rattle.images.proofs.ImageLaws.{length-of-image, length-of-bytes}
 use Rattle.lengths.specs.Stream.{streamOf}
 use Rattle.lengths.specs.Margin.{marginRule}
+use Rattle.intervals.specs.Cells.{edgeRule, cellsRead}
 use Rattle.codec.specs.Writer.{streamRule, writeRule, writeOutput}
 use Rattle.codec.specs.Reader.{itemsOfStream, readRule, readOutput}
 use Rattle.fields.specs.Lock.{lockAt, firstLock, lockFrom, countedFrom, searchRule, findRule}
 use Rattle.fields.specs.Field.{fieldStop}
 use Rattle.fields.specs.FieldRule.{gatherRule, deliverRule, checkedRule, fieldRule, fieldOutput}
 use Rattle.fields.proofs.FirstLockLaws.{lock-from-found, adrift-has-no-lock}
+use Rattle.fields.proofs.FieldLaws.{field-items-count}
 use Rattle.sectors.specs.Sector.{isMisfit, sectorRule, sectorOutput}
+use Rattle.merge.specs.Merge.{isCrowded, numbers, atOddsAt}
+use Rattle.merge.specs.Set.{isMisfitSet, sectorsIn}
+use Rattle.merge.specs.Rule.{roomRule as merge-room, mergeRule, mergeAnswer, mergeOutput}
+use Rattle.report.specs.Report.{reportRule, addRule}
+use Rattle.track.specs.Index.{crowdRule, indexRule}
 use Rattle.demands.specs.Order.{accept, turn, at0, Answers}
 use Rattle.demands.specs.Causes.{stripOrder}
 use Rattle.demands.specs.Demand1.{Demand1}
 use Rattle.demands.proofs.OrderLaws.{turn-by-test, turn-before, profile-first, means-below, last-below, means-or}
 use Rattle.demands.proofs.OrderLaws.{means-either, means-at, answers-accepted, answers-here, answers-later}
 use Rattle.demands.proofs.OrderLaws.{first-refusal-of-first, NoCauseOf, not-answered, told-after, told-by-test}
-use Rattle.demands.proofs.OrderLaws.{told-once-accepted}
-use Rattle.demands.proofs.OrderLaws.{told-room, told-if-room, told-bytes, settled-is-lent}
-use Rattle.timing.specs.Profile.{outside, profileRule}
-use Rattle.intervals.specs.Cells.{edgeRule, cellsRead}
+use Rattle.demands.proofs.OrderLaws.{told-once-accepted, told-room, told-if-room, told-bytes, settled-is-lent}
 use Rattle.demands.proofs.StopLaws.{edges-in-turn, stop-in-turn}
-use Rattle.report.specs.Report.{reportRule, addRule}
-use Rattle.refusal.proofs.AnswerLaws.{first-refusal-accepts}
-use Rattle.symbols.specs.Bits.{O}
-use Rattle.images.specs.Image.{imageOf, bytesIn}
-use Rattle.images.specs.Rules.{roomRule, makeRule, makeOutput, wordsRule, readImageRule, readImageOutput}
-use Rattle.images.proofs.ImageLaws.{length-of-image, length-of-bytes}
-use Rattle.track.specs.Index.{crowdRule, indexRule}
-use Rattle.merge.specs.Merge.{isCrowded, numbers, atOddsAt}
-use Rattle.merge.specs.Set.{isMisfitSet, sectorsIn}
-use Rattle.lists.specs.Place.{anywhere}
-use lib.Dec.{ltb}
-use Rattle.merge.specs.Rule.{roomRule as merge-room, mergeRule, mergeAnswer, mergeOutput}
-use Rattle.fields.proofs.FieldLaws.{field-items-count}
 
 -- ---- finder
 

@@ -2,29 +2,26 @@
 -- exactly the cells of the list that it gives, and the cells of every list within the limit read as that list. Rests
 -- on no axiom.
 use Prim.Native.Nat.{ℕ, _≤_}
-use mathlib.Core.Path.{_≡_, refl, sym, ap, _∙_}
+use mathlib.Core.Path.{_≡_, sym, ap, _∙_}
 use mathlib.Core.List.{List}
 use native.Mathlib.Omega.{arith}
 use lib.ListN.{length, length-map}
 use borrow.Author.Tests.{le-ltb}
-use Rattle.refusal.proofs.AnswerLaws.{first-refusal-passes, refuse-if-passes, acceptance-fills-the-buffer}
-use Rattle.timing.specs.Profile.{profileRule}
+use Rattle.refusal.proofs.AnswerLaws.{acceptance-fills-the-buffer}
 use Rattle.timing.specs.Class.{classesOf, classNumber}
 use Rattle.timing.specs.declared.Profile.{Profile}
 use Rattle.timing.proofs.ClassLaws.{classes-length}
 use Rattle.symbols.specs.Strip.{stripItems}
 use Rattle.symbols.proofs.RoundTripLaws.{cells-are-read, read-back, rule-of-write, cells-injective, write-of-read}
 use Rattle.symbols.proofs.UnitLaws.{cells-at-most}
-use Rattle.items.specs.Rule.{listRule}
 use Rattle.lengths.specs.Stream.{byteStream, streamOf}
 use Rattle.intervals.specs.Cells.{cellsRead}
 use Rattle.intervals.proofs.ClassCellLaws.{classes-are-cells, cells-are-classes}
 use Rattle.codec.specs.Writer.{streamRule, writeRule, writeOutput}
-use Rattle.codec.specs.Reader.{itemsOfStream, readRule}
-use Rattle.demands.specs.Streams.{AcceptedProfile, AcceptedList, ReadsAs}
+use Rattle.codec.specs.Reader.{itemsOfStream}
 use Rattle.demands.specs.Demand2.{CellsAreClasses, Demand2}
 use Rattle.demands.proofs.ListLaws.{listed, bytes-are-accepted}
-use Rattle.demands.proofs.ReadLaws.{Passed, passed-of-accepted, reads-as-its-list}
+use Rattle.demands.proofs.ReadLaws.{passed-of-accepted, reads-as-its-list}
 
 -- a stream whose classes are the cells of a list within the limit has no more intervals than a strip may have
 few-intervals : (p : Profile) (ds ws : List ℕ) → CellsAreClasses p ws ds → length ws ≤ 6400 → length ds ≤ 51202

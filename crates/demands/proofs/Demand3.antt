@@ -2,7 +2,7 @@
 -- lists that were written; one half clock beyond it, an interval of a one-byte list changes its class, and other
 -- classes are refused or are another list. Rests on no axiom.
 use Prim.Native.Nat.{ℕ, _<_, _^_}
-use mathlib.Core.Path.{_≡_, refl, sym, ap, subst, _∙_}
+use mathlib.Core.Path.{_≡_, refl}
 use mathlib.Core.Bool.{Bool, true, false}
 use mathlib.Core.List.{List, [], _∷_, map}
 use lib.Dec.{eqb}
@@ -10,8 +10,6 @@ use lib.ListN.{length, getD, length-set}
 use lib.Seq.{getD-set-same, getD-set-other}
 use borrow.Author.Tests.{eqb-true, eqb-false}
 use Rattle.refusal.specs.Answer.{accepted}
-use Rattle.refusal.proofs.AnswerLaws.{first-refusal-passes}
-use Rattle.timing.specs.Profile.{profileRule}
 use Rattle.timing.specs.Class.{classesOf, classNumber}
 use Rattle.timing.specs.declared.Profile.{Profile}
 use Rattle.timing.proofs.ProfileLaws.{kept}
@@ -20,17 +18,15 @@ use Rattle.symbols.specs.Cells.{writtenCells}
 use Rattle.symbols.proofs.RoundTripLaws.{cells-are-read}
 use Rattle.lengths.specs.Stream.{byteStream, streamOf}
 use Rattle.lengths.specs.Units.{classOfUnits}
-use Rattle.lengths.proofs.NearLaws.{Near}
+use Rattle.lengths.proofs.NearLaws.{Near, near-of-each, near-at, near-itself, near-streams-are-equally-long}
 use Rattle.lengths.specs.Margin.{marginOf, marginRule}
 use Rattle.lengths.proofs.WindowLaws.{near-stream-has-classes}
 use Rattle.lengths.proofs.MarginLaws.{Broken, margin-leaves-room, above-margin-is-broken}
 use Rattle.lengths.proofs.BrokenLaws.{brokenStream, broken-stream-is-near, broken-stream-has-other-classes}
-use Rattle.lengths.proofs.NearLaws.{near-of-each, near-at, near-itself, near-streams-are-equally-long}
 use Rattle.lengths.proofs.StreamLaws.{length-fits}
 use Rattle.lengths.proofs.PapersMargin.{margin-is-the-papers, one-byte-is-written}
 use Rattle.codec.specs.Reader.{itemsOfStream, readRule}
-use Rattle.demands.specs.Streams.{AcceptedProfile, AcceptedList, Moved, Misread, turned-away}
-use Rattle.demands.specs.Streams.{another}
+use Rattle.demands.specs.Streams.{AcceptedProfile, AcceptedList, Moved, Misread, turned-away, another}
 use Rattle.demands.specs.Demand2.{CellsAreClasses}
 use Rattle.demands.specs.Demand3.{stated, Demand3}
 use Rattle.demands.proofs.ListLaws.{listed, one-byte-is-listed, written-is-listed, stream-of-written}

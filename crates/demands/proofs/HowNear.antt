@@ -1,27 +1,27 @@
 -- Why a written strip is clear: each length has the margin's room in its window, so that a length changed by c keeps
 -- its class when moved by margin − c more. And a one-byte list that margin + 1 breaks has an interval with no more room.
 -- Rests on no axiom.
-use Prim.Native.Nat.{ℕ, suc, _+_, _-_, _≤_, _<_}
-use mathlib.Core.Path.{_≡_, refl, sym, ap, subst}
+use Prim.Native.Nat.{ℕ, suc, _-_, _≤_, _<_}
+use mathlib.Core.Path.{_≡_, refl, ap}
 use mathlib.Core.List.{List, [], _∷_}
 use native.Mathlib.Omega.{arith}
 use native.Mathlib.Nat.{le-refl}
 use lib.ListN.{length, getD}
 use Rattle.refusal.specs.Answer.{Answer}
-use Rattle.items.specs.Rule.{listRule}
-use Rattle.items.specs.Written.{written}
 use Rattle.timing.specs.declared.Profile.{Profile}
 use Rattle.timing.proofs.ProfileLaws.{kept}
-use Rattle.clearance.specs.Clearance.{clearanceOf, leastClearance}
-use Rattle.clearance.proofs.AloneLaws.{Inner, least-is-no-more-than-each, least-is-what-each-has}
-use Rattle.clearance.proofs.AloneLaws.{kept-is-cleared, broken-is-not-cleared}
+use Rattle.items.specs.Rule.{listRule}
+use Rattle.items.specs.Written.{written}
 use Rattle.symbols.specs.Cells.{writtenCells}
 use Rattle.lengths.specs.Stream.{byteStream, streamOf}
 use Rattle.lengths.specs.Units.{classOfUnits}
 use Rattle.lengths.proofs.StreamLaws.{Window, two, three, four, window-at, stream-has-windows, length-fits}
-use Rattle.lengths.proofs.WindowLaws.{Spare, near-length-has-class}
+use Rattle.lengths.proofs.WindowLaws.{near-length-has-class}
 use Rattle.lengths.proofs.MarginLaws.{Broken, margin-leaves-room, above-margin-is-broken}
 use Rattle.lengths.proofs.PapersMargin.{one-byte-is-written}
+use Rattle.clearance.specs.Clearance.{clearanceOf, leastClearance}
+use Rattle.clearance.proofs.AloneLaws.{Inner, least-is-no-more-than-each, least-is-what-each-has, kept-is-cleared}
+use Rattle.clearance.proofs.AloneLaws.{broken-is-not-cleared}
 use Rattle.demands.specs.Streams.{AcceptedProfile, Moved}
 use Rattle.demands.specs.Demand3.{stated}
 use Rattle.demands.specs.HowNear.{ReadsClear, ExactlyClear, HowNear}

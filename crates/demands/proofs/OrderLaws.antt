@@ -17,9 +17,9 @@ use Rattle.refusal.proofs.AnswerLaws.{first-refusal-accepts, first-refusal-pass
 use Rattle.refusal.proofs.AnswerLaws.{acceptance-fills-the-buffer}
 use Rattle.timing.specs.Profile.{isTrue, profileRule}
 use Rattle.timing.specs.declared.Profile.{Profile}
+use Rattle.merge.specs.Rule.{storing}
 use Rattle.demands.specs.Order.{Order, accept, turn, at0, Nowhere, InTurn, NoCause, orderNumbers, OneOf, Answers}
 use Rattle.demands.specs.Order.{Lent}
-use Rattle.merge.specs.Rule.{storing}
 use Rattle.demands.specs.Causes.{profileOrder}
 use Rattle.demands.specs.MergeCauses.{countedInBytes}
 

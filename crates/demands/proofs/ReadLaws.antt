@@ -1,22 +1,19 @@
 -- The strip reader's rule taken apart: it accepts where each test in its turn lets the stream pass, and then gives
 -- the list that the cells read as. Rests on no axiom.
 use Prim.Native.Nat.{ℕ, _≤_}
-use mathlib.Core.Path.{_≡_, ap, _∙_}
+use mathlib.Core.Path.{_≡_, ap}
 use mathlib.Core.List.{List}
 use lib.Dec.{ltb}
-use lib.ListN.{length, take}
-use lib.Seq.{take-append-seam}
+use lib.ListN.{length}
 use borrow.Author.Tests.{ltb-false, le-ltb}
-use Rattle.lists.specs.Filled.{filled}
 use Rattle.refusal.specs.Answer.{accepted}
-use Rattle.refusal.proofs.AnswerLaws.{first-refusal-accepts, first-refusal-passes, refuse-if-accepts}
-use Rattle.refusal.proofs.AnswerLaws.{refuse-if-passes, acceptance-fills-the-buffer}
+use Rattle.refusal.proofs.AnswerLaws.{first-refusal-accepts, refuse-if-accepts}
 use Rattle.timing.specs.Profile.{profileRule}
 use Rattle.timing.specs.Class.{classesOf}
 use Rattle.timing.specs.declared.Profile.{Profile}
 use Rattle.symbols.specs.Strip.{stripRule}
 use Rattle.intervals.specs.Cells.{edgeRule, cellsRead}
-use Rattle.codec.specs.Reader.{itemsOfStream, readRule, readOutput}
+use Rattle.codec.specs.Reader.{itemsOfStream, readRule}
 use Rattle.demands.specs.Streams.{ReadsAs}
 use Rattle.demands.proofs.Demand1.{demand-1}
 

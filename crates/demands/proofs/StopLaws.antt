@@ -11,16 +11,16 @@ use lib.Seq.{take-length}
 use Rattle.lists.specs.Place.{anywhere, lowest}
 use Rattle.lists.proofs.PlaceLaws.{lowest-of-none}
 use Rattle.refusal.specs.Answer.{Answer, refused, firstRefusal}
-use Rattle.intervals.specs.Cells.{edgeRuleFrom, edgeRule}
 use Rattle.timing.specs.declared.Class.{Class}
 use Rattle.timing.specs.declared.Class.the-variants.{Narrow, Wide}
 use Rattle.symbols.specs.Bits.{O}
 use Rattle.symbols.specs.Reading.{readBits}
+use Rattle.intervals.specs.Cells.{edgeRuleFrom, edgeRule}
 use Rattle.fields.specs.Field.{bitsWanted, fieldStop}
 use Rattle.demands.specs.Order.{Order, turn, at0, Nowhere, Answers}
 use Rattle.demands.specs.Causes.{isUnread, FirstUnread, Fewer}
-use Rattle.demands.proofs.UnreadLaws.{IsFirst, frontBits, Met, all-read, met-narrow, met-wide, edges-met}
-use Rattle.demands.proofs.UnreadLaws.{Stops, enough, fewer, field-stops}
+use Rattle.demands.proofs.UnreadLaws.{IsFirst, frontBits, Met, all-read, met-narrow, met-wide, edges-met, Stops}
+use Rattle.demands.proofs.UnreadLaws.{enough, fewer, field-stops}
 use Rattle.demands.proofs.OrderLaws.{answers-here, answers-later, first-refusal-of-first}
 
 module _

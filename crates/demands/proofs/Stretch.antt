@@ -1,22 +1,21 @@
 -- Why compensation stretches no track: the compare points between the first and the last cancel out, the first lies
 -- between Early and Normal since a symbol 1 counts before it, and the last between Normal and Late since one counts
 -- after it. Rests on no axiom.
-use Prim.Native.Nat.{ℕ, _+_, _-_, _*_, _≤_}
+use Prim.Native.Nat.{ℕ, _+_, _*_}
+use mathlib.Core.Path.{_≡_}
+use mathlib.Core.List.{List}
 use native.Mathlib.Nat.{add-mul, mul-assoc, mul-comm}
 use native.Mathlib.Omega.{arith}
-use mathlib.Core.Path.{_≡_, sym, ap, _∙_}
-use mathlib.Core.List.{List}
 use lib.ListN.{length}
+use Rattle.timing.specs.declared.Profile.{Profile}
+use Rattle.timing.proofs.ProfileLaws.{Kept, kept}
 use Rattle.items.specs.Item.{writtenBytes}
 use Rattle.items.specs.Written.{written}
 use Rattle.items.proofs.WrittenLaws.{length-of-written}
 use Rattle.symbols.proofs.UnitLaws.{units-of-written}
-use Rattle.timing.specs.declared.Profile.{Profile}
-use Rattle.timing.proofs.ProfileLaws.{Kept, kept}
 use Rattle.lengths.specs.Stream.{streamOf}
 use Rattle.lengths.proofs.SumLaws.{sum-of-stream, units-of-stream, first-point-is-early, last-point-is-late}
-use Rattle.demands.specs.Stretch.{trackLength, firstPointOf, lastPointOf, zerosOf}
-use Rattle.demands.specs.Stretch.{CompensationStretchesNothing}
+use Rattle.demands.specs.Stretch.{trackLength, firstPointOf, lastPointOf, zerosOf, CompensationStretchesNothing}
 
 -- c cells of 2 t and z 0s of t are u units of t
 in-one-unit : (c z u t : ℕ) → 2 * c + z ≡ u → c * (2 * t) + z * t ≡ u * t

@@ -8,13 +8,13 @@ use native.Mathlib.Omega.{arith}
 use lib.ListN.{length, getD, take, length-append}
 use Rattle.lists.specs.Place.{anywhere, lowest}
 use Rattle.refusal.specs.Answer.{Answer, accepted, refused, firstRefusal}
-use Rattle.intervals.specs.Cells.{edgeRuleFrom, cellsOfClasses}
 use Rattle.timing.specs.declared.Class.{Class}
 use Rattle.timing.specs.declared.Class.the-variants.{Narrow, Two, Three, Four, Wide}
 use Rattle.symbols.specs.Bits.{Bit}
 use Rattle.symbols.specs.Reading.{given, lastAfter, readFrom}
 use Rattle.symbols.specs.declared.Cell.{Cell}
 use Rattle.symbols.specs.declared.Cell.the-variants.{Short, Medium, Long}
+use Rattle.intervals.specs.Cells.{edgeRuleFrom, cellsOfClasses}
 use Rattle.intervals.proofs.CellLaws.{ReadAs, as-short, as-medium, as-long}
 use Rattle.fields.specs.Field.{wantedAfter, stopFrom}
 use Rattle.demands.specs.Causes.{isUnread}

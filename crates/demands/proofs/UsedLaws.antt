@@ -1,7 +1,7 @@
 -- What is accepted uses at least one interval: no interval gives no bits, which is ragged for a strip and too few for a
 -- field. Rests on no axiom.
-use Prim.Native.Nat.{ℕ, suc, _*_, _<_}
-use mathlib.Core.Path.{_≡_, refl, subst}
+use Prim.Native.Nat.{ℕ, _<_}
+use mathlib.Core.Path.{_≡_, refl}
 use mathlib.Core.Bool.{Bool, true, false, cond}
 use mathlib.Core.List.{List, [], _∷_}
 use native.Mathlib.Omega.{arith}
@@ -14,16 +14,13 @@ use Rattle.timing.specs.Profile.{outside, profileRule}
 use Rattle.timing.specs.Class.{classesOf}
 use Rattle.timing.proofs.ClassLaws.{classes-of-none}
 use Rattle.timing.specs.declared.Profile.{Profile}
-use Rattle.timing.specs.declared.Class.{Class}
-use Rattle.timing.specs.declared.Class.the-variants.{Narrow, Two, Three, Four, Wide}
-use Rattle.symbols.specs.Bits.{Bit, O}
 use Rattle.symbols.specs.Reading.{readBits, readFrom}
 use Rattle.symbols.specs.Strip.{stripRule, isRagged}
+use Rattle.symbols.specs.declared.Cell.{Cell}
 use Rattle.intervals.specs.Cells.{cellsRead, cellsOfClasses}
 use Rattle.codec.specs.Reader.{readRule}
 use Rattle.fields.specs.Field.{fieldCells, fieldUsed}
 use Rattle.fields.proofs.FieldLaws.{field-bits-enough}
-use Rattle.symbols.specs.declared.Cell.{Cell}
 use Rattle.fields.specs.FieldRule.{gatherRule, checkedRule, fieldRule, fieldReading, fieldTurnedAway, answerWith}
 use Rattle.demands.proofs.ReadLaws.{passed-of-accepted}
 

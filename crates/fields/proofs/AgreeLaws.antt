@@ -10,8 +10,8 @@ use Rattle.timing.specs.declared.Profile.{Profile}
 use Rattle.timing.specs.declared.Class.{Class}
 use Rattle.timing.proofs.ClassLaws.{classes-of-take}
 use Rattle.symbols.specs.Bits.{O}
-use Rattle.fields.specs.Field.{bitsWanted, fieldStop, fieldCells, fieldUsed, fieldBits}
-use Rattle.fields.specs.Field.{fieldItems, fieldHolds, fieldStray, fieldStrayPlace}
+use Rattle.fields.specs.Field.{bitsWanted, fieldStop, fieldCells, fieldUsed, fieldBits, fieldItems, fieldHolds}
+use Rattle.fields.specs.Field.{fieldStray, fieldStrayPlace}
 use Rattle.fields.specs.FieldRule.{gatherRule, checkedRule, fieldRule, fieldReading, fieldOutput}
 use Rattle.fields.specs.Claims.{UsedIntervalsDecide}
 use Rattle.fields.proofs.TakenLaws.{SameFront, used-decide}

@@ -15,8 +15,8 @@ use Rattle.symbols.specs.Reading.{readBits}
 use Rattle.symbols.specs.Strip.{isStray, strayPlace}
 use Rattle.symbols.proofs.PlaceLaws.{rows-append, rows-of-few}
 use Rattle.symbols.proofs.AnswerLaws.{items-count}
-use Rattle.fields.specs.Field.{bitsWanted, fieldStop, fieldCells, fieldUsed, fieldBits}
-use Rattle.fields.specs.Field.{fieldItems, fieldStray, fieldStrayPlace}
+use Rattle.fields.specs.Field.{bitsWanted, fieldStop, fieldCells, fieldUsed, fieldBits, fieldItems, fieldStray}
+use Rattle.fields.specs.Field.{fieldStrayPlace}
 use Rattle.fields.proofs.EnoughLaws.{Enough, used-give-enough}
 
 -- ---- a surplus bit makes no byte

@@ -11,10 +11,10 @@ use lib.ListN.{length}
 use Rattle.lists.specs.Place.{anywhere, passed}
 use Rattle.lists.proofs.BoolLaws.{both}
 use Rattle.lists.proofs.PlaceLaws.{anywhere-of-append}
-use Rattle.items.specs.Item.{isMark}
 use Rattle.timing.specs.Class.{classesOf, classNumber}
 use Rattle.timing.specs.declared.Profile.{Profile}
 use Rattle.timing.specs.declared.Class.{Class}
+use Rattle.items.specs.Item.{isMark}
 use Rattle.symbols.specs.Bits.{Bit, O, I, byteBits, markBits, withGaps, writtenBits, allBits}
 use Rattle.symbols.specs.Cells.{pairSymbols, symbolsFrom, symbolsOf, cellsFrom, cellsOf}
 use Rattle.symbols.specs.Reading.{units, given, lastAfter, readFrom, readBits}

@@ -13,16 +13,15 @@ use Rattle.lists.proofs.StoreLaws.{stored-at-front-fills, stored-over-all}
 use Rattle.refusal.specs.Table.{numberOf, placeOf}
 use Rattle.refusal.specs.Answer.{Answer, refused}
 use Rattle.refusal.specs.declared.Refusal.{Refusal}
-use Rattle.refusal.proofs.AnswerLaws.{number-is-not-zero}
-use Rattle.refusal.proofs.AnswerLaws.{acceptance-fills-the-buffer}
+use Rattle.refusal.proofs.AnswerLaws.{number-is-not-zero, acceptance-fills-the-buffer}
 use Rattle.timing.specs.Profile.{outside, profileRule}
 use Rattle.timing.specs.Class.{classesOf}
 use Rattle.timing.specs.declared.Profile.{Profile}
 use Rattle.timing.specs.declared.Class.{Class}
 use Rattle.timing.proofs.ClassLaws.{classes-length}
 use Rattle.fields.specs.Field.{fieldUsed, fieldItems, fieldHolds}
-use Rattle.fields.specs.FieldRule.{FieldAnswer, fieldTurnedAway, checkedReading}
-use Rattle.fields.specs.FieldRule.{checkedOutput, fieldRule, fieldReading, fieldOutput}
+use Rattle.fields.specs.FieldRule.{FieldAnswer, fieldTurnedAway, checkedReading, checkedOutput, fieldRule}
+use Rattle.fields.specs.FieldRule.{fieldReading, fieldOutput}
 use Rattle.fields.proofs.FieldLaws.{field-used-at-most, field-items-count}
 use Rattle.fields.proofs.RuleLaws.{gather-stops-nowhere, gather-accepts}
 

@@ -11,17 +11,15 @@ use Rattle.lists.proofs.StoreLaws.{front-of-stored}
 use Rattle.refusal.specs.Table.{numberOf, placeOf}
 use Rattle.refusal.specs.Answer.{Answer, accepted, refused}
 use Rattle.refusal.specs.declared.Refusal.{Refusal}
-use Rattle.refusal.proofs.AnswerLaws.{number-is-not-zero}
-use Rattle.refusal.proofs.AnswerLaws.{first-refusal-accepts, first-refusal-passes, refuse-if-accepts, refuse-if-passes}
+use Rattle.refusal.proofs.AnswerLaws.{number-is-not-zero, first-refusal-accepts, first-refusal-passes}
+use Rattle.refusal.proofs.AnswerLaws.{refuse-if-accepts, refuse-if-passes}
 use Rattle.timing.specs.Profile.{outside, profileRule}
 use Rattle.timing.specs.Class.{classesOf}
 use Rattle.timing.specs.declared.Profile.{Profile}
 use Rattle.timing.specs.declared.Class.{Class}
-use Rattle.fields.specs.Field.{fieldStop, fieldUsed, fieldItems, fieldStray}
-use Rattle.fields.specs.Field.{fieldStrayPlace}
-use Rattle.fields.specs.FieldRule.{gatherRule, GathersItems, TellsSum, deliverRule, deliverReading}
-use Rattle.fields.specs.FieldRule.{deliverOutput, fieldTurnedAway, checkedRule, checkedReading, checkedOutput}
-use Rattle.fields.specs.FieldRule.{fieldRule}
+use Rattle.fields.specs.Field.{fieldStop, fieldUsed, fieldItems, fieldStray, fieldStrayPlace}
+use Rattle.fields.specs.FieldRule.{gatherRule, GathersItems, TellsSum, deliverRule, deliverReading, deliverOutput}
+use Rattle.fields.specs.FieldRule.{fieldTurnedAway, checkedRule, checkedReading, checkedOutput, fieldRule}
 use Rattle.fields.proofs.FieldLaws.{field-items-count}
 
 module _ (cs : List Class) (n : ℕ) where

@@ -25,11 +25,10 @@ use Rattle.symbols.specs.Reading.{readFrom, readBits}
 use Rattle.symbols.specs.Bytes.{itemsRead, straysRead}
 use Rattle.symbols.specs.Strip.{isStray}
 use Rattle.symbols.specs.declared.Cell.{Cell}
-use Rattle.symbols.proofs.BytesLaws.{length-of-bits, items-of-whole-bytes, whole-bytes-have-no-stray}
-use Rattle.symbols.proofs.BytesLaws.{bits-of-append}
+use Rattle.symbols.proofs.BytesLaws.{length-of-bits, items-of-whole-bytes, whole-bytes-have-no-stray, bits-of-append}
 use Rattle.symbols.proofs.ReadingLaws.{read-append, last-of-snoc, beginsWithOne, no-one-after-zero}
-use Rattle.fields.specs.Field.{bitsWanted, fieldStop, fieldCells, fieldUsed, fieldBits}
-use Rattle.fields.specs.Field.{fieldItems, holdsAfter, fieldHolds, fieldStray}
+use Rattle.fields.specs.Field.{bitsWanted, fieldStop, fieldCells, fieldUsed, fieldBits, fieldItems, holdsAfter}
+use Rattle.fields.specs.Field.{fieldHolds, fieldStray}
 use Rattle.fields.specs.FieldRule.{gatherRule, deliverRule, checkedRule, fieldRule, fieldReading, fieldOutput}
 use Rattle.fields.proofs.EnoughLaws.{classesOfCells, shortBy, OfCells, used-of-cells}
 use Rattle.fields.proofs.FieldLaws.{field-bits-few, field-bits-enough}

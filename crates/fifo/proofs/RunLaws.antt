@@ -1,20 +1,19 @@
 -- Why a FIFO keeps its mode, its items in order and its first fault over any list of operations: every operation does,
 -- and the rest is induction over the list.
 use Prim.Native.Nat.{ℕ, _≤_}
-use native.Mathlib.Omega.{arith}
-use mathlib.Core.Path.{_≡_, refl, sym, _∙_, ap}
+use mathlib.Core.Path.{_≡_, refl, sym, _∙_}
 use mathlib.Core.Bool.{Bool, true, false, cond, not, _&&_}
 use mathlib.Core.List.{List, [], _∷_, _++_, append-assoc, append-nil}
+use native.Mathlib.Omega.{arith}
 use lib.ListN.{length}
 use lib.Dec.{eqb}
 use Rattle.items.specs.Item.{isItem}
 use Rattle.fifo.specs.State.{Mode, State, Outcome}
 use Rattle.fifo.specs.Sides.{Side, Processor, Chip, puts, takes, faultBit, markBit, noBit, firstBit}
-use Rattle.fifo.specs.Rules.{withBit, withItems, isFull, gives, foreign}
-use Rattle.fifo.specs.Rules.{putting, taking, putRule, takeRule, ruleOf}
-use Rattle.fifo.specs.Rules.{Operation, Put, TakeData, TakeMark, ChipPut, ChipTake, ReadError}
-use Rattle.fifo.specs.Runs.{stateAfter, acceptedBy, isEmpty, takenBy, itemsAccepted, itemsTaken}
-use Rattle.fifo.specs.Runs.{faultOfTake, faultOf, readsRegister, faultsSince, firstFault}
+use Rattle.fifo.specs.Rules.{withBit, withItems, isFull, gives, foreign, putting, taking, putRule, takeRule}
+use Rattle.fifo.specs.Rules.{ruleOf, Operation, Put, TakeData, TakeMark, ChipPut, ChipTake, ReadError}
+use Rattle.fifo.specs.Runs.{stateAfter, acceptedBy, isEmpty, takenBy, itemsAccepted, itemsTaken, faultOfTake}
+use Rattle.fifo.specs.Runs.{faultOf, readsRegister, faultsSince, firstFault}
 use Rattle.fifo.proofs.StateLaws.{no-bit-keeps-register}
 
 -- what one operation that accepts and takes these items keeps, with the register after it

@@ -14,15 +14,14 @@ use Rattle.items.proofs.ItemLaws.{bytes-have-no-check}
 use Rattle.items.proofs.RuleLaws.{listed, bytes-are-listed}
 use Rattle.items.proofs.WrittenLaws.{written-are-bytes, written-of-no-check, length-of-written}
 use Rattle.symbols.specs.Bits.{O, writtenBits}
+use Rattle.words.specs.Words.{lastBit}
 use Rattle.images.specs.Image.{imageOf, unrulyIn, bytesIn, bytesFrom}
 use Rattle.images.specs.Rules.{makeRule, readImageRule, wordsRule}
 use Rattle.images.specs.Claims.{ReadsAs, Images}
 use Rattle.images.proofs.DistanceLaws.{distances-are-cells}
-use Rattle.images.proofs.ImageLaws.{length-of-image, length-of-bytes, ruly-is-read}
-use Rattle.images.proofs.ImageLaws.{read-of-made}
+use Rattle.images.proofs.ImageLaws.{length-of-image, length-of-bytes, ruly-is-read, read-of-made}
 use Rattle.images.proofs.RuleLaws.{front-of-made, words-of-accepted, accepted-of-words, accepted-in-room}
 use Rattle.images.proofs.RuleLaws.{reads-as-its-bytes}
-use Rattle.words.specs.Words.{lastBit}
 use Rattle.images.proofs.WordLaws.{word-is-kept, last-bit-is-data, all-kept}
 use Rattle.images.proofs.CountLaws.{ones-of-word, cells-count}
 

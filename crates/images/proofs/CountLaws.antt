@@ -19,8 +19,7 @@ use Rattle.symbols.proofs.HalfLaws.{cells-after-append}
 use Rattle.symbols.proofs.NumberLaws.{ones-of-number}
 use Rattle.words.specs.Words.{clockBit, wordOf, lastBit}
 use Rattle.images.specs.Distances.{distancesFrom}
-use Rattle.images.proofs.DistanceLaws.{unitsAt, distances-of-letters}
-use Rattle.images.proofs.DistanceLaws.{bytes-are-sound}
+use Rattle.images.proofs.DistanceLaws.{unitsAt, distances-of-letters, bytes-are-sound}
 use Rattle.images.proofs.WordLaws.{Kept, all-kept}
 
 -- ---- ones among half cells

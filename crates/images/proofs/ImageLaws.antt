@@ -10,11 +10,11 @@ use Rattle.lists.specs.Place.{anywhere, everywhere, lowest, passed}
 use Rattle.lists.proofs.PlaceLaws.{nowhere-fails-at-first, nowhere-in-rest, anywhere-of-none, anywhere-of-failing}
 use Rattle.lists.proofs.PlaceLaws.{everywhere-of-none, everywhere-of-passing, lowest-of-passing, lowest-of-failing}
 use Rattle.items.specs.Item.{isByte}
+use Rattle.half_cells.specs.machine.Candidate.{candidate}
 use Rattle.symbols.specs.Bits.{Bit}
 use Rattle.symbols.specs.Bytes.{isGap}
 use Rattle.words.specs.Words.{wordOf, lastBit}
 use Rattle.images.specs.Image.{imageFrom, hasWord, isUnruly, byteOf, unrulyFrom, bytesFrom}
-use Rattle.half_cells.specs.machine.Candidate.{candidate}
 use Rattle.images.proofs.WordLaws.{last-bit-is-data, AllKept, end, more}
 use Rattle.images.proofs.ReadLaws.{candidate-is-byte, ruly-where-candidate-has, candidate-has-where-ruly}
 use Rattle.images.proofs.ReadLaws.{unruly-where-candidate-lacks}

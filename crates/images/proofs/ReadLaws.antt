@@ -15,11 +15,11 @@ use Rattle.lists.proofs.PlaceLaws.{passes-at-lowest, anywhere-of-entry, everywh
 use Rattle.lists.proofs.TableLaws.{entry-is-rule}
 use Rattle.items.specs.Item.{isByte, isMark}
 use Rattle.items.proofs.ItemLaws.{data-is-byte, byte-is-data-or-mark, mark-is-A1-or-C2}
+use Rattle.half_cells.specs.machine.Candidate.{fours, dataBits, candidate}
 use Rattle.symbols.specs.Bits.{Bit}
 use Rattle.symbols.specs.Bytes.{isGap}
 use Rattle.words.specs.Words.{wordOf}
 use Rattle.images.specs.Image.{allBytes, hasWord, isUnruly, byteOf}
-use Rattle.half_cells.specs.machine.Candidate.{fours, dataBits, candidate}
 use Rattle.images.proofs.WordLaws.{word-is-kept}
 
 -- ---- every byte is among them, and nothing else

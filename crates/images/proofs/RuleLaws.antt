@@ -11,6 +11,7 @@ use borrow.Author.Tests.{ltb-false, le-ltb, lt-ltb, eq-eqb}
 use Rattle.lists.specs.Place.{anywhere, lowest, passed}
 use Rattle.lists.specs.Filled.{filled}
 use Rattle.lists.proofs.PlaceLaws.{lowest-of-none, lowest-of-some}
+use Rattle.lists.proofs.StoreLaws.{front-of-filled}
 use Rattle.refusal.specs.Answer.{Answer, accepted, refused, firstRefusal, settled}
 use Rattle.refusal.proofs.AnswerLaws.{first-refusal-accepts, refuse-if-accepts}
 use Rattle.items.specs.Rule.{listRule}
@@ -20,7 +21,6 @@ use Rattle.images.specs.Image.{imageOf, unrulyIn, bytesIn}
 use Rattle.images.specs.Rules.{roomRule, makeRule, makeOutput, wordsRule, readImageRule, readImageOutput}
 use Rattle.images.specs.Claims.{ReadsAs}
 use Rattle.images.proofs.ImageLaws.{length-of-image, length-of-flags}
-use Rattle.lists.proofs.StoreLaws.{front-of-filled}
 
 -- ---- room, after a rule that is passed
 

@@ -8,6 +8,7 @@ use lib.Dec.{T, eqb, eqb→eq}
 use Rattle.lists.specs.Place.{everywhere}
 use Rattle.lists.proofs.PlaceLaws.{everywhere-passes-at-first, everywhere-in-rest}
 use Rattle.items.specs.Item.{isMark, isByte}
+use Rattle.half_cells.specs.machine.Candidate.{dataBits, candidate}
 use Rattle.symbols.specs.Bits.{Bit, O, I, G, byteBits, withGaps, markBits, writtenBits, lastOf}
 use Rattle.symbols.specs.Bytes.{numberFrom, isGap}
 use Rattle.symbols.proofs.TestLaws.{holds, parts}
@@ -16,7 +17,6 @@ use Rattle.symbols.proofs.CellLaws.{follows, sound}
 use Rattle.symbols.proofs.HalfCells.{clockAfter, dataOf, cellsAfter}
 use Rattle.words.specs.Words.{clockBit, clocked, dataWord, markWord, wordOf, lastBit}
 use Rattle.images.specs.Distances.{halfCells}
-use Rattle.half_cells.specs.machine.Candidate.{dataBits, candidate}
 use Rattle.images.specs.machine.TopBits.{topBits}
 
 -- ---- the test

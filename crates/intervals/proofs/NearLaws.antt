@@ -18,8 +18,8 @@ use Rattle.timing.proofs.UnitsLaws.{units-none, units-cons, units-in-range, uni
 use Rattle.symbols.specs.Reading.{units}
 use Rattle.symbols.specs.declared.Cell.{Cell}
 use Rattle.intervals.specs.Cells.{edgeRuleFrom, cellsOfClasses}
-use Rattle.intervals.proofs.CellLaws.{ReadAs, cellOfUnits, units-of-its-cell}
-use Rattle.intervals.proofs.CellLaws.{cell-is-read-as, read-first, fair-first, same-number}
+use Rattle.intervals.proofs.CellLaws.{ReadAs, cellOfUnits, units-of-its-cell, cell-is-read-as, read-first}
+use Rattle.intervals.proofs.CellLaws.{fair-first, same-number}
 
 -- the cells that intervals are taken as
 abbrev pub nearCells : Cursor → List ℕ → List Cell

@@ -1,7 +1,7 @@
 -- A pass over cells, by their units. In parts it is the pass over all of them; and with no more cells than bytes are
 -- wanted it is the machine's run over all of them. By induction on the cells. Rests on no axiom.
 use Prim.Native.Nat.{ℕ, suc, _+_, _*_, _^_, _≤_, _<_}
-use mathlib.Core.Path.{_≡_, refl, ap, _∙_}
+use mathlib.Core.Path.{_≡_, refl, _∙_}
 use mathlib.Core.List.{List, [], _∷_, _++_, map, append-assoc}
 use native.Mathlib.Decide.{decLt}
 use native.Mathlib.Nat.{add-zero}
@@ -32,14 +32,6 @@ module _ (most k : ℕ) (m : Reading) where
       → passFrom most k m (u ∷ us) ≡ after (wordBy m u) (passFrom most (suc k) (steppedBy m u k) us)
   unfolding passFrom
   pass-goes-on u us h = rw (lt-ltb (m .words) most h)
-
-  -- by its cell
-  pub pass-reads
-      : (x : Cell) (us : List ℕ)
-      → m .words < most
-      → passFrom most k m (units x ∷ us) ≡ after (wordClosed m x) (passFrom most (suc k) (stepped m x k) us)
-  unfolding stepped wordClosed
-  pass-reads x us h = pass-goes-on (units x) us h
 
 -- one part after the other
 pub pass-in-parts

@@ -8,13 +8,13 @@ use native.Mathlib.Numerals.{add-one}
 use native.Mathlib.Omega.{arith}
 use lib.ListN.{length, getD, drop, drop-of-length-le}
 use lib.Seq.{drop-cons}
-use Rattle.items.specs.Item.{isMark}
 use Rattle.register.specs.Register.{fed, highByte, lowByte}
+use Rattle.register.proofs.RegisterLaws.{fed-bound, fed-own-bytes-is-zero}
+use Rattle.items.specs.Item.{isMark}
 use Rattle.items.specs.Written.{freshCheck, beforeMark, afterMark, afterData, afterByte, afterBytes, checkBytes}
 use Rattle.items.specs.Written.{itemBytes, afterCheck, afterItem}
 use Rattle.items.specs.declared.Check.{Check}
 use Rattle.items.proofs.ItemLaws.{data-is-no-mark}
-use Rattle.register.proofs.RegisterLaws.{fed-bound, fed-own-bytes-is-zero}
 
 -- a state that no mark byte has made, as data bytes leave it
 abbrev pub unmarked : ℕ → Check

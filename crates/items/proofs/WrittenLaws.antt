@@ -5,15 +5,13 @@ use mathlib.Core.Bool.{true, false, cond, _&&_}
 use mathlib.Core.List.{List, [], _∷_, _++_, append-assoc}
 use mathlib.Core.Logic.{⊎-elim}
 use native.Mathlib.Numerals.{add-one}
-use lib.ListN.{length, getD, take, drop, length-append, drop-of-length-le}
+use lib.ListN.{length, getD, drop, length-append, drop-of-length-le}
 use lib.Seq.{drop-cons}
 use Rattle.lists.specs.Place.{anywhere, everywhere}
 use Rattle.lists.proofs.PlaceLaws.{everywhere-of-none, everywhere-of-passing, everywhere-of-append}
 use Rattle.lists.proofs.PlaceLaws.{nowhere-fails-at-first, nowhere-in-rest}
-use Rattle.lists.specs.Filled.{storedAt}
-use Rattle.lists.proofs.StoreLaws.{front-of-stored}
-use Rattle.items.specs.Item.{isByte, isCheck, isItem, isForeign, bytesOf, writtenBytes}
 use Rattle.register.specs.Register.{highByte, lowByte}
+use Rattle.items.specs.Item.{isByte, isCheck, isItem, isForeign, bytesOf, writtenBytes}
 use Rattle.items.specs.Written.{freshCheck, afterByte, afterBytes, checkBytes, itemBytes, afterCheck, afterItem}
 use Rattle.items.specs.Written.{writtenFrom, written}
 use Rattle.items.specs.declared.Check.{Check}
@@ -122,14 +120,3 @@ written-from-of-no-check c (n ∷ ns) e =
 pub written-of-no-check : (ns : List ℕ) → anywhere isCheck ns ≡ false → written ns ≡ ns
 unfolding written
 written-of-no-check ns e = written-from-of-no-check freshCheck ns e
-
--- ---- in a buffer that they fit, they fill the front
-
--- as a caller of `write_bytes` has it: the answer, the buffer after the call and before it
-pub front-of-stored-bytes : (c : Check) (ns : List ℕ) (n : ℕ) (out old : List ℕ)
-    → n ≡ writtenBytes ns
-    → out ≡ storedAt old 0 (writtenFrom c ns)
-    → writtenBytes ns ≤ length old
-    → take n out ≡ writtenFrom c ns
-front-of-stored-bytes c ns n out old p q h =
-    cc (front-of-stored (writtenFrom c ns) old n (length-of-written-from c ns ∙ sym p) (rw p h))

@@ -1,11 +1,11 @@
 -- Why the margin is the paper's: it is the least of six rooms, so it fits in each; and a number above it is above one
 -- of them, whose end a one-byte list takes: moved by that number its interval crosses the edge.
 use Prim.Native.Nat.{ℕ, _+_, _-_, _*_, _≤_, _<_, min}
+use mathlib.Core.Path.{_≡_}
+use mathlib.Core.List.{[], _∷_}
 use native.Mathlib.Omega.{arith}
 use native.Mathlib.Nat.{min-le-left, min-le-right, le-refl, le-trans}
 use native.Mathlib.Decide.{decLt}
-use mathlib.Core.Path.{_≡_}
-use mathlib.Core.List.{[], _∷_}
 use lib.Dec.{lit<}
 use lib.ListN.{length, getD}
 use Rattle.timing.specs.Profile.{swing}
@@ -13,15 +13,15 @@ use Rattle.timing.specs.Class.{classOf, classNumber}
 use Rattle.timing.specs.declared.Profile.{Profile}
 use Rattle.timing.specs.declared.Class.{Class}
 use Rattle.timing.specs.declared.Class.the-variants.{Narrow, Two, Three, Four, Wide}
+use Rattle.timing.proofs.ProfileLaws.{Kept}
+use Rattle.timing.proofs.ClassLaws.{class-below-min-is-narrow, class-below-b23-is-two, class-below-b34-is-three}
+use Rattle.timing.proofs.ClassLaws.{class-below-rpt-is-four, class-from-rpt-is-wide}
 use Rattle.items.specs.Item.{isMark}
 use Rattle.symbols.specs.Bits.{byteBits, writtenBits, allBits, bitsOf}
 use Rattle.symbols.specs.Cells.{pairSymbols, symbolsFrom, symbolsOf, writtenSymbols}
 use Rattle.lengths.specs.Lengths.{point, symbolAfter, cellLength, lengthsFrom, lengthsOf}
 use Rattle.lengths.specs.Stream.{byteStream}
 use Rattle.lengths.specs.Margin.{marginOf}
-use Rattle.timing.proofs.ProfileLaws.{Kept}
-use Rattle.timing.proofs.ClassLaws.{class-below-min-is-narrow, class-below-b23-is-two, class-below-b34-is-three}
-use Rattle.timing.proofs.ClassLaws.{class-below-rpt-is-four, class-from-rpt-is-wide}
 use Rattle.lengths.proofs.WindowLaws.{Spare}
 
 -- ---- the margin fits in every room

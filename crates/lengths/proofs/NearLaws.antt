@@ -1,9 +1,9 @@
 -- What it is for a stream to be near another: they have one length, and at each place the two are no more than m apart;
 -- a list is near itself, and stays near where one interval is moved by no more than m.
 use Prim.Native.Nat.{ℕ, zero, suc, _+_, _≤_, _<_}
-use native.Mathlib.Omega.{arith}
 use mathlib.Core.Path.{_≡_, refl, ap}
 use mathlib.Core.List.{List, [], _∷_}
+use native.Mathlib.Omega.{arith}
 use lib.ListN.{length, getD, set}
 
 -- as many intervals in the same order, each longer or shorter by up to m

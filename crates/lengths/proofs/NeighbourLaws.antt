@@ -1,10 +1,10 @@
 -- Why a length depends on the cell and its neighbours alone: the symbols around a transition are 1 exactly where the
 -- cell before it, or the cell after it, has no zero. Rests on no axiom.
 use Prim.Native.Nat.{ℕ, zero, suc, _+_, _-_, _*_}
-use native.Mathlib.Omega.{arith}
 use mathlib.Core.Path.{_≡_, refl, sym, ap, ap₂, _∙_}
 use mathlib.Core.Bool.{Bool, true, false, _&&_, and-true, and-false}
 use mathlib.Core.List.{List, [], _∷_, _++_}
+use native.Mathlib.Omega.{arith}
 use lib.Dec.{eqb}
 use borrow.Author.Tests.{ne-eqb}
 use Rattle.timing.specs.declared.Profile.{Profile}

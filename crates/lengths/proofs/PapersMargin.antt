@@ -2,23 +2,23 @@
 -- cell's units; and whatever number keeps every class is no larger, since a larger one breaks the class of an interval
 -- of a one-byte list.
 use Prim.Native.Nat.{ℕ, _<_}
-use native.Mathlib.Omega.{arith}
-use native.Mathlib.Decide.{decLe}
 use mathlib.Core.Path.{_≡_, sym, _∙_}
 use mathlib.Core.List.{[], _∷_}
+use native.Mathlib.Omega.{arith}
+use native.Mathlib.Decide.{decLe}
 use borrow.Author.Tests.{lt-ltb, ne-eqb}
 use Rattle.lists.specs.Place.{anywhere}
+use Rattle.timing.specs.declared.Profile.{Profile}
+use Rattle.timing.proofs.ProfileLaws.{kept}
 use Rattle.items.specs.Item.{isByte, isItem, isCheck, isForeign, bytesOf, writtenBytes}
 use Rattle.items.specs.Written.{written}
 use Rattle.items.specs.Rule.{listRule}
 use Rattle.items.proofs.ItemLaws.{data-is-byte, byte-is-no-check}
 use Rattle.items.proofs.WrittenLaws.{written-of-no-check}
-use Rattle.timing.specs.declared.Profile.{Profile}
 use Rattle.symbols.specs.Cells.{writtenCells}
 use Rattle.lengths.specs.Stream.{byteStream, streamOf}
 use Rattle.lengths.specs.Margin.{Keeps, marginOf}
 use Rattle.lengths.specs.Claims.{MarginIsThePapers}
-use Rattle.timing.proofs.ProfileLaws.{kept}
 use Rattle.lengths.proofs.StreamLaws.{window-at, stream-has-windows}
 use Rattle.lengths.proofs.WindowLaws.{near-length-has-class}
 use Rattle.lengths.proofs.MarginLaws.{margin-leaves-room, Broken, above-margin-is-broken}

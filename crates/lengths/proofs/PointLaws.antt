@@ -1,8 +1,8 @@
 -- Every compare point of an accepted profile lies between Early and Late: it is one of the three. Rests on no axiom.
 use Prim.Native.Nat.{ℕ, _≤_}
-use native.Mathlib.Omega.{arith}
 use mathlib.Core.Path.{_≡_}
 use mathlib.Core.Bool.{Bool, true, false}
+use native.Mathlib.Omega.{arith}
 use Rattle.timing.specs.declared.Profile.{Profile}
 use Rattle.timing.proofs.ProfileLaws.{Kept}
 use Rattle.lengths.specs.Lengths.{point}

@@ -1,14 +1,14 @@
 -- Why every length is positive and nothing of it is cut off: compare points lie between Early and Late, so a shift
 -- takes away D at most, and T1 is longer than D by Min or more. Rests on no axiom.
 use Prim.Native.Nat.{ℕ, suc, _≤_}
-use native.Mathlib.Omega.{arith}
 use mathlib.Core.Path.{sym}
 use mathlib.Core.Bool.{Bool, true, false}
 use mathlib.Core.List.{List, [], _∷_}
-use Rattle.items.specs.Written.{written}
-use Rattle.symbols.specs.Cells.{writtenSymbols}
+use native.Mathlib.Omega.{arith}
 use Rattle.timing.specs.declared.Profile.{Profile}
 use Rattle.timing.proofs.ProfileLaws.{Kept, kept}
+use Rattle.items.specs.Written.{written}
+use Rattle.symbols.specs.Cells.{writtenSymbols}
 use Rattle.lengths.specs.Lengths.{point, symbolAfter, cellLength, lengthsFrom, lengthsOf}
 use Rattle.lengths.specs.Stream.{byteStream, streamOf}
 use Rattle.lengths.specs.Claims.{signedLength, SignedLengths, LengthsArePositive}

@@ -2,15 +2,15 @@
 -- reads back the sum itself, and where the shift takes away no more than there is, that is the difference of natural
 -- numbers.
 use Prim.Native.Nat.{ℕ, zero, suc, _+_, _-_, _≤_, _<_}
-use native.Mathlib.Omega.{arith}
 use mathlib.Core.Path.{_≡_, sym, ap, ap₂, _∙_}
 use mathlib.Core.Bool.{Bool, true, false, cond}
+use native.Mathlib.Omega.{arith}
 use lib.Dec.{ltb}
 use lib.IntN.{ℤ, pos, negsuc, negℤ, _+ℤ_, _-ℤ_, +ℤ-assoc}
+use borrow.Author.Tests.{le-ltb}
 use mir.Syntax.{w32}
 use mir.Val.{SFits, toZ, ofZ}
 use mir.Facts.{toZ-ofZ, toZ-pos}
-use borrow.Author.Tests.{le-ltb}
 
 -- the difference of two small numbers fits 32 bits
 parted-fits : (t : Bool) (e s : ℕ) → e < 65536 → s < 65536 → SFits w32 (cond t (negsuc (s - suc e)) (pos (e - s)))

@@ -2,17 +2,17 @@
 -- ends in [Early, Normal], so its length is at most T1 and at least T1 − D; a cell with a 0 starts in [Early, Normal]
 -- and ends in [Normal, Late], so it has its nominal length at least and D more at most.
 use Prim.Native.Nat.{ℕ, zero, suc, _+_, _*_, _≤_, _<_}
-use native.Mathlib.Omega.{arith}
 use mathlib.Core.Path.{_≡_, refl, ap}
 use mathlib.Core.Bool.{Bool, true, false}
 use mathlib.Core.List.{List, [], _∷_}
+use native.Mathlib.Omega.{arith}
 use lib.ListN.{length, getD}
 use Rattle.timing.specs.Profile.{swing}
 use Rattle.timing.specs.declared.Profile.{Profile}
+use Rattle.timing.proofs.ProfileLaws.{Kept}
 use Rattle.symbols.specs.Cells.{cellsFrom, cellsOf, writtenCells, writtenSymbols}
 use Rattle.lengths.specs.Lengths.{point, symbolAfter, cellLength, lengthsFrom, lengthsOf}
 use Rattle.lengths.specs.Stream.{byteStream}
-use Rattle.timing.proofs.ProfileLaws.{Kept}
 use Rattle.lengths.proofs.RunLaws.{ShortRuns, written-runs-are-short}
 
 -- the length l is one that a cell of so many units can have

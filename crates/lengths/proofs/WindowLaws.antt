@@ -2,19 +2,19 @@
 -- m fits between those windows and the edges of the classes, an interval that is no more than m away is still between
 -- the same edges.
 use Prim.Native.Nat.{ℕ, _+_, _*_, _≤_, _<_}
-use native.Mathlib.Omega.{arith}
 use mathlib.Core.Path.{_≡_, ap₂, _∙_}
 use mathlib.Core.List.{List, [], _∷_, map}
+use native.Mathlib.Omega.{arith}
 use Rattle.timing.specs.Profile.{swing}
 use Rattle.timing.specs.Class.{classOf, classesOf}
 use Rattle.timing.specs.declared.Profile.{Profile}
+use Rattle.timing.proofs.ProfileLaws.{Kept}
+use Rattle.timing.proofs.ClassLaws.{class-below-b23-is-two, class-below-b34-is-three, class-below-rpt-is-four}
+use Rattle.timing.proofs.ClassLaws.{classes-of-none, classes-of-cons}
 use Rattle.symbols.specs.Cells.{writtenCells}
 use Rattle.lengths.specs.Stream.{byteStream}
 use Rattle.lengths.specs.Units.{classOfUnits}
 use Rattle.lengths.proofs.NearLaws.{Near}
-use Rattle.timing.proofs.ProfileLaws.{Kept}
-use Rattle.timing.proofs.ClassLaws.{class-below-b23-is-two, class-below-b34-is-three, class-below-rpt-is-four}
-use Rattle.timing.proofs.ClassLaws.{classes-of-none, classes-of-cons}
 use Rattle.lengths.proofs.StreamLaws.{Window, two, three, four, Windows, stream-has-windows}
 
 -- m fits between every length and the edges of its class

@@ -7,7 +7,7 @@ use mathlib.Mathlib.Data.Bool.Basic.{or-eq-false-eq-eq-false-and-eq-false}
 use native.Mathlib.Nat.{add-zero, not-suc-le-zero, le-of-suc-le-suc}
 use native.Mathlib.Numerals.{add-one}
 use native.Mathlib.Omega.{arith}
-use lib.ListN.{length, getD, drop, replicate, drop-of-length-le}
+use lib.ListN.{length, getD, drop, drop-of-length-le}
 use lib.Seq.{drop-cons}
 use Rattle.lists.specs.Place.{anywhere, everywhere, lowest}
 use Rattle.lists.proofs.BoolLaws.{both}
@@ -56,13 +56,6 @@ module _ {A : Type 0} (f : A → Bool) where
   everywhere-in-rest x xs e = both (f x) (everywhere f xs) e .1
 
   -- ---- the place, and what holds there and below it
-
-  pub lowest-at-most-length : (xs : List A) → lowest f xs ≤ length xs
-  unfolding lowest
-  lowest-at-most-length [] = zero-le
-  lowest-at-most-length (x ∷ xs) =
-      elim (f x) as (λ t. cond t 0 (suc (lowest f xs)) ≤ suc (length xs))
-      [ true ↦ zero-le | false ↦ suc-le-suc (lowest-at-most-length xs) ]
 
   pub below-lowest-fails : (xs : List A) (d : A) (k : ℕ) → k < lowest f xs → f (getD xs k d) ≡ false
   unfolding lowest
@@ -121,10 +114,6 @@ module _ {A : Type 0} (f : A → Bool) where
   everywhere-at-entry (x ∷ xs) d zero e h = everywhere-passes-at-first x xs e
   everywhere-at-entry (x ∷ xs) d (suc k) e h =
       everywhere-at-entry xs d k (everywhere-in-rest x xs e) (le-of-suc-le-suc h)
-
-  pub everywhere-of-replicate : (n : ℕ) (x : A) → f x ≡ true → everywhere f (replicate n x) ≡ true
-  everywhere-of-replicate zero x e = everywhere-of-none
-  everywhere-of-replicate (suc n) x e = everywhere-of-passing x (replicate n x) e ∙ everywhere-of-replicate n x e
 
   -- ---- a scan from place k, whose invariant is `k + lowest f (drop k xs) ≡ lowest f xs`
 

@@ -5,9 +5,10 @@ use mathlib.Core.List.{List, [], _∷_, _++_, map}
 use native.Mathlib.Nat.{add-zero, zero-add, add-suc, suc-add, le-of-lt}
 use native.Mathlib.Numerals.{add-one}
 use native.Mathlib.Omega.{arith}
-use lib.ListN.{length, set, take, drop, getD, replicate, length-replicate, replicate-append-replicate, length-map, take-append-drop}
-use lib.Seq.{sets, sets-eq, length-sets, set-out, take-suc, drop-cons, take-all, length-take-le}
-use lib.Seq.{take-append-seam, drop-append-seam}
+use lib.ListN.{length, set, take, drop, getD, replicate, length-replicate, replicate-append-replicate, length-map}
+use lib.ListN.{take-append-drop}
+use lib.Seq.{sets, sets-eq, length-sets, set-out, take-suc, drop-cons, take-all, length-take-le, take-append-seam}
+use lib.Seq.{drop-append-seam}
 use Rattle.lists.specs.Filled.{filled, storedAt}
 
 module _ {A : Type 0} where

@@ -3,17 +3,17 @@ use Prim.Native.Nat.{ℕ, _≤_}
 use mathlib.Core.Path.{_≡_, refl}
 use mathlib.Core.Bool.{false}
 use mathlib.Core.List.{List, []}
+use native.Mathlib.Omega.{arith}
 use borrow.Author.Tests.{le-ltb}
 use Rattle.lists.specs.Place.{anywhere}
+use Rattle.refusal.proofs.AnswerLaws.{first-refusal-accepts}
 use Rattle.merge.specs.Set.{isMisfitSet, sectorsIn, setOf, setWithin}
 use Rattle.merge.specs.Merge.{numbers, howMany, inEither, isCrowded, atOddsAt}
 use Rattle.merge.specs.Rule.{roomRule, mergeRule}
 use Rattle.merge.specs.Claims.{Takes}
-use Rattle.merge.proofs.RuleLaws.{Fits, accepted-numbers, accepted-sets-fit}
-use native.Mathlib.Omega.{arith}
 use Rattle.merge.specs.Index.{checkedRule}
+use Rattle.merge.proofs.RuleLaws.{Fits, accepted-numbers, accepted-sets-fit}
 use Rattle.merge.proofs.SettleLaws.{merge-rule-in-steps}
-use Rattle.refusal.proofs.AnswerLaws.{first-refusal-accepts}
 
 module _ (first second : List ℕ) where
   pub record Accepts : Type 0 where

@@ -7,8 +7,7 @@ use borrow.Author.Tests.{ne-eqb}
 use lib.Dec.{eqb}
 use lib.ListN.{length, getD}
 use Rattle.merge.specs.Set.{sectorsIn}
-use Rattle.merge.specs.Merge.{Held, Nothing, One, Twice, isTwice, sameBytes, atOdds}
-use Rattle.merge.specs.Merge.{atOddsAt}
+use Rattle.merge.specs.Merge.{Held, Nothing, One, Twice, isTwice, sameBytes, atOdds, atOddsAt}
 use Rattle.merge.specs.Index.{sectorAt, shown, Indexed}
 
 -- ---- equal bytes

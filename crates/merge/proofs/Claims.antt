@@ -1,19 +1,20 @@
 -- What holds of the merge, gathered from the laws of each topic. Rests on no axiom.
+use Prim.Native.Nat.{_<_, ℕ}
+use mathlib.Core.Bool.{false}
+use mathlib.Core.Path.{sym, _≡_, _∙_, ap}
+use mathlib.Core.List.{[]}
+use lib.ListN.{length}
 use Rattle.merge.specs.Claims.{MergeLaws}
 use Rattle.merge.specs.Set.{sectorsIn, setBytes}
+use Rattle.merge.specs.Merge.{heldOf, isTwice}
+use Rattle.merge.specs.Rule.{mergeAnswer, mergeOutput, result}
 use Rattle.merge.proofs.AcceptLaws.{acceptance-says, accepts-takes, empty-fits}
 use Rattle.merge.proofs.HeldLaws.{held-of-merged}
 use Rattle.merge.proofs.MergedLaws.{merged-numbers, none-is-twice}
-use Rattle.merge.proofs.OnceLaws.{alone-in-order, alone-is-taken, alone-numbers, empty-first, empty-second, itself-second}
-use mathlib.Core.Bool.{false}
+use Rattle.merge.proofs.OnceLaws.{alone-in-order, alone-is-taken, alone-numbers, empty-first, empty-second}
+use Rattle.merge.proofs.OnceLaws.{itself-second}
 use Rattle.merge.proofs.AgainLaws.{few-again, fits-again, in-order-again, once-again}
-use Rattle.merge.specs.Merge.{heldOf, isTwice}
-use lib.ListN.{length}
-use Rattle.merge.specs.Rule.{mergeAnswer, mergeOutput, result}
 use Rattle.merge.proofs.EitherFirst.{merged-swaps, rule-swaps, settles-alike}
-use mathlib.Core.Path.{sym, _≡_, _∙_, ap}
-use Prim.Native.Nat.{_<_, ℕ}
-use mathlib.Core.List.{[]}
 
 pub merge-laws : MergeLaws
 unfolding mergeAnswer mergeOutput

@@ -8,10 +8,8 @@ use lib.Dec.{eqb}
 use lib.ListN.{length, getD, length-drop}
 use Rattle.sectors.specs.Sector.{sectorSize}
 use Rattle.sectors.proofs.SectorCounts.{size-at-most-1024}
-use Rattle.merge.specs.Set.{isMisfitSet}
-use Rattle.merge.specs.Set.{sectorsIn}
-use Rattle.merge.specs.Merge.{Nothing, One, Twice, numbers}
-use Rattle.merge.specs.Merge.{isThere, inEither, howMany}
+use Rattle.merge.specs.Set.{isMisfitSet, sectorsIn}
+use Rattle.merge.specs.Merge.{Nothing, One, Twice, numbers, isThere, inEither, howMany}
 use Rattle.merge.specs.Index.{sectorAt, shown, Indexed, entryInEither}
 use Rattle.merge.proofs.NumberLaws.{counts-agree}
 use Rattle.merge.proofs.FormLaws.{fits-is-some, read-holds}

@@ -6,6 +6,7 @@ use mathlib.Core.Bool.{Bool, true, false, _||_, or-comm}
 use mathlib.Core.List.{List}
 use lib.Dec.{ltb, eqb}
 use lib.ListN.{length}
+use borrow.Author.Tests.{eqb-true}
 use Rattle.lists.specs.Place.{anywhere}
 use Rattle.refusal.specs.Answer.{Answer, refuseIf, settled}
 use Rattle.merge.specs.Set.{Sector, isMisfitSet, sectorsIn}
@@ -16,7 +17,6 @@ use Rattle.merge.specs.Claims.{bothFail}
 use Rattle.merge.proofs.NumberLaws.{nowhere-at-number, lists-agree}
 use Rattle.merge.proofs.HeldLaws.{held-has-number}
 use Rattle.merge.proofs.SwapLaws.{odds-swap, taken-swaps}
-use borrow.Author.Tests.{eqb-true}
 
 module _ (ss ts : List Sector) where
   crowd-swaps : isCrowded ss ts ≡ isCrowded ts ss

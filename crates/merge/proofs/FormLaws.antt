@@ -12,11 +12,11 @@ use lib.ListN.{length, take, drop, length-append, take-append-drop}
 use lib.Seq.{take-at, drop-at, length-take-le}
 use Rattle.lists.specs.Place.{everywhere}
 use Rattle.lists.proofs.BoolLaws.{both}
-use Rattle.lists.proofs.PlaceLaws.{everywhere-of-none, everywhere-of-passing}
-use Rattle.lists.proofs.PlaceLaws.{everywhere-passes-at-first, everywhere-in-rest}
+use Rattle.lists.proofs.PlaceLaws.{everywhere-of-none, everywhere-of-passing, everywhere-passes-at-first}
+use Rattle.lists.proofs.PlaceLaws.{everywhere-in-rest}
 use Rattle.sectors.specs.Sector.{sectorSize}
-use Rattle.merge.specs.Set.{Sector, asByte, sectorBytes, setBytes, sectorOf, withFirst, setWithin, setOf}
-use Rattle.merge.specs.Set.{isNone, orEmpty, isMisfitSet, sectorsIn}
+use Rattle.merge.specs.Set.{Sector, asByte, sectorBytes, setBytes, sectorOf, withFirst, setWithin, setOf, isNone}
+use Rattle.merge.specs.Set.{orEmpty, isMisfitSet, sectorsIn}
 use Rattle.merge.specs.Claims.{isSector, Restates, end, same, yes, SetsAsBytes}
 use Rattle.merge.proofs.SetLaws.{set-of-none, set-of-sector}
 

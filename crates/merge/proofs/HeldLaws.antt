@@ -9,8 +9,8 @@ use borrow.Author.Tests.{eqb-true, ne-eqb}
 use lib.Dec.{eqb}
 use Rattle.lists.specs.Table.{tabulated}
 use Rattle.merge.specs.Set.{Sector}
-use Rattle.merge.specs.Merge.{Held, Nothing, One, Twice, withCopy, heldOf, taken, asList, takenAt}
-use Rattle.merge.specs.Merge.{merged, numbers, isTwice}
+use Rattle.merge.specs.Merge.{Held, Nothing, One, Twice, withCopy, heldOf, taken, asList, takenAt, merged}
+use Rattle.merge.specs.Merge.{numbers, isTwice}
 use Rattle.merge.proofs.IndexLaws.{joined, joined-assoc, joined-nothing}
 use Rattle.merge.proofs.OutputLaws.{taken-keeps}
 

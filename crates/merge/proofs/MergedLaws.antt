@@ -6,9 +6,10 @@ use mathlib.Core.Bool.{Bool, true, false, cond, _&&_, _||_, true≢false}
 use mathlib.Core.List.{List, [], _∷_, _++_, map, flatMap, map-append}
 use borrow.Author.Tests.{eqb-true}
 use lib.Dec.{eqb}
+use lib.ListN.{length, length-map}
 use Rattle.lists.specs.Place.{anywhere, everywhere}
-use Rattle.lists.proofs.PlaceLaws.{everywhere-of-none, everywhere-of-append}
-use Rattle.lists.proofs.PlaceLaws.{everywhere-passes-at-first, everywhere-in-rest, everywhere-of-passing}
+use Rattle.lists.proofs.PlaceLaws.{everywhere-of-none, everywhere-of-append, everywhere-passes-at-first}
+use Rattle.lists.proofs.PlaceLaws.{everywhere-in-rest, everywhere-of-passing}
 use Rattle.merge.specs.Set.{Sector}
 use Rattle.merge.specs.Merge.{Held, Nothing, One, Twice, withCopy, heldOf, taken, asList, takenAt, merged}
 use Rattle.merge.specs.Merge.{numbers, isThere, inEither, isTwice, atOddsAt, howMany}
@@ -16,7 +17,6 @@ use Rattle.merge.specs.Claims.{isSector, those}
 use Rattle.merge.proofs.ChoiceLaws.{at-peace-is-not-twice}
 use Rattle.merge.proofs.HeldLaws.{hasNumber, taken-own, taken-once}
 use Rattle.merge.proofs.NumberLaws.{each-number, nowhere-at-number}
-use lib.ListN.{length, length-map}
 use Rattle.merge.proofs.OutputLaws.{taken-keeps}
 
 -- ---- each number once, in ascending order

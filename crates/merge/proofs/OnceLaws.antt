@@ -6,8 +6,8 @@ use mathlib.Core.Bool.{Bool, true, false, cond, _&&_, _||_, and-false}
 use mathlib.Core.List.{List, [], _∷_, flatMap}
 use borrow.Author.Tests.{eq-eqb}
 use Rattle.merge.specs.Set.{Sector, sectorsIn, setOf, setWithin}
-use Rattle.merge.specs.Merge.{Held, Nothing, One, Twice, heldOf, better, taken, asList, takenAt, merged}
-use Rattle.merge.specs.Merge.{numbers, isThere, inEither, howMany, isTwice, sameBytes, disagree, atOdds, atOddsAt}
+use Rattle.merge.specs.Merge.{Held, Nothing, One, Twice, heldOf, better, taken, asList, takenAt, merged, numbers}
+use Rattle.merge.specs.Merge.{isThere, inEither, howMany, isTwice, sameBytes, disagree, atOdds, atOddsAt}
 use Rattle.merge.specs.Claims.{Takes}
 use Rattle.merge.proofs.NumberLaws.{nowhere-if-never}
 use Rattle.merge.proofs.AcceptLaws.{accepts-takes}

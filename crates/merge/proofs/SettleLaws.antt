@@ -5,6 +5,8 @@ use mathlib.Core.Path.{_≡_, refl, sym}
 use mathlib.Core.Bool.{Bool, true, false, _||_}
 use mathlib.Core.List.{List}
 use lib.ListN.{length}
+use lib.Dec.{ltb}
+use Rattle.lists.specs.Place.{anywhere}
 use Rattle.refusal.specs.Table.{numberOf, placeOf}
 use Rattle.refusal.specs.Answer.{Answer, accepted, refused, refuseIf, firstRefusal}
 use Rattle.refusal.specs.declared.Refusal.{Refusal}
@@ -13,8 +15,6 @@ use Rattle.merge.specs.Set.{sectorsIn, isMisfitSet}
 use Rattle.merge.specs.Merge.{isCrowded, atOddsAt, howMany, inEither, numbers}
 use Rattle.merge.specs.Rule.{mergeRule, MergeAnswer, mergeAnswer, mergeOutput}
 use Rattle.merge.specs.Index.{setsRule, numbersRule, checkedRule, Settles}
-use Rattle.lists.specs.Place.{anywhere}
-use lib.Dec.{ltb}
 
 module _ (first second : List ℕ) where
   -- ---- an earlier rule, then a later one

@@ -6,11 +6,10 @@ use mathlib.Core.Bool.{Bool, true, false, cond, not, _&&_, true≢false, false�
 use mathlib.Core.List.{List, [], _∷_}
 use borrow.Author.Tests.{eqb-true, eqb-false, ne-eqb, not-false}
 use lib.Dec.{eqb}
-use Rattle.merge.specs.Set.{Sector}
-use Rattle.merge.specs.Merge.{Held, Nothing, One, Twice, better, taken}
-use Rattle.merge.specs.Merge.{sameBytes, disagree, atOdds}
-use Rattle.merge.specs.Claims.{bothFail}
 use Rattle.lists.proofs.BoolLaws.{both}
+use Rattle.merge.specs.Set.{Sector}
+use Rattle.merge.specs.Merge.{Held, Nothing, One, Twice, better, taken, sameBytes, disagree, atOdds}
+use Rattle.merge.specs.Claims.{bothFail}
 use Rattle.merge.proofs.HeldLaws.{hasNumber}
 use Rattle.merge.proofs.ChoiceLaws.{odds-with-nothing, twice-second-is-at-odds}
 use Rattle.merge.proofs.OnceLaws.{with-nothing}

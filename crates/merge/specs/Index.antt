@@ -7,9 +7,9 @@ use mathlib.Core.List.{List}
 use mathlib.Core.Option.{Option, none, some}
 use lib.Dec.{eqb, ltb}
 use lib.ListN.{length, drop, getD}
+use Rattle.lists.specs.Place.{anywhere, lowest}
 use Rattle.refusal.specs.Answer.{Answer, accepted, refused, refuseIf, firstRefusal, settled}
 use Rattle.sectors.specs.Sector.{sectorSize}
-use Rattle.lists.specs.Place.{anywhere, lowest}
 use Rattle.merge.specs.Set.{Sector, sectorOf, isMisfitSet, sectorsIn}
 use Rattle.merge.specs.Rule.{roomRule, MergeAnswer, storing, result}
 use Rattle.merge.specs.Merge.{numbers, Held, Nothing, One, Twice, heldOf, inEither, howMany, atOddsAt}

@@ -21,8 +21,8 @@ use Rattle.symbols.specs.declared.Cell.{Cell}
 use Rattle.symbols.proofs.RoundTripLaws.{cells-are-read, read-of-write}
 use Rattle.symbols.proofs.MiddleLaws.{cellsBefore, cells-after-byte}
 use Rattle.symbols.proofs.FormatLaws.{cells-of-zero-bytes, cells-of-mark-A1, fillerCells, fillerAfter, filler-is-read}
-use Rattle.intervals.proofs.CellLaws.{classOfCell}
 use Rattle.lengths.specs.Units.{classOfUnits}
+use Rattle.intervals.proofs.CellLaws.{classOfCell}
 use Rattle.fields.proofs.FillerLaws.{markA1, passes}
 use Rattle.demands.proofs.ClassCells.{classes-of-cells}
 use Rattle.readback.specs.SectorReads.{placeAfter}

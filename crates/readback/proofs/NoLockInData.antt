@@ -13,8 +13,8 @@ use Rattle.lists.proofs.PlaceLaws.{anywhere-of-none, anywhere-of-append, nowher
 use Rattle.timing.specs.Class.{classesOf}
 use Rattle.timing.specs.declared.Profile.{Profile}
 use Rattle.timing.proofs.ClassLaws.{classes-of-drop}
-use Rattle.items.specs.Item.{isMark}
 use Rattle.register.specs.Register.{highByte, lowByte}
+use Rattle.items.specs.Item.{isMark}
 use Rattle.items.specs.Written.{freshCheck, itemBytes, afterItem, writtenFrom, written}
 use Rattle.items.specs.declared.Check.{Check}
 use Rattle.items.proofs.ItemLaws.{check-or-not, data-is-no-mark}
@@ -30,9 +30,9 @@ use Rattle.fields.proofs.FirstLockLaws.{none-is-found}
 use Rattle.demands.specs.Streams.{AcceptedProfile, Moved}
 use Rattle.demands.specs.Demand3.{stated}
 use Rattle.demands.proofs.Demand3.{moved-has-classes}
+use Rattle.demands.proofs.HowNear.{unmoved, within-the-margin}
 use Rattle.readback.specs.NoLockInData.{NoLock, DataAlone, NoLockInData}
 use Rattle.readback.proofs.CellClasses.{cells, cells-bits, cells-classes}
-use Rattle.demands.proofs.HowNear.{unmoved, within-the-margin}
 
 -- ---- the letters of data bytes
 

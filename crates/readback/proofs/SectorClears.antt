@@ -9,13 +9,13 @@ use lib.ListN.{length, getD, take, drop, length-drop}
 use lib.Seq.{length-take-le, getD-take, getD-drop}
 use Rattle.timing.specs.Class.{classesOf}
 use Rattle.timing.specs.declared.Profile.{Profile}
-use Rattle.clearance.specs.Clearance.{clearanceOf}
-use Rattle.clearance.proofs.AloneLaws.{least-is-what-each-has}
 use Rattle.lengths.specs.Stream.{streamOf}
 use Rattle.fields.specs.Field.{fieldUsed}
 use Rattle.fields.specs.FieldRule.{FieldAnswer, fieldReading}
 use Rattle.fields.proofs.ReaderLaws.{used-is-within}
 use Rattle.sectors.specs.Sector.{sectorSize, sectorItems}
+use Rattle.clearance.specs.Clearance.{clearanceOf}
+use Rattle.clearance.proofs.AloneLaws.{least-is-what-each-has}
 use Rattle.demands.specs.Streams.{AcceptedProfile, Moved}
 use Rattle.demands.specs.Demand3.{stated}
 use Rattle.demands.proofs.HowNear.{each-is-clear, within-the-margin, unmoved}

@@ -6,6 +6,7 @@ use mathlib.Core.List.{List, _++_, []}
 use lib.ListN.{replicate}
 use Rattle.timing.specs.Class.{classesOf}
 use Rattle.timing.specs.declared.Profile.{Profile}
+use Rattle.items.specs.Written.{written}
 use Rattle.lengths.specs.Stream.{streamOf}
 use Rattle.sectors.specs.Sector.{sectorItems}
 use Rattle.demands.specs.Streams.{AcceptedProfile, Moved}
@@ -18,7 +19,6 @@ use Rattle.readback.proofs.WrittenSector.{sector-written, sector-is-lis
 use Rattle.readback.proofs.CellClasses.{classesFor}
 use Rattle.readback.proofs.SectorAhead.{data-count, FieldsFound, fields-found, sync-at-front, data-place}
 use Rattle.readback.proofs.SectorAhead.{id-place}
-use Rattle.items.specs.Written.{written}
 
 module _
     (track side sector code : ℕ) (bytes : List ℕ) (made : Made track side sector code bytes) (p : Profile)

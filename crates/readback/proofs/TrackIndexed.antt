@@ -22,6 +22,7 @@ use Rattle.symbols.specs.Bytes.{isGap}
 use Rattle.fields.specs.Lock.{lockAt}
 use Rattle.fields.proofs.MarkLaws.{no-lock-without-gap}
 use Rattle.fields.proofs.FirstLockLaws.{none-is-found}
+use Rattle.fields.proofs.FillerLaws.{passes}
 use Rattle.track.specs.Index.{entriesFrom, entriesOf, crowdRule, indexRule, handedBack, indexEntries}
 use Rattle.track.specs.declared.Entry.{Entry}
 use Rattle.track.proofs.SearchLaws.{refused-is-no-lock, search-ends}
@@ -37,7 +38,6 @@ use Rattle.readback.proofs.FieldAhead.{SyncAhead, BytesAhead, gap-and-s
 use Rattle.readback.proofs.SectorAhead.{sync-at-front, FieldsFound, fields-found, data-place, id-place}
 use Rattle.readback.proofs.SectorIndexed.{made-of, dataEnd, sector-listed}
 use Rattle.readback.proofs.NoLockInData.{no-lock-in-data}
-use Rattle.fields.proofs.FillerLaws.{passes}
 
 -- ---- the written bytes
 

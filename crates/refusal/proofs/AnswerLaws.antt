@@ -9,14 +9,13 @@ use lib.Dec.{eqb}
 use borrow.Author.Tests.{eqb-true, eqb-false, eq-eqb}
 use Rattle.lists.specs.Filled.{filled}
 use Rattle.refusal.specs.Table.{numberOf, placeOf}
-use Rattle.refusal.specs.Answer.{Answer, accepted, refused, refuseIf, firstRefusal, verdictAnswer}
-use Rattle.refusal.specs.Answer.{settled}
+use Rattle.refusal.specs.Answer.{Answer, accepted, refused, refuseIf, firstRefusal, verdictAnswer, settled}
 use Rattle.refusal.specs.declared.Refusal.{Refusal}
 use Rattle.refusal.specs.declared.Refusal.the-variants.{ProfileOutOfRange, ProfileInconsistent, NotAnItem}
-use Rattle.refusal.specs.declared.Refusal.the-variants.{TooLong, IntervalTooShort, IntervalTooLong}
-use Rattle.refusal.specs.declared.Refusal.the-variants.{NotWholeBytes, MisplacedMark, OutputTooShort, NoLock}
-use Rattle.refusal.specs.declared.Refusal.the-variants.{EndsEarly, CountOutOfRange, SectorSizeMismatch}
-use Rattle.refusal.specs.declared.Refusal.the-variants.{MalformedInput, TooManySectors, UnrulyWord, SectorsAtOdds}
+use Rattle.refusal.specs.declared.Refusal.the-variants.{TooLong, IntervalTooShort, IntervalTooLong, NotWholeBytes}
+use Rattle.refusal.specs.declared.Refusal.the-variants.{MisplacedMark, OutputTooShort, NoLock, EndsEarly}
+use Rattle.refusal.specs.declared.Refusal.the-variants.{CountOutOfRange, SectorSizeMismatch, MalformedInput}
+use Rattle.refusal.specs.declared.Refusal.the-variants.{TooManySectors, UnrulyWord, SectorsAtOdds}
 use Rattle.refusal.specs.declared.Verdict.{Verdict}
 use Rattle.refusal.specs.declared.Verdict.the-variants.{Accepted, Refused}
 

@@ -5,10 +5,9 @@ use mathlib.Core.Path.{_≡_, refl, sym, ap, ap₂, _∙_}
 use native.Mathlib.Omega.{arith}
 use lib.Bits.{bitXor, xor-lt, xor-comm}
 use Rattle.register.specs.Register.{shifted, shiftedBy, fed}
-use Rattle.register.proofs.LinearLaws.{Linear, unshifted-is-linear, down-is-linear, up-is-linear}
-use Rattle.register.proofs.LinearLaws.{sum-is-linear, chain-is-linear, linear-by-single-bits}
-use Rattle.register.proofs.RegisterLaws.{shifted-by-of-xor, shifted-by-is-power}
-use Rattle.register.proofs.RegisterLaws.{fed-is-top-and-low-byte}
+use Rattle.register.proofs.LinearLaws.{Linear, unshifted-is-linear, down-is-linear, up-is-linear, sum-is-linear}
+use Rattle.register.proofs.LinearLaws.{chain-is-linear, linear-by-single-bits}
+use Rattle.register.proofs.RegisterLaws.{shifted-by-of-xor, shifted-by-is-power, fed-is-top-and-low-byte}
 
 -- ---- the parts of the formulas
 

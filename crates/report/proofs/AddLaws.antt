@@ -8,7 +8,7 @@ use native.Mathlib.Omega.{arith}
 use lib.Dec.{eqb}
 use borrow.Author.Tests.{eq-eqb, ne-eqb}
 use Rattle.report.specs.Row.{Row, countIn, noRow, addRow, isOverlarge}
-use Rattle.report.specs.Report.{Report, rowAt, addReports}
+use Rattle.report.specs.Report.{Report, addReports}
 use Rattle.report.proofs.RowLaws.{two-empty-rows, first-row-is-empty, second-row-is-empty, no-row-is-empty}
 use Rattle.report.proofs.RowLaws.{bothAdded, by-count, row-fits, fitting-row}
 

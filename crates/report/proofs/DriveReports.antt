@@ -1,16 +1,13 @@
 -- Why the claim on reports holds: the row of lists joined is their rows added, adding goes row by row, and every
 -- interval is of one class. That the second list may be classed as a list of its own is the one place that needs the
 -- classing to stand as it began. Rests on no axiom.
-use Prim.Native.Nat.{ℕ, _<_}
-use mathlib.Core.Path.{_≡_, refl, sym, ap, ap₂, _∙_}
-use mathlib.Core.Bool.{false}
+use Prim.Native.Nat.{ℕ}
+use mathlib.Core.Path.{_≡_, refl, sym, _∙_}
 use mathlib.Core.List.{List, [], _∷_, _++_}
 use Rattle.timing.specs.Class.{atStart, classesOf}
 use Rattle.timing.specs.declared.Profile.{Profile}
 use Rattle.timing.proofs.ClassLaws.{classes-from-start, classes-none, classes-length, cursor-stays}
-use Rattle.report.specs.Row.{addRow, isOverlarge}
-use Rattle.report.specs.Report.{Report, rowAt, reportOf, addReports, noReport, addRule}
-use Rattle.report.specs.Report.{added}
+use Rattle.report.specs.Report.{Report, rowAt, reportOf, addReports, addRule, added}
 use Rattle.report.specs.Claims.{allJoined, allAdded, Regrouped, DriveReports}
 use Rattle.report.proofs.AddLaws.{add-reports-comm, add-reports-assoc, later-rows-fit}
 use Rattle.report.proofs.SumLaws.{row-of-sum, row-of-sum-fits, sum-is-accepted, added-if-accepted}

@@ -2,7 +2,7 @@
 -- an empty list nothing comes in. Rests on no axiom.
 use Prim.Native.Nat.{ℕ, _+_, _≤_, min, max}
 use mathlib.Core.Path.{_≡_, refl, sym, _∙_}
-use mathlib.Core.Bool.{Bool, true, false}
+use mathlib.Core.Bool.{true, false}
 use mathlib.Core.List.{List, [], _∷_, _++_, append-nil}
 use mathlib.Mathlib.Data.Bool.Basic.{or-eq-false-eq-eq-false-and-eq-false}
 use native.Mathlib.Nat.{zero-add, add-zero, zero-max, max-zero}
@@ -10,8 +10,8 @@ use native.Mathlib.Omega.{arith}
 use borrow.Author.Tests.{eqb-true, eqb-false, eq-eqb, ne-eqb, ltb-false, le-ltb}
 use lib.Dec.{eqb}
 use lib.ListN.{length-append}
-use Rattle.report.specs.Row.{Row, countIn, leastIn, greatestIn, sumIn, least, greatest, total, rowOf}
-use Rattle.report.specs.Row.{noRow, addRow, largest, isOverlarge}
+use Rattle.report.specs.Row.{Row, countIn, leastIn, greatestIn, sumIn, least, greatest, total, rowOf, noRow}
+use Rattle.report.specs.Row.{addRow, largest, isOverlarge}
 
 -- a row is empty or not
 pub by-count : {P : Type 0} (row : Row) → (countIn row ≡ 0 → P) → ((countIn row ≡ 0 → ⊥) → P) → P

@@ -2,12 +2,13 @@
 -- unless it is nothing. Rests on no axiom.
 use Prim.Native.Nat.{ℕ, suc, min, _+_, _-_, _≤_, _<_}
 use mathlib.Core.Path.{_≡_, sym, _∙_, ap}
-use mathlib.Core.Bool.{true, false, not}
+use mathlib.Core.Bool.{not}
 use mathlib.Core.List.{List, [], _∷_, _++_}
 use native.Mathlib.Nat.{zero-add}
 use native.Mathlib.Omega.{arith}
 use lib.ListN.{length, take, drop, length-take, length-drop}
 use lib.Seq.{drop-drop}
+use Rattle.lists.specs.Filled.{storedAt}
 use Rattle.refusal.specs.Answer.{accepted, refused, refuseIf, firstRefusal}
 use Rattle.refusal.specs.Table.{numberOf, placeOf}
 use Rattle.refusal.specs.declared.Refusal.{Refusal}
@@ -15,13 +16,12 @@ use Rattle.refusal.specs.declared.Refusal.the-variants.{MalformedInput}
 use Rattle.refusal.specs.declared.Counted.the-variants.{Count, Refused}
 use Rattle.refusal.proofs.AnswerLaws.{refusal-decides, refusal-keeps-the-buffer, first-refusal-passes}
 use Rattle.refusal.proofs.AnswerLaws.{acceptance-fills-the-buffer, refused-earlier, accepted-later}
-use Rattle.lists.specs.Filled.{storedAt}
 use Rattle.text.specs.Ascii.{lineFeed}
 use Rattle.text.specs.Pieces.{piecesOf, upTo}
 use Rattle.text.proofs.PieceLaws.{pieces-of-text, piece-ends-in-text, pieces-next, pieces-last}
 use Rattle.script.specs.Line.{isItemLine, lineItems}
 use Rattle.script.specs.Input.{garbledFrom, itemsOfLines}
-use Rattle.script.specs.Read.{LinesRead, LinesStored, Stored, within}
+use Rattle.script.specs.Read.{LinesRead, LinesStored, Stored}
 use Rattle.script.proofs.BufferLaws.{stored-as-far-as-there-is-room}
 
 -- the line that starts at a place of the text, where its end was looked for

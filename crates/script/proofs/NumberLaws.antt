@@ -1,7 +1,7 @@
 -- Decimals that are stored one after the other, as many as there are places: by induction on the fields, each number
 -- taking the next place. Rests on no axiom.
 use Prim.Native.Nat.{ℕ, suc, _+_, _<_}
-use mathlib.Core.Path.{_≡_, sym, _∙_}
+use mathlib.Core.Path.{_≡_, sym}
 use mathlib.Core.Bool.{Bool, true, false, _&&_, and-true, and-false}
 use mathlib.Core.List.{List, [], _∷_, _++_, map, append-nil}
 use native.Mathlib.Nat.{zero-add, add-zero, add-suc, suc-add}

@@ -8,14 +8,14 @@ use native.Mathlib.Numerals.{add-one}
 use native.Mathlib.Omega.{arith}
 use lib.ListN.{length, take, drop, length-append}
 use borrow.Author.Tests.{lt-ltb, le-ltb}
+use Rattle.lists.specs.Filled.{filled}
+use Rattle.lists.proofs.StoreLaws.{front-of-filled}
 use Rattle.refusal.specs.Answer.{refused, refuseIf, countedAnswer}
 use Rattle.refusal.specs.Table.{numberOf, placeOf}
 use Rattle.refusal.specs.declared.Refusal.{Refusal}
 use Rattle.refusal.specs.declared.Counted.{Counted}
 use Rattle.refusal.proofs.AnswerLaws.{refusal-decides, refusal-keeps-the-buffer, accepted-later}
 use Rattle.refusal.proofs.AnswerLaws.{acceptance-fills-the-buffer}
-use Rattle.lists.specs.Filled.{filled}
-use Rattle.lists.proofs.StoreLaws.{front-of-filled}
 use Rattle.timing.specs.declared.Profile.{Profile}
 use Rattle.text.specs.Ascii.{lineFeed}
 use Rattle.text.specs.Pieces.{piecesOf, upTo}

@@ -8,16 +8,16 @@ use lib.Seq.{drop-cons, length-take-le}
 use Rattle.lists.specs.Filled.{filled, storedAt}
 use Rattle.lists.proofs.StoreLaws.{stored-after-stored, stored-at-front-fills}
 use Rattle.refusal.specs.Answer.{Answer}
-use Rattle.text.specs.Ascii.{ascii}
-use Rattle.text.specs.Line.{lineOf}
-use Rattle.text.proofs.PrintLaws.{decimal-within}
-use Rattle.text.proofs.LineLaws.{fields-length-of-none, fields-length-of-more, line-length}
 use Rattle.timing.specs.Class.{atStart, classIn, cursorPast, classesFrom, classesOf, classNumber}
 use Rattle.timing.specs.declared.Class.{Class}
 use Rattle.timing.specs.declared.Class.the-variants.{Narrow, Two, Three, Four, Wide}
 use Rattle.timing.specs.declared.Profile.{Profile}
 use Rattle.timing.specs.declared.cursor.Cursor.{Cursor}
 use Rattle.timing.proofs.ClassLaws.{classes-none, classes-here, classes-from-start}
+use Rattle.text.specs.Ascii.{ascii}
+use Rattle.text.specs.Line.{lineOf}
+use Rattle.text.proofs.PrintLaws.{decimal-within}
+use Rattle.text.proofs.LineLaws.{fields-length-of-none, fields-length-of-more, line-length}
 use Rattle.strip.specs.Output.{refusalText, cellText, cellsText, streamText, reportText}
 use Rattle.strip.specs.Printed.{Front, Printed, outputLength}
 

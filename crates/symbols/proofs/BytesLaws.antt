@@ -14,8 +14,8 @@ use Rattle.symbols.specs.Bits.{Bit, O, byteBits, markBits, withGaps, wri
 use Rattle.symbols.specs.Bytes.{itemOf, rowStrays, rowsOf, straysOf, itemsRead, straysRead}
 use Rattle.symbols.proofs.TestLaws.{neither, holds, held}
 use Rattle.symbols.proofs.PlaceLaws.{by-rows, rows-append, one-row}
-use Rattle.symbols.proofs.RowLaws.{item-of-written-byte, written-byte-has-no-stray}
-use Rattle.symbols.proofs.RowLaws.{row, row-is-a-byte, written-of-row}
+use Rattle.symbols.proofs.RowLaws.{item-of-written-byte, written-byte-has-no-stray, row, row-is-a-byte}
+use Rattle.symbols.proofs.RowLaws.{written-of-row}
 
 -- From bytes to rows
 

@@ -11,12 +11,12 @@ use lib.ListN.{length, getD, take, drop, length-append, length-take, length-drop
 use lib.Seq.{append-snoc, length-take-le}
 use Rattle.lists.specs.Place.{anywhere, lowest, passed}
 use Rattle.lists.proofs.PlaceLaws.{anywhere-of-append, lowest-of-some}
+use Rattle.half_cells.specs.machine.Candidate.{candidate}
+use Rattle.half_cells.specs.machine.Word.{missing, misfits, cellsSince, firstOfCells}
 use Rattle.symbols.specs.Bits.{Bit, O, lastOf}
 use Rattle.symbols.specs.Bytes.{numberFrom, isGap, itemOf, rowStrays, rowsOf, straysOf, itemsRead}
 use Rattle.symbols.specs.Reading.{readBits, sources}
 use Rattle.symbols.specs.Strip.{isStray}
-use Rattle.half_cells.specs.machine.Candidate.{candidate}
-use Rattle.half_cells.specs.machine.Word.{missing, misfits, cellsSince, firstOfCells}
 use Rattle.symbols.specs.machine.Step.{surplus, wordOf, codeWord, closed}
 use Rattle.symbols.specs.declared.Cell.{Cell}
 use Rattle.symbols.specs.declared.Reading.{Reading}
@@ -28,8 +28,8 @@ use Rattle.symbols.proofs.HalfLaws.{cells-after-append, cells-after-len
 use Rattle.symbols.proofs.WordLaws.{wordAfter, shownTests, Verdict, word-verdict, row-strays-end}
 use Rattle.symbols.proofs.NumberLaws.{number-append, last-digit-is-data, word-of-digits}
 use Rattle.symbols.proofs.SourceLaws.{place-by-ones}
-use Rattle.symbols.proofs.ReadsLaws.{Open, Held, whole-rows, front-length, letters-count}
-use Rattle.symbols.proofs.ReadsLaws.{items-so-far, strays-so-far}
+use Rattle.symbols.proofs.ReadsLaws.{Open, Held, whole-rows, front-length, letters-count, items-so-far}
+use Rattle.symbols.proofs.ReadsLaws.{strays-so-far}
 
 -- m has a word whole: of the letters that are left the first eight are its row
 module _

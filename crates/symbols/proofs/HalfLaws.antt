@@ -10,8 +10,8 @@ use Rattle.symbols.specs.Reading.{given, lastAfter, readFrom, readBits, 
 use Rattle.symbols.specs.declared.Cell.{Cell}
 use Rattle.symbols.specs.declared.Cell.the-variants.{Short, Medium, Long}
 use Rattle.symbols.proofs.UnitLaws.{unitsIn}
-use Rattle.symbols.proofs.HalfCells.{clockAfter, dataOf, cellsAfter, halves, track, clockAtEnd}
-use Rattle.symbols.proofs.HalfCells.{onesAmong, fromLetter}
+use Rattle.symbols.proofs.HalfCells.{clockAfter, dataOf, cellsAfter, halves, track, clockAtEnd, onesAmong}
+use Rattle.symbols.proofs.HalfCells.{fromLetter}
 
 pub cells-after-append
     : (b : Bit) (xs ys : List Bit) → cellsAfter b (xs ++ ys) ≡ cellsAfter b xs ++ cellsAfter (lastOf b xs) ys

@@ -4,6 +4,7 @@ use Prim.Native.Nat.{ℕ, _+_, _-_, _*_, _%_, _^_, _≤_, _<_}
 use mathlib.Core.Path.{_≡_, refl, ap, _∙_}
 use mathlib.Core.List.{List, [], _∷_}
 use native.Mathlib.Nat.{add-zero, add-mod-mod, mod-add-mod, zero-mul, mul-assoc, mod-eq-of-lt, lt-of-lt-of-le}
+use native.Mathlib.Nat.{add-assoc}
 use native.Mathlib.Omega.{arith}
 use lib.Bits.{bitOr, or-lt, or-shifted, or-block, or-mod}
 use lib.ListN.{length}
@@ -11,7 +12,6 @@ use lib.Pow.{pow-add, pow-lt, pow-mono, pow-pos, shl-exact, shl-lt, mod-mod-pow}
 use Rattle.symbols.specs.machine.Step.{AllCells, shifted, shiftedAll, emptyReading, joined}
 use Rattle.symbols.specs.declared.Reading.{Reading}
 use Rattle.symbols.proofs.EaseLaws.{shifted-out, held-by-shift}
-use native.Mathlib.Nat.{add-assoc}
 
 -- the half cells, shifted by a cell more
 join-then-shift

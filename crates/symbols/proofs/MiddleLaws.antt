@@ -10,8 +10,8 @@ use lib.ListN.{length, take, drop}
 use lib.Seq.{append-snoc, drop-append-seam}
 use Rattle.items.specs.Item.{isMark}
 use Rattle.symbols.specs.Bits.{Bit, O, byteBits, writtenBits, allBits, bitsOf}
-use Rattle.symbols.specs.Cells.{pairSymbols, symbolsFrom, symbolsOf, cellsFrom}
-use Rattle.symbols.specs.Cells.{cellsOf, writtenSymbols, writtenCells}
+use Rattle.symbols.specs.Cells.{pairSymbols, symbolsFrom, symbolsOf, cellsFrom, cellsOf, writtenSymbols}
+use Rattle.symbols.specs.Cells.{writtenCells}
 use Rattle.symbols.specs.Reading.{units, readBits}
 use Rattle.symbols.specs.declared.Cell.{Cell}
 use Rattle.symbols.proofs.BytesLaws.{bits-of-append}

@@ -1,18 +1,18 @@
 -- Cells and the letters that reading them gives. Reading stands at a transition: before a 0 that follows a 0 (state O)
 -- or after a 1 (state I). So the pairs of the letters read, with one closing 0 more, have just the cells that were
 -- read, for every list of cells.
+use Prim.Native.Nat.{ℕ, _+_, _*_}
 use mathlib.Core.Path.{_≡_, refl, sym, ap, _∙_}
 use mathlib.Core.Bool.{Bool, true, false, cond}
 use mathlib.Core.List.{List, [], _∷_, _++_, map, append-assoc}
-use Prim.Native.Nat.{ℕ, _+_, _*_}
+use lib.ListN.{length}
+use lib.Dec.{eqb}
 use Rattle.symbols.specs.Bits.{Bit, O, I, G, isOne, lastOf}
 use Rattle.symbols.specs.Cells.{pairSymbols, symbolsFrom, symbolsOf, cellsFrom, cellsOf}
 use Rattle.symbols.specs.Bytes.{isGap, digit}
 use Rattle.symbols.specs.Reading.{units, given, lastAfter, readFrom, readBits}
 use Rattle.symbols.specs.declared.Cell.{Cell}
 use Rattle.symbols.specs.declared.Cell.the-variants.{Short, Medium, Long}
-use lib.ListN.{length}
-use lib.Dec.{eqb}
 
 -- Cells and units
 

@@ -10,8 +10,9 @@ use borrow.Author.Tests.{le-ltb, eq-eqb, eqb-true, ltb-false, not-false}
 use lib.Dec.{eqb, ltb}
 use lib.ListN.{length, length-append}
 use Rattle.lists.specs.Place.{anywhere, everywhere}
-use Rattle.items.specs.Item.{isByte}
 use Rattle.refusal.specs.Answer.{accepted}
+use Rattle.refusal.proofs.AnswerLaws.{refuse-if-accepts}
+use Rattle.items.specs.Item.{isByte}
 use Rattle.symbols.specs.Bits.{Bit, O, I, G, isOne, lastOf, allBits, bitsOf}
 use Rattle.symbols.specs.Cells.{writtenSymbols, writtenCells}
 use Rattle.symbols.specs.Reading.{units, given, lastAfter, readFrom, readBits}
@@ -22,9 +23,8 @@ use Rattle.symbols.specs.declared.Cell.the-variants.{Short, Medium, Long
 use Rattle.symbols.proofs.ReadingLaws.{units-injective, cells-of-read, last-is-no-gap, last-of-snoc}
 use Rattle.symbols.proofs.TestLaws.{neither}
 use Rattle.symbols.proofs.TokenLaws.{written-bits-are-read}
-use Rattle.symbols.proofs.BytesLaws.{length-of-bits, rows-of-bytes, items-of-rows}
-use Rattle.symbols.proofs.BytesLaws.{rows-have-no-stray, Whole, whole}
-use Rattle.refusal.proofs.AnswerLaws.{refuse-if-accepts}
+use Rattle.symbols.proofs.BytesLaws.{length-of-bits, rows-of-bytes, items-of-rows, rows-have-no-stray, Whole}
+use Rattle.symbols.proofs.BytesLaws.{whole}
 
 -- cells that give the letters of bytes, with lead and first closing 0, are the cells of those bytes
 written-cells-of-read :

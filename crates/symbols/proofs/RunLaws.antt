@@ -8,10 +8,10 @@ use mathlib.Core.List.{List, [], _∷_, _++_, map, append-assoc, append-nil, map
 use native.Mathlib.Omega.{arith}
 use lib.ListN.{length, length-append}
 use lib.Seq.{append-snoc}
+use Rattle.half_cells.specs.machine.Candidate.{candidate}
 use Rattle.symbols.specs.Bytes.{itemsRead}
 use Rattle.symbols.specs.Reading.{readFrom, readBits}
 use Rattle.symbols.specs.Strip.{isStray, stripRule, stripItems}
-use Rattle.half_cells.specs.machine.Candidate.{candidate}
 use Rattle.symbols.specs.machine.Step.{freshReading, stepped, wordClosed, ran, ranWords, stripAnswer}
 use Rattle.symbols.specs.declared.Cell.{Cell}
 use Rattle.symbols.specs.declared.Reading.{Reading}

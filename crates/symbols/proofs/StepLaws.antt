@@ -11,15 +11,16 @@ use native.Mathlib.Decide.{decLt}
 use borrow.Author.Tests.{lt-leb, le-leb}
 use lib.Bits.{bitOr, or-shifted}
 use lib.ListN.{length, getD, length-append}
+use lib.Pow.{pow-lt, high, low, mod-pow-add, mod-mod-pow}
 use Rattle.lists.specs.Place.{anywhere, lowest, passed}
 use Rattle.lists.proofs.PlaceLaws.{lowest-of-some}
+use Rattle.half_cells.specs.machine.Candidate.{candidate}
 use Rattle.symbols.specs.Bits.{Bit, I, lastOf}
 use Rattle.symbols.specs.Bytes.{numberFrom, rowsOf, straysOf, itemsRead, straysRead}
 use Rattle.symbols.specs.Reading.{units, given, lastAfter, readFrom, readBits, sources}
 use Rattle.symbols.specs.Strip.{isStray}
-use Rattle.half_cells.specs.machine.Candidate.{candidate}
-use Rattle.symbols.specs.machine.Step.{freshReading, shifted, codeWord, closed, steppedBy, stepped}
-use Rattle.symbols.specs.machine.Step.{wordBy, wordClosed}
+use Rattle.symbols.specs.machine.Step.{freshReading, shifted, codeWord, closed, steppedBy, stepped, wordBy}
+use Rattle.symbols.specs.machine.Step.{wordClosed}
 use Rattle.symbols.specs.declared.Cell.{Cell}
 use Rattle.symbols.specs.declared.Cell.the-variants.{Short, Medium, Long}
 use Rattle.symbols.specs.declared.Reading.{Reading}
@@ -31,14 +32,12 @@ use Rattle.symbols.proofs.HalfLaws.{halves-append}
 use Rattle.symbols.proofs.NumberLaws.{number-append}
 use Rattle.symbols.proofs.ReadsLaws.{Open, Held, Reads, front-length, letters-count, items-so-far, strays-so-far}
 use Rattle.symbols.proofs.ClosingLaws.{word-closed, fair-word}
-use lib.Pow.{pow-lt, high, low, mod-pow-add, mod-mod-pow}
 use Rattle.symbols.proofs.EaseLaws.{shifted-out}
 
 -- what a cell more makes of the machine m after the cells cs
 pub record After (m : Reading) (cs : List Cell) (c : Cell) (next : Reading) : Type 0 where
   pub reads : Held next (cs ++ (c ∷ []))
   pub words : next .words ≡ m .words + length (wordClosed m c)
-  pub few : 0 < length (wordClosed m c) → next .held ≤ 4
   pub items :
       isStray (readBits (cs ++ (c ∷ []))) ≡ false
       → (isStray (readBits cs) ≡ false)
@@ -117,21 +116,18 @@ first-after Short =
     record {
       reads = first-opens _ Short _ _ refl (omega arith) refl refl refl refl;
       words = refl;
-      few = λ h. absurd (omega arith);
       items = λ h. (refl, refl);
     }
 first-after Medium =
     record {
       reads = first-opens _ Medium _ _ refl (omega arith) refl refl refl refl;
       words = refl;
-      few = λ h. absurd (omega arith);
       items = λ h. (refl, refl);
     }
 first-after Long =
     record {
       reads = first-opens _ Long _ _ refl (omega arith) refl refl refl refl;
       words = refl;
-      few = λ h. absurd (omega arith);
       items = λ h. (refl, refl);
     }
 
@@ -209,7 +205,6 @@ module _ (m : Reading) (cs : List Cell) (so-far : Held m cs) (room : length cs <
       record {
         reads = (grown, few);
         words = rw none (omega arith);
-        few = λ d. absurd (omega (arith, ap length none));
         items = λ fair. (
           ap (anywhere passed) (strays-so-far m cs so-far ∙ sym (strays-so-far m₁ cs′ (grown, few))) ∙ fair,
           items-so-far m₁ cs′ (grown, few)
@@ -230,7 +225,6 @@ module _ (m : Reading) (cs : List Cell) (so-far : Held m cs) (room : length cs <
       record {
         reads = rw last at (word-closed m₁ cs′ grown range (omega arith) rows few-words);
         words = rw one (mod-eq-of-lt few-words);
-        few = λ d. (let r = range .1 in omega arith);
         items = λ fair.
             let w = fair-word m₁ cs′ grown range (omega arith) rows few-words fair in (
               ap (anywhere passed) (strays-so-far m cs so-far) ∙ w .0,
@@ -258,7 +252,3 @@ after-cell m cs (inr so-far) room c = after-step m cs so-far room c
 module _ (m : Reading) (cs : List Cell) (r : Reads m cs) (room : length cs < 2 ^ 32) (c : Cell) where
   pub reads-step : Reads (stepped m c (length cs)) (cs ++ (c ∷ []))
   reads-step = inr (after-cell m cs r room c .reads)
-
-  -- a cell that closes a word leaves at most one bit more
-  pub step-held : 0 < length (wordClosed m c) → stepped m c (length cs) .held ≤ 4
-  step-held = after-cell m cs r room c .few

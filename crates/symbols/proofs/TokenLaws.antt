@@ -1,10 +1,10 @@
 -- Every list of letters that is made of 0s, 1s and whole marks 1 0 G 0 0 is read from some cells: in each of three
 -- states, after a 1, and with a 0 open after a 1 or after a 0, the next letters are what one cell or a few give. The
 -- letters of written bytes are such a list.
+use Prim.Native.Nat.{ℕ, _/_, _%_}
 use mathlib.Core.Path.{_≡_, refl, ap}
 use mathlib.Core.Bool.{Bool, true, false, cond}
 use mathlib.Core.List.{List, [], _∷_, _++_, append-assoc}
-use Prim.Native.Nat.{ℕ, _/_, _%_}
 use lib.Dec.{T, eqb, eqb→eq}
 use Rattle.items.specs.Item.{isMark}
 use Rattle.symbols.specs.Bits.{Bit, O, I, G, bitOf, byteBits, markBits, withGaps, writtenBits, allBits}

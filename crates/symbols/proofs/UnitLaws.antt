@@ -9,6 +9,7 @@ use native.Mathlib.Decide.{ℕ-discrete}
 use borrow.Author.Tests.{eq-eqb, ne-eqb}
 use lib.Dec.{eqb}
 use lib.ListN.{length, length-append, length-map}
+use lib.Arith.{digits-mod}
 use Rattle.lists.specs.Sum.{sumOf}
 use Rattle.symbols.specs.Bits.{Bit, O, I, G, isOne, lastOf, allBits}
 use Rattle.symbols.specs.Cells.{writtenCells}
@@ -20,7 +21,6 @@ use Rattle.symbols.specs.declared.Cell.the-variants.{Short, Medium, Long
 use Rattle.symbols.proofs.TestLaws.{same-test}
 use Rattle.symbols.proofs.ReadingLaws.{last-of-given, last-of-snoc, cell-gives}
 use Rattle.symbols.proofs.RoundTripLaws.{cells-are-read, read-of-write, bits-count}
-use lib.Arith.{digits-mod}
 
 -- the sum of some cells in units
 unfoldable pub unitsIn : List Cell → ℕ

@@ -10,10 +10,10 @@ use lib.Bits.{bitAnd, bitOr, and-comm}
 use lib.Count.{leadingZeros}
 use lib.ListN.{length, take}
 use Rattle.lists.specs.Place.{anywhere, lowest, passed}
-use Rattle.symbols.specs.Bits.{Bit, lastOf}
-use Rattle.symbols.specs.Bytes.{digit, numberFrom, isGap, gapInPlace, straysFrom, rowStrays, itemOf}
 use Rattle.half_cells.specs.machine.Candidate.{dataBits, candidate}
 use Rattle.half_cells.specs.machine.Word.{missing, isMarkWord, misfits}
+use Rattle.symbols.specs.Bits.{Bit, lastOf}
+use Rattle.symbols.specs.Bytes.{digit, numberFrom, isGap, gapInPlace, straysFrom, rowStrays, itemOf}
 use Rattle.symbols.proofs.TestLaws.{held, parts}
 use Rattle.symbols.proofs.RowLaws.{overLetters, over-letters}
 use Rattle.symbols.proofs.CellLaws.{follows, sound}

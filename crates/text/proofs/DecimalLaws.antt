@@ -9,8 +9,8 @@ use lib.Dec.{eqb, leb}
 use lib.ListN.{length, getD}
 use borrow.Author.Tests.{le-leb, lt-leb, ne-eqb}
 use Rattle.lists.specs.Place.{everywhere}
-use Rattle.text.specs.Decimal.{digit, isDigit, noLeadingZero, valueFrom, valueOf, isShort, isDecimal}
-use Rattle.text.specs.Decimal.{digitsRead, decimalRead}
+use Rattle.text.specs.Decimal.{digit, isDigit, noLeadingZero, valueFrom, valueOf, isShort, isDecimal, digitsRead}
+use Rattle.text.specs.Decimal.{decimalRead}
 use Rattle.text.specs.declared.Decimal.{Decimal}
 use Rattle.text.specs.declared.Decimal.the-variants.{Number, Malformed}
 

@@ -1,21 +1,21 @@
 -- Why the numbers of a printed line are read back: digits are neither tab nor line feed, so the pieces of the line
 -- are those that were printed. Rests on no axiom.
-use Prim.Native.Nat.{ℕ, _≤_, _<_}
-use mathlib.Core.Path.{_≡_, refl, ap}
-use mathlib.Core.Bool.{true, false, not, _&&_}
+use Prim.Native.Nat.{ℕ, _<_}
+use mathlib.Core.Path.{_≡_, refl}
+use mathlib.Core.Bool.{true, false, not}
 use mathlib.Core.List.{List, [], _∷_, _++_, map, append-nil}
 use native.Mathlib.Omega.{arith}
 use lib.Dec.{eqb, leb}
 use borrow.Author.Tests.{ne-eqb, eq-eqb, leb-true, not-true}
-use Rattle.text.specs.Ascii.{tab, lineFeed}
+use lib.Seq.{append-snoc}
 use Rattle.lists.specs.Place.{everywhere}
 use Rattle.lists.proofs.BoolLaws.{both}
 use Rattle.lists.proofs.PlaceLaws.{everywhere-of-append}
+use Rattle.text.specs.Ascii.{tab, lineFeed}
 use Rattle.text.specs.Pieces.{piecesOf, upTo}
 use Rattle.text.specs.Decimal.{decimal, isDigit, valueOf}
 use Rattle.text.specs.Line.{fieldsOf, lineOf}
 use Rattle.text.specs.Claims.{LineReadsBack, lacks}
-use lib.Seq.{append-snoc}
 use Rattle.text.proofs.DecimalReadBack.{printed}
 
 -- a text that lacks a byte begins with another one

@@ -6,7 +6,6 @@ use mathlib.Core.Path.{_≡_, refl}
 use mathlib.Core.Bool.{Bool, true, false, cond, _&&_, false≢true}
 use native.Mathlib.Omega.{arith}
 use native.Mathlib.Decide.{decLt}
-use mir.Val.{boolByte}
 use lib.Dec.{leb, ltb}
 use borrow.Author.Tests.{lt-ltb, le-ltb, lt-leb, le-leb}
 use Rattle.timing.specs.Profile.{profileRule}
@@ -16,6 +15,7 @@ use Rattle.timing.specs.declared.cursor.Cursor.{Cursor}
 use Rattle.timing.specs.declared.Class.the-variants.{Three, Four, Wide}
 use Rattle.timing.proofs.ClassLaws.{below-min-is-narrow, below-b23-is-two}
 use Rattle.timing.proofs.ProfileLaws.{kept}
+use mir.Val.{boolByte}
 
 ruleset tests = (lt-ltb, le-ltb, lt-leb, le-leb)
 

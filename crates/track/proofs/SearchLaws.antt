@@ -5,8 +5,8 @@ use Prim.Native.Nat.{ℕ, zero, suc, _+_, _-_, _<_, _≤_}
 use mathlib.Core.Path.{_≡_, refl, sym, ap, _∙_}
 use mathlib.Core.Bool.{Bool, true, false, cond, _&&_, true≢false}
 use mathlib.Core.List.{List, [], _++_}
-use native.Mathlib.Omega.{arith}
 use mathlib.Mathlib.Data.Bool.Basic.{eq-false-of-not-eq-true}
+use native.Mathlib.Omega.{arith}
 use borrow.Author.Tests.{eqb-true, leb-true}
 use lib.Dec.{eqb}
 use lib.ListN.{length, drop, length-drop}
@@ -26,8 +26,8 @@ use Rattle.fields.specs.Lock.{lockAt, lockFrom, searchRule, findRule}
 use Rattle.fields.proofs.FinderLaws.{lock-is-within}
 use Rattle.fields.proofs.FirstLockLaws.{lock-from-found, search-finds}
 use Rattle.track.specs.FieldKinds.{isId, dataBytes}
-use Rattle.track.specs.Index.{hasLock, lockPlace, fieldEnd, hasData, idByte, entryEnd}
-use Rattle.track.specs.Index.{nextStart, entriesAt, entriesBy, entriesFrom}
+use Rattle.track.specs.Index.{hasLock, lockPlace, fieldEnd, hasData, idByte, entryEnd, nextStart, entriesAt}
+use Rattle.track.specs.Index.{entriesBy, entriesFrom}
 use Rattle.track.specs.Claims.{TracksGoByLocks}
 use Rattle.track.specs.declared.Entry.{Entry}
 use Rattle.track.proofs.FieldLaws.{field-ends-within}

@@ -1,7 +1,7 @@
 -- Each entry of the table is the word of its previous bit and byte: the rule was computed over the whole table, and a
 -- lemma carries it to each index. Rests on no axiom.
 use Prim.Native.Nat.{ℕ, _+_, _*_, _/_, _%_}
-use mathlib.Core.Path.{_≡_, refl, ap, ap₂, _∙_}
+use mathlib.Core.Path.{_≡_, ap, ap₂, _∙_}
 use mathlib.Core.Bool.{cond}
 use mathlib.Core.List.{List}
 use native.Mathlib.Omega.{arith}

@@ -2,10 +2,10 @@
 -- ascend; and no interval has the least 0. Rests on no axiom.
 use mathlib.Core.Path.{sym}
 use native.Mathlib.Omega.{arith}
+use borrow.Author.Needs.{needs}
 use Rattle.clearance.specs.Clearance.{leastClearance}
 use Rattle.clearance.proofs.CursorLaws.{ascending-at-start}
 use Rattle.clearance.proofs.LeastLaws.{least-from-none}
-use borrow.Author.Needs.{needs}
 use Rattle.clearance.proofs.least.Statement.{statement}
 use Rattle.clearance.proofs.least.Tie as tie
 

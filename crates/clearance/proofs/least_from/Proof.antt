@@ -5,9 +5,9 @@ use Prim.Native.Nat.{ℕ, _-_, min}
 use mathlib.Core.Path.{ap₂, _∙_}
 use native.Mathlib.Omega.{arith}
 use lib.ListN.{length}
+use borrow.Author.Needs.{needs}
 use Rattle.clearance.specs.Nearest.{turned, room, leastMet}
 use Rattle.clearance.proofs.NearestLaws.{met-with}
-use borrow.Author.Needs.{needs}
 use Rattle.clearance.proofs.least_from.Proof.Turn.{Met, none-met, one-more-met, all-met}
 use Rattle.clearance.proofs.least_from.Statement.{statement}
 use Rattle.clearance.proofs.least_from.Tie as tie

@@ -1,10 +1,10 @@
 -- Why `of_interval` answers `clearanceOf`: the least of one clearance is that clearance, and under an accepted profile
 -- the edges ascend. Rests on no axiom.
 use native.Mathlib.Omega.{arith}
+use borrow.Author.Needs.{needs}
 use Rattle.clearance.specs.Clearance.{clearanceOf}
 use Rattle.clearance.proofs.CursorLaws.{ascending-at-start}
 use Rattle.clearance.proofs.LeastLaws.{least-from-one}
-use borrow.Author.Needs.{needs}
 use Rattle.clearance.proofs.of_interval.Statement.{statement}
 use Rattle.clearance.proofs.of_interval.Tie as tie
 

@@ -1,9 +1,9 @@
 -- Why `intervals::pass_over` gives `passed` and stores its words: its part is the whole list. Rests on no axiom.
 use lib.Seq.{take-length}
+use borrow.Author.Needs.{needs}
 use Rattle.intervals.specs.machine.Pass.{passed}
 use Rattle.intervals.specs.machine.Blocks.{atFirst, wordsOf}
 use Rattle.intervals.proofs.BlockLaws.{fair-at-first}
-use borrow.Author.Needs.{needs}
 use Rattle.intervals.proofs.pass_over.Statement.{statement}
 use Rattle.intervals.proofs.pass_over.Tie as tie
 

@@ -1,11 +1,11 @@
 -- Why `ism::ism_class` answers as the library does: it hands the arguments over and the answer back, with the clearance
 -- where the class was given. Rests on no axiom.
 use mathlib.Core.Path.{_≡_, refl}
+use borrow.Author.Needs.{needs}
+use Rattle.refusal.proofs.AnswerLaws.{first-refusal-accepts}
 use Rattle.timing.specs.Class.{classRule}
 use Rattle.ism.specs.Answers.{profileOf, answerOf}
 use Rattle.ism.proofs.ClearanceLaws.{refused-comes-without}
-use borrow.Author.Needs.{needs}
-use Rattle.refusal.proofs.AnswerLaws.{first-refusal-accepts}
 use Rattle.ism.proofs.ism_class.Statement.{statement}
 use Rattle.ism.proofs.ism_class.Tie as tie
 

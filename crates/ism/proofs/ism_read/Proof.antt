@@ -1,13 +1,13 @@
 -- Why `ism::ism_read` answers as the library does: it hands the arguments over and the answer back, with the least
 -- clearance where the strip was accepted. Rests on no axiom.
 use mathlib.Core.Path.{_≡_, refl}
-use denote.Ref.{now}
 use lib.ListN.{length}
+use borrow.Author.Needs.{needs}
+use Rattle.refusal.proofs.AnswerLaws.{first-refusal-accepts}
 use Rattle.codec.specs.Reader.{readRule, readOutput}
 use Rattle.ism.specs.Answers.{profileOf, answerOf}
 use Rattle.ism.proofs.ClearanceLaws.{refused-comes-without}
-use borrow.Author.Needs.{needs}
-use Rattle.refusal.proofs.AnswerLaws.{first-refusal-accepts}
+use denote.Ref.{now}
 use Rattle.ism.proofs.ism_read.Statement.{statement}
 use Rattle.ism.proofs.ism_read.Tie as tie
 

@@ -1,10 +1,10 @@
 -- Why `lengths::margin` answers `marginRule`: a refusal of the profile decides, and an acceptance leaves the least
 -- room. Rests on no axiom.
 use mathlib.Core.Path.{ap, _∙_}
+use borrow.Author.Needs.{needs}
 use Rattle.refusal.specs.Answer.{accepted}
 use Rattle.refusal.proofs.AnswerLaws.{verdict-refuses, verdict-passes}
 use Rattle.lengths.specs.Margin.{marginRule}
-use borrow.Author.Needs.{needs}
 use Rattle.lengths.proofs.margin.Statement.{statement}
 use Rattle.lengths.proofs.margin.Tie as tie
 

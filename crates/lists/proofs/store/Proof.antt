@@ -6,9 +6,9 @@ use native.Mathlib.Nat.{add-zero}
 use native.Mathlib.Numerals.{add-one}
 use native.Mathlib.Omega.{arith}
 use lib.ListN.{length, drop, length-set, drop-of-length-le}
+use borrow.Author.Needs.{needs}
 use Rattle.lists.specs.Filled.{storedAt}
 use Rattle.lists.proofs.StoreLaws.{stored-none, stored-past-end, stored-rest}
-use borrow.Author.Needs.{needs}
 use Rattle.lists.proofs.store.Statement.{statement}
 use Rattle.lists.proofs.store.Tie as tie
 

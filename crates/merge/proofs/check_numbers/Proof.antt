@@ -1,14 +1,14 @@
 -- Why `merge::check_numbers` answers `numbersRule`: the indexes count the different numbers, and the lowest number at
 -- odds is below 256 where there is one. Rests on no axiom.
-use Rattle.refusal.specs.Answer.{accepted, refuseIf}
-use Rattle.merge.specs.Set.{sectorsIn}
-use borrow.Author.Tests.{le-ltb, lt-ltb}
-use lib.Dec.{ltb}
-use Rattle.merge.proofs.RuleLaws.{numbers-decide}
-use Rattle.merge.specs.Index.{numbersRule}
 use mathlib.Core.Path.{refl, _≡_}
 use native.Mathlib.Omega.{arith}
+use borrow.Author.Tests.{le-ltb, lt-ltb}
+use lib.Dec.{ltb}
 use borrow.Author.Needs.{needs}
+use Rattle.refusal.specs.Answer.{accepted, refuseIf}
+use Rattle.merge.specs.Set.{sectorsIn}
+use Rattle.merge.specs.Index.{numbersRule}
+use Rattle.merge.proofs.RuleLaws.{numbers-decide}
 use Rattle.merge.proofs.check_numbers.Statement.{statement}
 use Rattle.merge.proofs.check_numbers.Tie as tie
 

@@ -1,12 +1,12 @@
 -- Why `merge::check_sets` answers `setsRule`: a set that cannot be counted is a misfit, and else the counts decide.
 -- Rests on no axiom.
 use mathlib.Core.Path.{ap, _∙_, ap₂}
+use borrow.Author.Needs.{needs}
 use Rattle.refusal.specs.Answer.{Answer}
 use Rattle.refusal.proofs.AnswerLaws.{refusal-decides}
-use Rattle.merge.proofs.RuleLaws.{countsRule, counts-are-the-rule}
 use Rattle.merge.specs.Index.{countRule}
 use Rattle.merge.specs.Set.{setOf}
-use borrow.Author.Needs.{needs}
+use Rattle.merge.proofs.RuleLaws.{countsRule, counts-are-the-rule}
 use Rattle.merge.proofs.check_sets.Statement.{statement}
 use Rattle.merge.proofs.check_sets.Tie as tie
 

@@ -1,12 +1,12 @@
 -- Why `merge::deliver` answers the number of sectors and of bytes, or 9: its one test is that of 9, and there is a
 -- sector for each number. Rests on no axiom.
 use mathlib.Core.Path.{_∙_, refl, sym, ap}
-use Rattle.merge.proofs.RuleLaws.{accepted-numbers}
 use borrow.Author.Tests.{le-ltb, lt-ltb}
-use Rattle.merge.specs.Rule.{roomRule}
+use borrow.Author.Needs.{needs}
 use Rattle.lists.proofs.StoreLaws.{stored-at-front-fills}
 use Rattle.refusal.specs.Answer.{Answer}
-use borrow.Author.Needs.{needs}
+use Rattle.merge.specs.Rule.{roomRule}
+use Rattle.merge.proofs.RuleLaws.{accepted-numbers}
 use Rattle.merge.proofs.deliver.Statement.{statement}
 use Rattle.merge.proofs.deliver.Tie as tie
 

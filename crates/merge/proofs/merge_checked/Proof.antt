@@ -1,12 +1,12 @@
 -- Why `merge::merge_checked` answers `checkedRule`: with both indexes made, the numbers decide, and then the room.
 -- Rests on no axiom.
 use mathlib.Core.Path.{refl, sym, ap}
+use borrow.Author.Needs.{needs}
 use Rattle.refusal.specs.Answer.{Answer}
 use Rattle.merge.specs.Index.{checkedRule}
 use Rattle.merge.proofs.SettleLaws.{refusal-settles, acceptance-leaves}
 use Rattle.merge.proofs.CountLaws.{set-is-short}
 use Rattle.merge.proofs.RuleLaws.{accepted-sets-fit}
-use borrow.Author.Needs.{needs}
 use Rattle.merge.proofs.merge_checked.Statement.{statement}
 use Rattle.merge.proofs.merge_checked.Tie as tie
 

@@ -1,7 +1,7 @@
 -- Why `merge::merge_sets` answers `mergeAnswer` and leaves `mergeOutput`: the tests of each set, then those of both
 -- together, are the rule's tests in its order. Rests on no axiom.
-use Rattle.merge.proofs.SettleLaws.{refusal-settles, acceptance-leaves, merge-settles}
 use borrow.Author.Needs.{needs}
+use Rattle.merge.proofs.SettleLaws.{refusal-settles, acceptance-leaves, merge-settles}
 use Rattle.merge.proofs.merge_sets.Statement.{statement}
 use Rattle.merge.proofs.merge_sets.Tie as tie
 

@@ -1,9 +1,9 @@
 -- Why `add` answers `added`: the rows are added where the sum is accepted. Rests on no axiom.
 use mathlib.Core.Path.{_∙_}
+use borrow.Author.Needs.{needs}
 use Rattle.refusal.proofs.AnswerLaws.{verdict-accepts}
 use Rattle.report.specs.Report.{added}
 use Rattle.report.proofs.RefusalLaws.{refused-gives-zeros, accepted-gives-report}
-use borrow.Author.Needs.{needs}
 use Rattle.report.proofs.add.Statement.{statement}
 use Rattle.report.proofs.add.Tie as tie
 

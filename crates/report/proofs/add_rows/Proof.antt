@@ -1,12 +1,11 @@
 -- Why `add_rows` answers `addReports`: each turn puts the sum of two rows in its place. Rests on no axiom.
 use Prim.Native.Nat.{_-_, _≤_}
-use mathlib.Core.Path.{_≡_, refl, ap₂, _∙_}
+use mathlib.Core.Path.{_≡_, refl, _∙_}
 use mathlib.Core.List.{_++_}
 use native.Mathlib.Omega.{arith}
-use lib.ListN.{set, take, drop}
+use lib.ListN.{take, drop}
 use borrow.Author.Needs.{needs}
-use Rattle.report.specs.Row.{Row}
-use Rattle.report.specs.Report.{Report, addReports, noReport}
+use Rattle.report.specs.Report.{addReports, noReport}
 use Rattle.report.proofs.SumLaws.{row-of-sum-fits, next-row, rows-at-end}
 use Rattle.report.proofs.add_rows.Statement.{statement}
 use Rattle.report.proofs.add_rows.Tie as tie

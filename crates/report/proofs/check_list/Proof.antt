@@ -1,11 +1,8 @@
 -- Why `check_list` answers `reportRule`: it makes the same tests in the same order. Rests on no axiom.
-use mathlib.Core.Path.{sym, ap, _∙_}
-use mathlib.Core.Bool.{Bool}
 use borrow.Author.Tests.{lt-ltb, le-ltb}
-use Rattle.refusal.specs.Answer.{accepted, refuseIf}
+use borrow.Author.Needs.{needs}
 use Rattle.refusal.proofs.AnswerLaws.{verdict-refuses, verdict-passes}
 use Rattle.report.specs.Report.{reportRule}
-use borrow.Author.Needs.{needs}
 use Rattle.report.proofs.check_list.Statement.{statement}
 use Rattle.report.proofs.check_list.Tie as tie
 

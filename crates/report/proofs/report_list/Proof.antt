@@ -1,12 +1,10 @@
 -- Why `report_list` answers `reported`: a list that is accepted is not overlong, and its report is gathered from the
 -- start of a list. Rests on no axiom.
-use mathlib.Core.Path.{sym, ap, _∙_}
+use borrow.Author.Needs.{needs}
 use Rattle.refusal.proofs.AnswerLaws.{verdict-accepts}
-use Rattle.timing.specs.declared.cursor.Cursor.{Cursor}
-use Rattle.report.specs.Report.{reportFrom, reported}
+use Rattle.report.specs.Report.{reported}
 use Rattle.report.proofs.ReportLaws.{report-from-start}
 use Rattle.report.proofs.RefusalLaws.{refused-gives-zeros, accepted-gives-report, reported-list-is-short}
-use borrow.Author.Needs.{needs}
 use Rattle.report.proofs.report_list.Statement.{statement}
 use Rattle.report.proofs.report_list.Tie as tie
 

@@ -1,14 +1,14 @@
 -- Why `script::read` reads the input: its length, its first line and the lines after it are tested in the
 -- definition's order. Rests on no axiom.
-use mathlib.Core.Path.{refl, sym, _∙_, ap}
 use Prim.Native.Nat.{_<_}
+use mathlib.Core.Path.{refl, sym, _∙_, ap}
 use native.Mathlib.Omega.{arith}
 use lib.ListN.{length}
 use lib.Seq.{length-take-le}
+use borrow.Author.Needs.{needs}
 use Rattle.refusal.specs.Answer.{countedAnswer}
 use Rattle.script.proofs.ScriptLaws.{long-input-is-refused, first-line-ends-in-text, no-line-feed-is-refused}
 use Rattle.script.proofs.ScriptLaws.{no-profile-is-refused, script-refused, script-of-lines}
-use borrow.Author.Needs.{needs}
 use Rattle.script.proofs.read.Statement.{statement}
 use Rattle.script.proofs.read.Tie as tie
 

@@ -1,11 +1,11 @@
 -- Why `sectors::make_sector` answers `sectorRule` and leaves `sectorOutput`: the test that failed decides, and where
 -- none did the sector's items are at the front. Rests on no axiom.
-use borrow.Author.Tests.{eq-eqb, le-ltb, lt-ltb, ne-eqb}
-use Rattle.sectors.specs.Sector.{isMisfit, sectorOutput, sectorRule}
 use mathlib.Core.Path.{refl, _∙_}
-use Rattle.sectors.proofs.SectorCounts.{sector-length}
-use Rattle.lists.proofs.StoreLaws.{stored-at-front-fills}
+use borrow.Author.Tests.{eq-eqb, le-ltb, lt-ltb, ne-eqb}
 use borrow.Author.Needs.{needs}
+use Rattle.lists.proofs.StoreLaws.{stored-at-front-fills}
+use Rattle.sectors.specs.Sector.{isMisfit, sectorOutput, sectorRule}
+use Rattle.sectors.proofs.SectorCounts.{sector-length}
 use Rattle.sectors.proofs.make_sector.Statement.{statement}
 use Rattle.sectors.proofs.make_sector.Tie as tie
 

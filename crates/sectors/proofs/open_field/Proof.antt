@@ -2,9 +2,8 @@
 -- axiom.
 use mathlib.Core.List.{_++_}
 use native.Mathlib.Omega.{arith}
-use lib.ListN.{length-set}
+use lib.ListN.{length-set, replicate}
 use borrow.Author.Needs.{needs}
-use lib.ListN.{replicate}
 use Rattle.lists.proofs.StoreLaws.{stored-next, stored-one-more}
 use Rattle.sectors.specs.Sector.{opening}
 use Rattle.sectors.proofs.open_field.Statement.{statement}

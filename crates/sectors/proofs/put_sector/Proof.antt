@@ -1,10 +1,10 @@
 -- Why `sectors::put_sector` stores `sectorItems`: each part is stored where the one before it ends. Rests on no axiom.
-use native.Mathlib.Omega.{arith}
-use Rattle.sectors.specs.Sector.{identity, opening, sectorItems}
-use lib.ListN.{length-append, replicate}
-use Rattle.lists.proofs.StoreLaws.{stored-next}
 use mathlib.Core.Path.{_∙_}
+use native.Mathlib.Omega.{arith}
+use lib.ListN.{length-append, replicate}
 use borrow.Author.Needs.{needs}
+use Rattle.lists.proofs.StoreLaws.{stored-next}
+use Rattle.sectors.specs.Sector.{identity, opening, sectorItems}
 use Rattle.sectors.proofs.put_sector.Statement.{statement}
 use Rattle.sectors.proofs.put_sector.Tie as tie
 

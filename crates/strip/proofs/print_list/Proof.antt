@@ -1,16 +1,16 @@
 -- Why `strip::print_list` prints the script's text: the writer answers as the program does, and its output begins
 -- with the stream. Rests on no axiom.
-use mathlib.Core.Path.{_≡_, refl, sym, _∙_, ap}
 use Prim.Native.Nat.{_≤_}
+use mathlib.Core.Path.{_≡_, refl, sym, _∙_, ap}
 use native.Mathlib.Omega.{arith}
 use lib.ListN.{length, take}
 use lib.Seq.{length-take-le}
+use borrow.Author.Needs.{needs}
 use Rattle.refusal.specs.Answer.{accepted, countedAnswer}
+use Rattle.refusal.proofs.AnswerLaws.{number-is-not-zero}
 use Rattle.lengths.specs.Stream.{streamOf}
 use Rattle.strip.specs.Program.{scriptRule, scriptText}
 use Rattle.strip.proofs.ProgramLaws.{writer-answers, stream-written}
-use Rattle.refusal.proofs.AnswerLaws.{number-is-not-zero}
-use borrow.Author.Needs.{needs}
 use Rattle.strip.proofs.print_list.Statement.{statement}
 use Rattle.strip.proofs.print_list.Tie as tie
 

@@ -2,15 +2,15 @@
 -- 512 written bytes are the limit, and the rest is the list's. Rests on no axiom.
 use mathlib.Core.Path.{_≡_, sym, _∙_, ap}
 use native.Mathlib.Omega.{arith}
-use Rattle.refusal.specs.Answer.{countedAnswer}
-use Rattle.lengths.specs.Margin.{marginOf, marginRule}
-use Rattle.timing.specs.Profile.{profileRule}
 use borrow.Author.Needs.{needs}
-use Rattle.strip.proofs.print_script.Statement.{statement}
-use Rattle.refusal.proofs.AnswerLaws.{accepted-later, refused-earlier, number-is-not-zero}
-use Rattle.strip.specs.Program.{scriptRule, scriptText}
 use borrow.Author.Tests.{lt-ltb}
+use Rattle.refusal.specs.Answer.{countedAnswer}
+use Rattle.refusal.proofs.AnswerLaws.{accepted-later, refused-earlier, number-is-not-zero}
+use Rattle.timing.specs.Profile.{profileRule}
 use Rattle.items.specs.Item.{writtenBytes}
+use Rattle.lengths.specs.Margin.{marginOf, marginRule}
+use Rattle.strip.specs.Program.{scriptRule, scriptText}
+use Rattle.strip.proofs.print_script.Statement.{statement}
 use Rattle.strip.proofs.print_script.Tie as tie
 
 -- where the margin operation accepts

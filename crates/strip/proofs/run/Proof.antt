@@ -4,15 +4,15 @@ use Prim.Native.Nat.{_≤_}
 use mathlib.Core.Path.{_≡_, sym, _∙_, ap}
 use lib.ListN.{length, take}
 use lib.Seq.{length-take-le}
+use borrow.Author.Needs.{needs}
+use Rattle.refusal.proofs.AnswerLaws.{accepted-later, number-is-not-zero, refused-earlier}
 use Rattle.script.specs.Input.{itemsIn, profileIn, inputRule}
 use Rattle.script.specs.Read.{scriptAnswer}
 use Rattle.script.proofs.ScriptLaws.{items-fit, items-stand-in-front}
+use Rattle.strip.specs.Program.{programRule, programText, scriptText}
 use Rattle.strip.proofs.OutputLaws.{printed-is-front}
 use Rattle.strip.proofs.ProgramLaws.{first-items-decide}
-use borrow.Author.Needs.{needs}
 use Rattle.strip.proofs.run.Statement.{statement}
-use Rattle.refusal.proofs.AnswerLaws.{accepted-later, number-is-not-zero, refused-earlier}
-use Rattle.strip.specs.Program.{programRule, programText, scriptText}
 use Rattle.strip.proofs.run.Tie as tie
 
 -- where the input is read, the first items stand in the buffer

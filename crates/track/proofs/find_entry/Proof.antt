@@ -1,8 +1,8 @@
 -- Why `find_entry` answers `stepFrom`: by what the finder answers. Rests on no axiom.
 use mathlib.Core.Path.{_∙_}
+use borrow.Author.Needs.{needs}
 use Rattle.track.proofs.SearchLaws.{Lock, search-means}
 use Rattle.track.proofs.StepLaws.{no-lock-is-end, found-is-looked-at}
-use borrow.Author.Needs.{needs}
 use Rattle.track.proofs.find_entry.Statement.{statement}
 use Rattle.track.proofs.find_entry.Tie as tie
 

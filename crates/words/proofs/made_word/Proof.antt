@@ -1,8 +1,8 @@
 -- `words::made_word` answers the word of a byte: a mark's own, else the bits moved apart. Rests on no axiom.
 use mathlib.Core.Path.{refl, _∙_}
+use borrow.Author.Needs.{needs}
 use Rattle.items.specs.Item.{isMark}
 use Rattle.words.specs.Words.{markWord, wordOf}
-use borrow.Author.Needs.{needs}
 use Rattle.words.proofs.SpreadLaws.{spread-is-word}
 use Rattle.words.proofs.made_word.Statement.{statement}
 use Rattle.words.proofs.made_word.Tie as tie

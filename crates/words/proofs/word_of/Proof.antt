@@ -1,9 +1,9 @@
 -- `words::word_of` answers the word of a byte: a mark's own, else the table's at the previous bit and the byte. Rests
 -- on no axiom.
 use mathlib.Core.Path.{refl}
+use borrow.Author.Needs.{needs}
 use Rattle.items.specs.Item.{isMark}
 use Rattle.words.specs.Words.{markWord, wordOf}
-use borrow.Author.Needs.{needs}
 use Rattle.words.proofs.TableLaws.{entry-is-word}
 use Rattle.words.proofs.word_of.Statement.{statement}
 use Rattle.words.proofs.word_of.Tie as tie

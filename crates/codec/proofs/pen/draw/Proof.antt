@@ -1,9 +1,9 @@
 -- Why `codec::pen::draw` draws the word's half cells: each turn draws up to the highest one that is left, and
 -- stores where it has a place, since all that is to come has. Rests on no axiom.
 use Prim.Native.Nat.{ℕ, zero, suc, _-_, _*_, _^_, _≤_, _<_}
-use native.Mathlib.Omega.{arith}
 use mathlib.Core.Path.{_≡_, refl, ap, _∙_}
 use mathlib.Core.List.{List, [], _∷_}
+use native.Mathlib.Omega.{arith}
 use lib.ListN.{length, getD, set, length-set}
 use Rattle.lists.specs.Filled.{storedAt}
 use Rattle.codec.specs.machine.Pen.{storedLate, restDrawn, Fits, Pending, Highest, behind}

@@ -1,7 +1,7 @@
 -- Why `codec::pen::window_at` answers the window behind the one: its cell reaches from the last one's place to its own.
 -- Rests on no axiom.
-use native.Mathlib.Omega.{arith}
 use mathlib.Core.Path.{refl}
+use native.Mathlib.Omega.{arith}
 use borrow.Author.Needs.{needs}
 use Rattle.codec.specs.machine.Pen.{turned}
 use Rattle.codec.proofs.RestLaws.{place-below}

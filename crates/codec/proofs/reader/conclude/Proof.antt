@@ -1,9 +1,9 @@
 -- Why `codec::reader::conclude` answers `stripAnswer`: code and definition make the same tests in the same order.
 -- Rests on no axiom.
 use mathlib.Core.Path.{sym, _∙_}
-use Rattle.symbols.specs.machine.Step.{stripAnswer}
 use borrow.Author.Tests.{eq-eqb, ne-eqb, lt-ltb, le-ltb}
 use borrow.Author.Needs.{needs}
+use Rattle.symbols.specs.machine.Step.{stripAnswer}
 use Rattle.codec.proofs.reader.conclude.Statement.{statement}
 use Rattle.codec.proofs.reader.conclude.Tie as tie
 

@@ -1,8 +1,8 @@
 -- Why `codec::reader::read` answers `readRule`: the profile's refusal decides, then the number of intervals, then
 -- what `read_strip` answers. Rests on no axiom.
+use borrow.Author.Needs.{needs}
 use Rattle.refusal.proofs.AnswerLaws.{verdict-accepts}
 use Rattle.codec.proofs.ReaderLaws.{profile-refuses, too-many-refused}
-use borrow.Author.Needs.{needs}
 use Rattle.codec.proofs.reader.read.Statement.{statement}
 use Rattle.codec.proofs.reader.read.Tie as tie
 

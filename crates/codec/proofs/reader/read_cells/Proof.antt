@@ -2,14 +2,14 @@
 -- stores the code words of the same items. Rests on no axiom.
 use mathlib.Core.Path.{_≡_, sym, ap, _∙_}
 use native.Mathlib.Omega.{arith}
-use denote.Ref.{now}
 use lib.Seq.{length-take-le}
+use borrow.Author.Needs.{needs}
 use Rattle.refusal.specs.Answer.{countedAnswer}
 use Rattle.symbols.specs.machine.Step.{stripAnswer}
-use Rattle.codec.proofs.ReaderLaws.{used-is-small, machine-answers, strip-refuses, room-refuses, room-accepts}
 use Rattle.symbols.specs.Strip.{stripRule}
 use Rattle.intervals.specs.Cells.{cellsRead}
-use borrow.Author.Needs.{needs}
+use Rattle.codec.proofs.ReaderLaws.{used-is-small, machine-answers, strip-refuses, room-refuses, room-accepts}
+use denote.Ref.{now}
 use Rattle.codec.proofs.reader.read_cells.Statement.{statement}
 use Rattle.codec.proofs.reader.read_cells.Tie as tie
 

@@ -1,8 +1,8 @@
 -- Why `codec::reader::read_strip` answers `readRule`: an interval that is no cell is refused, and else the cells decide.
 -- Rests on no axiom.
+use borrow.Author.Needs.{needs}
 use Rattle.refusal.proofs.AnswerLaws.{verdict-accepts}
 use Rattle.codec.proofs.ReaderLaws.{edge-refuses}
-use borrow.Author.Needs.{needs}
 use Rattle.codec.proofs.reader.read_strip.Statement.{statement}
 use Rattle.codec.proofs.reader.read_strip.Tie as tie
 

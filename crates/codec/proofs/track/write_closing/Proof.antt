@@ -1,14 +1,14 @@
 -- Why `codec::track::write_closing` answers one less than the cells drawn: the closing word ends one at least. Rests on
 -- no axiom.
 use Prim.Native.Nat.{ℕ, _+_, _-_, _≤_}
-use native.Mathlib.Omega.{arith}
 use mathlib.Core.Path.{_≡_, ap, _∙_}
+use native.Mathlib.Omega.{arith}
 use borrow.Author.Needs.{needs}
-use denote.Ref.{now}
 use Rattle.images.specs.machine.TopBits.{topBits}
 use Rattle.codec.specs.machine.Pen.{Drawing, drawing, drawn}
 use Rattle.codec.proofs.RestLaws.{one-word}
 use Rattle.codec.proofs.StreamLaws.{closing-ends-a-cell}
+use denote.Ref.{now}
 use Rattle.codec.proofs.track.write_closing.Statement.{statement}
 use Rattle.codec.proofs.track.write_closing.Tie as tie
 

@@ -3,12 +3,12 @@
 use mathlib.Core.Path.{sym}
 use native.Mathlib.Omega.{arith}
 use borrow.Author.Tests.{le-leb}
-use denote.Ref.{now}
+use borrow.Author.Needs.{needs}
 use Rattle.items.specs.Written.{written}
 use Rattle.items.proofs.RuleLaws.{listed}
 use Rattle.items.proofs.WrittenLaws.{length-of-written}
 use Rattle.symbols.proofs.UnitLaws.{cells-at-most}
-use borrow.Author.Needs.{needs}
+use denote.Ref.{now}
 use Rattle.codec.proofs.writer.has_room.Statement.{statement}
 use Rattle.codec.proofs.writer.has_room.Tie as tie
 

@@ -1,9 +1,9 @@
 -- Why `codec::writer::write` answers `writeRule`: the profile's refusal decides, then the list's, then what
 -- `write_list` answers. Rests on no axiom.
 use mathlib.Core.Path.{_∙_}
+use borrow.Author.Needs.{needs}
 use Rattle.refusal.proofs.AnswerLaws.{verdict-refuses, verdict-passes, verdict-accepts, refusal-keeps-the-buffer}
 use Rattle.codec.specs.Writer.{writeRule, writeOutput}
-use borrow.Author.Needs.{needs}
 use Rattle.codec.proofs.writer.write.Statement.{statement}
 use Rattle.codec.proofs.writer.write.Tie as tie
 

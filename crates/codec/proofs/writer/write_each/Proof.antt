@@ -4,7 +4,6 @@ use mathlib.Core.Path.{_≡_, refl, sym, ap, ap₂, _∙_}
 use mathlib.Core.List.{List}
 use native.Mathlib.Omega.{arith}
 use borrow.Author.Needs.{needs}
-use denote.Ref.{now}
 use lib.ListN.{length, getD, drop}
 use Rattle.items.specs.Written.{afterItem, itemBytes, writtenFrom, written}
 use Rattle.items.specs.declared.Check.{Check}
@@ -14,6 +13,7 @@ use Rattle.codec.specs.machine.Pen.{Room}
 use Rattle.codec.specs.machine.Track.{Writing, writing, freshTrack, wrote, Holds}
 use Rattle.codec.proofs.TrackLaws.{wrote-of-append, wrote-none, same-length-of-whole, room-after-bytes}
 use Rattle.codec.proofs.TrackLaws.{room-carries, holds-before}
+use denote.Ref.{now}
 use Rattle.codec.proofs.writer.write_each.Statement.{statement}
 use Rattle.codec.proofs.writer.write_each.Tie as tie
 

@@ -1,19 +1,19 @@
 -- Why `codec::writer::write_item` draws the words of an item: of the two bytes of a check order, or of the item itself.
 -- Rests on no axiom.
 use Prim.Native.Nat.{ℕ}
-use native.Mathlib.Omega.{arith}
 use mathlib.Core.Path.{_≡_, sym, ap, ap₂, _∙_}
 use mathlib.Core.Bool.{true, false}
 use mathlib.Core.List.{List, [], _∷_}
+use native.Mathlib.Omega.{arith}
 use borrow.Author.Needs.{needs}
-use denote.Ref.{now}
-use Rattle.items.specs.Item.{isCheck}
 use Rattle.register.specs.Register.{highByte, lowByte}
+use Rattle.items.specs.Item.{isCheck}
 use Rattle.items.specs.Written.{itemBytes}
 use Rattle.items.specs.declared.Check.{Check}
 use Rattle.items.proofs.WrittenLaws.{item-bytes-of-check, item-bytes-of-byte}
 use Rattle.codec.specs.machine.Track.{Writing, writing, wroteByte, wrote, Holds}
 use Rattle.codec.proofs.TrackLaws.{room-after-byte, room-carries, holds-before}
+use denote.Ref.{now}
 use Rattle.codec.proofs.writer.write_item.Statement.{statement}
 use Rattle.codec.proofs.writer.write_item.Tie as tie
 

@@ -1,11 +1,10 @@
 -- Why `codec::writer::write_items` draws all words of a list: where it writes no more bytes than it has numbers it has
 -- no check order, and is its own bytes. Rests on no axiom.
 use Prim.Native.Nat.{ℕ}
-use native.Mathlib.Omega.{arith}
 use mathlib.Core.Path.{_≡_, sym, ap, _∙_}
 use mathlib.Core.List.{List}
+use native.Mathlib.Omega.{arith}
 use borrow.Author.Needs.{needs}
-use denote.Ref.{now}
 use lib.ListN.{length}
 use Rattle.items.specs.Item.{writtenBytes}
 use Rattle.items.specs.Written.{written}
@@ -14,6 +13,7 @@ use Rattle.items.proofs.WrittenLaws.{written-of-no-check}
 use Rattle.codec.specs.machine.Track.{writing, freshTrack, wrote}
 use Rattle.codec.specs.declared.track.Track.{Track}
 use Rattle.codec.proofs.TrackLaws.{room-after-bytes, room-carries}
+use denote.Ref.{now}
 use Rattle.codec.proofs.writer.write_items.Statement.{statement}
 use Rattle.codec.proofs.writer.write_items.Tie as tie
 

@@ -1,9 +1,9 @@
 -- Why `codec::writer::write_list` answers `writeRule`: profile and list are accepted, and the stream is stored where it
 -- has room. Rests on no axiom.
 use mathlib.Core.Path.{sym, _∙_}
-use denote.Ref.{now}
-use Rattle.codec.proofs.WriterLaws.{too-short, stream-fits, long-enough}
 use borrow.Author.Needs.{needs}
+use Rattle.codec.proofs.WriterLaws.{too-short, stream-fits, long-enough}
+use denote.Ref.{now}
 use Rattle.codec.proofs.writer.write_list.Statement.{statement}
 use Rattle.codec.proofs.writer.write_list.Tie as tie
 

@@ -1,9 +1,9 @@
 -- Why `fields::finder::find_lock` answers `findRule`: a refusal of the profile decides, and an acceptance leaves the
 -- search. Rests on no axiom.
 use mathlib.Core.Path.{_∙_}
+use borrow.Author.Needs.{needs}
 use Rattle.refusal.proofs.AnswerLaws.{verdict-refuses, verdict-passes, verdict-accepts}
 use Rattle.fields.specs.Lock.{findRule}
-use borrow.Author.Needs.{needs}
 use Rattle.fields.proofs.finder.find_lock.Statement.{statement}
 use Rattle.fields.proofs.finder.find_lock.Tie as tie
 

@@ -9,8 +9,8 @@ use lib.ListN.{length}
 use Rattle.timing.specs.Class.{Ascending}
 use Rattle.timing.specs.declared.cursor.Cursor.{Cursor}
 use Rattle.timing.proofs.EdgeLaws.{ascending-past}
-use Turn.{Searched, search-starts, chosen-between, search-is-adrift, looked-at, searched-past}
-use Turn.{mark-is-found, mark-is-missed}
+use Turn.{Searched, search-starts, chosen-between, search-is-adrift, looked-at, searched-past, mark-is-found}
+use Turn.{mark-is-missed}
 use Rattle.fields.proofs.finder.scan.Statement.{statement}
 use Rattle.fields.proofs.finder.scan.Tie as tie
 

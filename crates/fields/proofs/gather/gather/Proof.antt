@@ -6,6 +6,7 @@ use native.Mathlib.Omega.{arith}
 use lib.Dec.{eqb}
 use lib.ListN.{length-take}
 use lib.Seq.{length-take-le}
+use borrow.Author.Needs.{needs}
 use Rattle.lists.specs.Filled.{storedAt}
 use Rattle.refusal.specs.Answer.{verdictAnswer}
 use Rattle.refusal.proofs.AnswerLaws.{verdict-accepts}
@@ -15,7 +16,6 @@ use Rattle.items.specs.declared.Check.{Check}
 use Rattle.intervals.specs.Cells.{edgeRule}
 use Rattle.fields.specs.Field.{holdsAfter, fieldHolds}
 use End.{edges, refusal-is-not-zero, FieldEnds, field-ends}
-use borrow.Author.Needs.{needs}
 use Rattle.fields.proofs.gather.gather.Statement.{statement}
 use Rattle.fields.proofs.gather.gather.Tie as tie
 

@@ -6,6 +6,7 @@ use mathlib.Core.List.{List, _++_, map, map-append}
 use native.Mathlib.Omega.{arith}
 use lib.ListN.{length, take, drop, length-map}
 use lib.Seq.{length-take-le, length-front}
+use borrow.Author.Needs.{needs}
 use Rattle.lists.specs.Filled.{storedAt}
 use Rattle.lists.proofs.StoreLaws.{stored-none, stored-next, stored-length, front-of-stored}
 use Rattle.items.specs.Written.{afterBytes}
@@ -16,9 +17,8 @@ use Rattle.symbols.specs.machine.Step.{freshReading}
 use Rattle.intervals.specs.machine.Pass.{Passed, after}
 use Rattle.intervals.specs.machine.Blocks.{atFirst, restFrom, wordsOf, Reaches}
 use Rattle.intervals.specs.declared.block.Progress.{Progress}
-use Rattle.intervals.proofs.BlockLaws.{Fair, fair-at-first, all-at-first, rest-wants, rest-stops}
-use Rattle.intervals.proofs.BlockLaws.{rest-goes-on, words-more, words-fit, fair-after, comes-nearer}
-use borrow.Author.Needs.{needs}
+use Rattle.intervals.proofs.BlockLaws.{Fair, fair-at-first, all-at-first, rest-wants, rest-stops, rest-goes-on}
+use Rattle.intervals.proofs.BlockLaws.{words-more, words-fit, fair-after, comes-nearer}
 use Rattle.fields.proofs.gather.pass_items.Statement.{statement}
 use Rattle.fields.proofs.gather.pass_items.Tie as tie
 

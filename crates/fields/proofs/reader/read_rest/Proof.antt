@@ -5,12 +5,12 @@ use mathlib.Core.Path.{_≡_, refl, sym, ap, _∙_}
 use mathlib.Core.List.{List}
 use native.Mathlib.Omega.{arith}
 use lib.ListN.{length, take, drop}
+use borrow.Author.Needs.{needs}
 use Rattle.timing.specs.declared.Profile.{Profile}
 use Rattle.fields.specs.FieldRule.{FieldAnswer, fieldAnswer, fieldReading, fieldRest, restPlace}
 use Rattle.fields.specs.declared.reader.FieldRead.{FieldRead}
 use Rattle.fields.proofs.LockLaws.{part-to-end}
 use Rattle.fields.proofs.ReaderLaws.{used-is-within}
-use borrow.Author.Needs.{needs}
 use Rattle.fields.proofs.reader.read_rest.Statement.{statement}
 use Rattle.fields.proofs.reader.read_rest.Tie as tie
 

@@ -1,9 +1,9 @@
 -- Why `chip_put` answers its rule: the chip puts in read mode, which the code's test of the mode tells.
 use mathlib.Core.Path.{_∙_}
-use Rattle.fifo.specs.Rules.{putRule}
-use Rattle.fifo.specs.State.{modeOf}
 use borrow.Author.Tests.{eq-eqb, ne-eqb}
 use borrow.Author.Needs.{needs}
+use Rattle.fifo.specs.Rules.{putRule}
+use Rattle.fifo.specs.State.{modeOf}
 use Rattle.fifo.proofs.Fifo.chip_put.Statement.{statement}
 use Rattle.fifo.proofs.Fifo.chip_put.Tie as tie
 

@@ -1,9 +1,9 @@
 -- Why `put` answers its rule: the processor puts in write mode, which the code's test of the mode tells.
 use mathlib.Core.Path.{_∙_}
-use Rattle.fifo.specs.Rules.{putRule}
-use Rattle.fifo.specs.State.{modeOf}
 use borrow.Author.Tests.{eq-eqb, ne-eqb}
 use borrow.Author.Needs.{needs}
+use Rattle.fifo.specs.Rules.{putRule}
+use Rattle.fifo.specs.State.{modeOf}
 use Rattle.fifo.proofs.Fifo.put.Statement.{statement}
 use Rattle.fifo.proofs.Fifo.put.Tie as tie
 

@@ -1,9 +1,9 @@
 -- Why `take_mark` answers its rule: the processor takes in read mode, which the code's test of the mode tells.
 use mathlib.Core.Path.{_∙_}
-use Rattle.fifo.specs.Rules.{takeRule}
-use Rattle.fifo.specs.State.{modeOf}
 use borrow.Author.Tests.{eq-eqb, ne-eqb}
 use borrow.Author.Needs.{needs}
+use Rattle.fifo.specs.Rules.{takeRule}
+use Rattle.fifo.specs.State.{modeOf}
 use Rattle.fifo.proofs.Fifo.take_mark.Statement.{statement}
 use Rattle.fifo.proofs.Fifo.take_mark.Tie as tie
 

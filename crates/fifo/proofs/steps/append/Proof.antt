@@ -1,9 +1,9 @@
 -- Why `append` answers `putting`: its branches are the cases of the definition, in the same order.
 use mathlib.Core.Path.{_∙_, ap}
+use borrow.Author.Needs.{needs}
 use Rattle.fifo.specs.State.{heldItems}
 use Rattle.fifo.specs.Rules.{gives, putting}
 use Rattle.fifo.proofs.StateLaws.{items-of-two}
-use borrow.Author.Needs.{needs}
 use Rattle.fifo.proofs.steps.append.Statement.{statement}
 use Rattle.fifo.proofs.steps.append.Tie as tie
 

@@ -1,8 +1,8 @@
 -- Why `shift` answers `taking`: its branches are the cases of the definition.
 use mathlib.Core.Path.{_∙_, ap}
+use borrow.Author.Needs.{needs}
 use Rattle.fifo.specs.Rules.{gives, withBit, taking}
 use Rattle.fifo.proofs.StateLaws.{items-of-none, items-of-some, no-bit-keeps-register}
-use borrow.Author.Needs.{needs}
 use Rattle.fifo.proofs.steps.shift.Statement.{statement}
 use Rattle.fifo.proofs.steps.shift.Tie as tie
 

@@ -1,9 +1,9 @@
 -- Why `without_first` answers the tail: below two held nothing is left, from two on the second item.
 use mathlib.Core.Path.{_∙_}
-use Rattle.fifo.specs.State.{heldItems}
-use Rattle.fifo.proofs.StateLaws.{rest-of-items}
 use borrow.Author.Needs.{needs}
 use borrow.Author.Tests.{lt-ltb, le-ltb}
+use Rattle.fifo.specs.State.{heldItems}
+use Rattle.fifo.proofs.StateLaws.{rest-of-items}
 use Rattle.fifo.proofs.steps.without_first.Statement.{statement}
 use Rattle.fifo.proofs.steps.without_first.Tie as tie
 

@@ -3,11 +3,11 @@ use Prim.Native.Nat.{ℕ, _+_, _-_, _≤_, _<_}
 use mathlib.Core.Path.{_≡_, refl, sym, ap, _∙_}
 use mathlib.Core.List.{List}
 use native.Mathlib.Omega.{arith}
-use denote.Ref.{now}
 use lib.ListN.{length, getD, drop, drop-of-length-le}
 use Rattle.images.specs.machine.Tally.{tallied, talliedByte}
 use Rattle.images.specs.declared.count.Tally.{Tally}
 use Rattle.images.proofs.TallyLaws.{tallied-from, tallied-none, tally-at-least}
+use denote.Ref.{now}
 use Rattle.images.proofs.count.count_bytes.Statement.{statement}
 use Rattle.images.proofs.count.count_bytes.Tie as tie
 

@@ -6,7 +6,6 @@ use mathlib.Core.Bool.{cond}
 use mathlib.Core.List.{List}
 use borrow.Author.Needs.{needs}
 use borrow.Author.Tests.{eq-eqb, ne-eqb}
-use denote.Ref.{now}
 use lib.Dec.{eqb}
 use lib.ListN.{length}
 use Rattle.items.specs.Rule.{listRule}
@@ -17,6 +16,7 @@ use Rattle.symbols.specs.Cells.{writtenCells}
 use Rattle.images.specs.machine.Tally.{noTally, tallied}
 use Rattle.images.specs.declared.count.Tally.{Tally}
 use Rattle.images.proofs.TallyLaws.{tally-is-count}
+use denote.Ref.{now}
 use Rattle.images.proofs.count.count_cells.Statement.{statement}
 use Rattle.images.proofs.count.count_cells.Tie as tie
 

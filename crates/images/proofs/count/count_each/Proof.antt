@@ -5,7 +5,6 @@ use mathlib.Core.Path.{_≡_, sym, ap, ap₂, _∙_}
 use mathlib.Core.List.{List}
 use native.Mathlib.Omega.{arith}
 use borrow.Author.Needs.{needs}
-use denote.Ref.{now}
 use lib.ListN.{length, getD, drop}
 use Rattle.items.specs.Rule.{listRule}
 use Rattle.items.specs.Written.{afterItem, itemBytes, writtenFrom, written}
@@ -14,6 +13,7 @@ use Rattle.items.proofs.WrittenLaws.{written-from-place, written-from-end}
 use Rattle.images.specs.machine.Tally.{noTally, tallied}
 use Rattle.images.specs.declared.count.Tally.{Tally}
 use Rattle.images.proofs.TallyLaws.{tallied-of-append, tallied-none, tally-at-least, tally-of-list-fits}
+use denote.Ref.{now}
 use Rattle.images.proofs.count.count_each.Statement.{statement}
 use Rattle.images.proofs.count.count_each.Tie as tie
 

@@ -5,8 +5,8 @@ use mathlib.Core.Bool.{true, false}
 use mathlib.Core.List.{[], _∷_}
 use native.Mathlib.Omega.{arith}
 use borrow.Author.Needs.{needs}
-use Rattle.items.specs.Item.{isCheck}
 use Rattle.register.specs.Register.{highByte, lowByte}
+use Rattle.items.specs.Item.{isCheck}
 use Rattle.items.specs.Written.{itemBytes}
 use Rattle.items.specs.declared.Check.{Check}
 use Rattle.items.proofs.WrittenLaws.{item-bytes-of-check, item-bytes-of-byte}

@@ -8,15 +8,15 @@ use native.Mathlib.Omega.{arith}
 use native.Mathlib.Numerals.{add-one}
 use borrow.Author.Needs.{needs}
 use borrow.Author.Tests.{eq-eqb, ne-eqb}
-use denote.Ref.{now}
 use lib.ListN.{length, getD, drop, drop-of-length-le}
 use lib.Seq.{drop-cons}
 use Rattle.lists.specs.Place.{lowest, passed}
+use Rattle.half_cells.specs.machine.Candidate.{candidate}
 use Rattle.words.specs.Words.{wordOf, lastBit}
 use Rattle.images.specs.Image.{unrulyFrom, unrulyIn}
-use Rattle.half_cells.specs.machine.Candidate.{candidate}
 use Rattle.images.proofs.WordLaws.{last-bit-is-data}
 use Rattle.images.proofs.ImageLaws.{lowest-after-ruly, lowest-is-unruly}
+use denote.Ref.{now}
 use Rattle.images.proofs.read.find_unruly.Statement.{statement}
 use Rattle.images.proofs.read.find_unruly.Tie as tie
 

@@ -1,14 +1,14 @@
 -- `read::read_words` answers `readImageRule`: the words are accepted, so each one's byte is its candidate, and the room
 -- decides. Rests on no axiom.
 use mathlib.Core.Path.{refl, _∙_}
+use borrow.Author.Needs.{needs}
 use Rattle.symbols.specs.Bits.{O}
 use Rattle.images.specs.Image.{unrulyIn, bytesIn}
 use Rattle.images.specs.Rules.{wordsRule, readImageRule, readImageOutput}
 use Rattle.images.proofs.RuleLaws.{words-of-accepted, room-refuses, room-accepts}
-use borrow.Author.Needs.{needs}
-use Rattle.images.proofs.read.read_words.Statement.{statement}
-use denote.Ref.{now}
 use Rattle.images.proofs.ImageLaws.{ruly-is-read}
+use denote.Ref.{now}
+use Rattle.images.proofs.read.read_words.Statement.{statement}
 use Rattle.images.proofs.read.read_words.Tie as tie
 
 returns : tie.Need-returns

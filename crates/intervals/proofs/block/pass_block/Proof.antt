@@ -1,8 +1,8 @@
 -- Why `block::pass_block` gives `passOn`: the units that it stores are those that it shifts in. Rests on no axiom.
 use native.Mathlib.Omega.{arith}
+use borrow.Author.Needs.{needs}
 use Rattle.timing.proofs.UnitsLaws.{units-count}
 use Rattle.intervals.proofs.FoursLaws.{units-are-cells}
-use borrow.Author.Needs.{needs}
 use Rattle.intervals.proofs.block.pass_block.Statement.{statement}
 use Rattle.intervals.proofs.block.pass_block.Tie as tie
 

@@ -7,6 +7,7 @@ use mathlib.Core.List.{List, map}
 use native.Mathlib.Omega.{arith}
 use lib.ListN.{length, take, drop, length-drop, length-map, take-append-drop}
 use lib.Seq.{length-take-le, take-all}
+use borrow.Author.Needs.{needs}
 use Rattle.lists.specs.Place.{everywhere}
 use Rattle.lists.proofs.StoreLaws.{stored-next}
 use Rattle.half_cells.specs.machine.Word.{fits}
@@ -16,7 +17,6 @@ use Rattle.intervals.specs.machine.Pass.{after, passFrom}
 use Rattle.intervals.specs.machine.Fours.{alone, foursFrom}
 use Rattle.intervals.proofs.PassLaws.{pass-in-parts, pass-counts}
 use Rattle.intervals.proofs.FoursLaws.{by-fours, cells-in-parts}
-use borrow.Author.Needs.{needs}
 use Rattle.intervals.proofs.block.shift_block.Statement.{statement}
 use Rattle.intervals.proofs.block.shift_block.Tie as tie
 

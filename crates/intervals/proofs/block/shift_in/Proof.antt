@@ -7,10 +7,10 @@ use native.Mathlib.Nat.{add-assoc}
 use native.Mathlib.Omega.{arith}
 use borrow.Author.Tests.{leb-true}
 use lib.ListN.{length, drop-of-length-le}
+use borrow.Author.Needs.{needs}
 use Rattle.intervals.specs.machine.Pass.{passFrom}
 use Rattle.intervals.proofs.PassLaws.{pass-ends, pass-is-full}
 use Turn.{Shifting, begins, ends, turn-stays-open, turn-closes}
-use borrow.Author.Needs.{needs}
 use Rattle.intervals.proofs.block.shift_in.Statement.{statement}
 use Rattle.intervals.proofs.block.shift_in.Tie as tie
 

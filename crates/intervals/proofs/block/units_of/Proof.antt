@@ -5,12 +5,12 @@ use mathlib.Core.Path.{_≡_, refl, sym, _∙_}
 use native.Mathlib.Numerals.{add-one}
 use native.Mathlib.Omega.{arith}
 use lib.ListN.{length, drop, length-set, drop-of-length-le}
+use borrow.Author.Needs.{needs}
 use Rattle.lists.specs.Filled.{storedAt}
 use Rattle.lists.proofs.StoreLaws.{stored-none, stored-one, stored-next, stored-over-all}
 use Rattle.timing.specs.Class.{cursorAfter}
 use Rattle.timing.specs.machine.Edges.{unitsFrom}
 use Rattle.timing.proofs.UnitsLaws.{units-none, units-count, units-here, cursor-here, cursor-after-none}
-use borrow.Author.Needs.{needs}
 use Rattle.intervals.proofs.block.units_of.Statement.{statement}
 use Rattle.intervals.proofs.block.units_of.Tie as tie
 

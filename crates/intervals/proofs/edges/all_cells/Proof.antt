@@ -6,11 +6,11 @@ use mathlib.Core.Bool.{_&&_, and-true, and-assoc}
 use native.Mathlib.Numerals.{add-one}
 use native.Mathlib.Omega.{arith}
 use lib.ListN.{length, drop, drop-of-length-le}
+use borrow.Author.Needs.{needs}
 use Rattle.lists.specs.Place.{everywhere}
 use Rattle.timing.specs.Class.{isCell, classesFrom, Ascending}
 use Rattle.timing.proofs.ClassLaws.{classes-none, classes-here}
 use Rattle.timing.proofs.EdgeLaws.{ascending-past}
-use borrow.Author.Needs.{needs}
 use Rattle.intervals.proofs.edges.all_cells.Statement.{statement}
 use Rattle.intervals.proofs.edges.all_cells.Tie as tie
 

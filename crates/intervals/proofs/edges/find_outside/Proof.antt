@@ -5,11 +5,11 @@ use mathlib.Core.Path.{_≡_, refl, sym, _∙_}
 use native.Mathlib.Numerals.{add-one}
 use native.Mathlib.Omega.{arith}
 use lib.ListN.{length, drop, drop-of-length-le}
+use borrow.Author.Needs.{needs}
 use Rattle.timing.specs.Class.{classesFrom}
 use Rattle.timing.proofs.ClassLaws.{classes-none, classes-here}
 use Rattle.intervals.specs.Cells.{edgeRule, edgeRuleFrom}
 use Rattle.intervals.proofs.NearLaws.{narrow-is-refused, wide-is-refused, cell-is-passed}
-use borrow.Author.Needs.{needs}
 use Rattle.intervals.proofs.edges.find_outside.Statement.{statement}
 use Rattle.intervals.proofs.edges.find_outside.Tie as tie
 

@@ -7,9 +7,9 @@ use native.Mathlib.Numerals.{add-one}
 use native.Mathlib.Omega.{arith}
 use lib.ListN.{length, drop, drop-of-length-le}
 use lib.Seq.{drop-cons}
+use borrow.Author.Needs.{needs}
 use Rattle.lists.specs.Place.{everywhere}
 use Rattle.half_cells.specs.machine.Word.{fits}
-use borrow.Author.Needs.{needs}
 use Rattle.intervals.proofs.fours.all_fit.Statement.{statement}
 use Rattle.intervals.proofs.fours.all_fit.Tie as tie
 

@@ -6,9 +6,9 @@ use native.Mathlib.Numerals.{add-one}
 use native.Mathlib.Omega.{arith}
 use lib.ListN.{length, take, drop, getD}
 use lib.Seq.{drop-cons}
+use borrow.Author.Needs.{needs}
 use Rattle.symbols.specs.machine.Step.{shifted, shiftedAll, emptyReading}
 use Rattle.symbols.specs.declared.Reading.{Reading}
-use borrow.Author.Needs.{needs}
 use Rattle.intervals.proofs.fours.four_cells.Statement.{statement}
 use Rattle.intervals.proofs.fours.four_cells.Tie as tie
 

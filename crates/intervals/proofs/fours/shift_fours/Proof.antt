@@ -5,9 +5,9 @@ use Prim.Native.Nat.{_-_}
 use mathlib.Core.Path.{refl}
 use native.Mathlib.Omega.{arith}
 use lib.ListN.{length}
+use borrow.Author.Needs.{needs}
 use Rattle.lists.proofs.BoolLaws.{one-at-most}
 use Turn.{Shifting, begins, ends, goes-on}
-use borrow.Author.Needs.{needs}
 use Rattle.intervals.proofs.fours.shift_fours.Statement.{statement}
 use Rattle.intervals.proofs.fours.shift_fours.Tie as tie
 

@@ -6,10 +6,10 @@ use native.Mathlib.Nat.{add-zero}
 use native.Mathlib.Numerals.{add-one}
 use native.Mathlib.Omega.{arith}
 use lib.ListN.{length, drop, length-set, length-map, drop-of-length-le, List·getD-map}
+use borrow.Author.Needs.{needs}
 use Rattle.lists.specs.Filled.{storedAt}
 use Rattle.lists.proofs.StoreLaws.{stored-none, stored-past-end, stored-rest}
 use Rattle.intervals.specs.machine.Fours.{alone}
-use borrow.Author.Needs.{needs}
 use Rattle.intervals.proofs.fours.store.Statement.{statement}
 use Rattle.intervals.proofs.fours.store.Tie as tie
 

@@ -2,9 +2,9 @@
 -- Rests on no axiom.
 use mathlib.Core.Path.{_≡_, refl}
 use mathlib.Core.Bool.{Bool, true, false}
-use mir.Val.{boolByte}
-use Rattle.ism.specs.Answers.{asNumber}
 use borrow.Author.Needs.{needs}
+use Rattle.ism.specs.Answers.{asNumber}
+use mir.Val.{boolByte}
 use Rattle.ism.proofs.disk.field_answer.Statement.{statement}
 use Rattle.ism.proofs.disk.field_answer.Tie as tie
 

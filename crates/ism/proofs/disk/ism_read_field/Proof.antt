@@ -2,14 +2,14 @@
 -- the least clearance over the used intervals where the field was accepted. Rests on no axiom.
 use Prim.Native.Nat.{_≤_}
 use mathlib.Core.Path.{_≡_, refl}
-use denote.Ref.{now}
 use native.Mathlib.Omega.{arith}
 use lib.ListN.{length, length-take}
+use borrow.Author.Needs.{needs}
 use Rattle.fields.specs.FieldRule.{fieldReading, fieldOutput}
 use Rattle.fields.proofs.ReaderLaws.{used-is-within}
 use Rattle.ism.specs.Answers.{profileOf, fieldAnswerOf}
 use Rattle.ism.proofs.ClearanceLaws.{refused-comes-without, field-accepts-profile}
-use borrow.Author.Needs.{needs}
+use denote.Ref.{now}
 use Rattle.ism.proofs.disk.ism_read_field.Statement.{statement}
 use Rattle.ism.proofs.disk.ism_read_field.Tie as tie
 

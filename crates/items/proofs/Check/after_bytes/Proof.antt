@@ -2,11 +2,11 @@
 use Prim.Native.Nat.{_-_, _≤_}
 use mathlib.Core.Path.{_≡_, refl, sym, _∙_}
 use native.Mathlib.Omega.{arith}
-use denote.Ref.{now}
 use borrow.Author.Needs.{needs}
 use lib.ListN.{length, drop}
 use Rattle.items.specs.Written.{afterBytes}
 use Rattle.items.proofs.CheckLaws.{after-bytes-from-end}
+use denote.Ref.{now}
 use Rattle.items.proofs.Check.after_bytes.Statement.{statement}
 use Rattle.items.proofs.Check.after_bytes.Tie as tie
 

@@ -4,13 +4,13 @@ use Prim.Native.Nat.{ℕ, _+_, _-_, _≤_, _<_}
 use mathlib.Core.Path.{_≡_, refl, sym, ap, _∙_}
 use mathlib.Core.List.{List}
 use native.Mathlib.Omega.{arith}
-use denote.Ref.{now}
 use borrow.Author.Needs.{needs}
 use lib.Bits.{bitOr, or-add-and, and-le-l, and-le-r}
 use lib.ListN.{length, getD, drop}
 use Rattle.items.specs.Written.{afterBytes}
 use Rattle.items.specs.declared.Check.{Check}
 use Rattle.items.proofs.CheckLaws.{unmarked, after-bytes-from, after-two-data-from}
+use denote.Ref.{now}
 use Rattle.items.proofs.Check.after_run.Statement.{statement}
 use Rattle.items.proofs.Check.after_run.Tie as tie
 

@@ -2,13 +2,13 @@
 use mathlib.Core.Path.{_≡_}
 use mathlib.Core.Bool.{cond}
 use borrow.Author.Tests.{lt-ltb, le-ltb}
-use denote.Ref.{now}
 use lib.Dec.{ltb}
 use lib.ListN.{length}
+use borrow.Author.Needs.{needs}
 use Rattle.refusal.specs.Answer.{accepted, refused}
 use Rattle.items.specs.Rule.{listRule}
 use Rattle.items.proofs.RuleLaws.{rule-of-too-many, rule-of-too-many-bytes, rule-within-counts}
-use borrow.Author.Needs.{needs}
+use denote.Ref.{now}
 use Rattle.items.proofs.list.check_list.Statement.{statement}
 use Rattle.items.proofs.list.check_list.Tie as tie
 

@@ -4,7 +4,6 @@ use mathlib.Core.Path.{_≡_, sym, _∙_}
 use mathlib.Core.List.{List}
 use native.Mathlib.Nat.{zero-add}
 use native.Mathlib.Omega.{arith}
-use denote.Ref.{now}
 use borrow.Author.Count.{falls}
 use borrow.Author.Needs.{needs}
 use lib.ListN.{length, getD, drop}
@@ -12,6 +11,7 @@ use Rattle.lists.specs.Place.{lowest}
 use Rattle.lists.proofs.PlaceLaws.{lowest-from-passing-is-here, lowest-from-failing-is-further, lowest-from-end-is-here}
 use Rattle.items.specs.Item.{isForeign}
 use Rattle.items.proofs.ItemLaws.{item-is-not-foreign}
+use denote.Ref.{now}
 use Rattle.items.proofs.list.find_foreign.Statement.{statement}
 use Rattle.items.proofs.list.find_foreign.Tie as tie
 

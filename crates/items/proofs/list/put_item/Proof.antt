@@ -2,11 +2,11 @@
 use mathlib.Core.Path.{sym, _∙_}
 use native.Mathlib.Numerals.{add-one}
 use borrow.Author.Needs.{needs}
-use denote.Ref.{now}
 use Rattle.lists.specs.Filled.{storedAt}
 use Rattle.lists.proofs.StoreLaws.{stored-past-end}
 use Rattle.items.specs.Written.{itemBytes}
 use Rattle.items.proofs.WrittenLaws.{item-bytes-of-check, item-bytes-of-byte}
+use denote.Ref.{now}
 use Rattle.items.proofs.list.put_item.Statement.{statement}
 use Rattle.items.proofs.list.put_item.Tie as tie
 

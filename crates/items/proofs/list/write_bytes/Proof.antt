@@ -4,11 +4,11 @@ use Prim.Native.Nat.{ℕ}
 use mathlib.Core.Path.{_≡_, sym, ap, _∙_}
 use mathlib.Core.List.{List}
 use borrow.Author.Needs.{needs}
-use denote.Ref.{now}
 use Rattle.lists.specs.Filled.{storedAt}
 use Rattle.items.specs.Written.{afterBytes, writtenFrom}
 use Rattle.items.proofs.ItemLaws.{one-byte-each-is-no-check}
 use Rattle.items.proofs.WrittenLaws.{written-from-of-no-check}
+use denote.Ref.{now}
 use Rattle.items.proofs.list.write_bytes.Statement.{statement}
 use Rattle.items.proofs.list.write_bytes.Tie as tie
 

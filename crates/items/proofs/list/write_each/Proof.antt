@@ -6,7 +6,6 @@ use native.Mathlib.Nat.{zero-add}
 use native.Mathlib.Omega.{arith}
 use borrow.Author.Count.{falls}
 use borrow.Author.Needs.{needs}
-use denote.Ref.{now}
 use lib.ListN.{length, getD, drop}
 use Rattle.lists.specs.Filled.{storedAt}
 use Rattle.lists.proofs.StoreLaws.{stored-none, stored-after-stored, stored-length}
@@ -16,6 +15,7 @@ use Rattle.items.specs.declared.Check.{Check}
 use Rattle.items.proofs.ItemLaws.{written-bytes-bounds, written-bytes-from, written-bytes-from-end}
 use Rattle.items.proofs.CheckLaws.{after-bytes-of-append}
 use Rattle.items.proofs.WrittenLaws.{length-of-item-bytes, written-from-place, written-from-end}
+use denote.Ref.{now}
 use Rattle.items.proofs.list.write_each.Statement.{statement}
 use Rattle.items.proofs.list.write_each.Tie as tie
 

@@ -3,12 +3,12 @@ use Prim.Native.Nat.{_+_, _-_, _≤_, zero-le}
 use mathlib.Core.Path.{_≡_}
 use native.Mathlib.Nat.{zero-add}
 use native.Mathlib.Omega.{arith}
-use denote.Ref.{now}
 use borrow.Author.Count.{falls}
 use borrow.Author.Needs.{needs}
 use lib.ListN.{length, drop}
 use Rattle.items.specs.Item.{writtenBytes}
 use Rattle.items.proofs.ItemLaws.{written-bytes-bounds, written-bytes-from, written-bytes-from-end}
+use denote.Ref.{now}
 use Rattle.items.proofs.list.written_bytes.Statement.{statement}
 use Rattle.items.proofs.list.written_bytes.Tie as tie
 

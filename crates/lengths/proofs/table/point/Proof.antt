@@ -2,9 +2,9 @@
 -- after a 0 between Late and Normal. Rests on no axiom.
 use mathlib.Core.Path.{_≡_, refl}
 use mathlib.Core.Bool.{Bool, true, false, cond}
+use borrow.Author.Needs.{needs}
 use Rattle.timing.specs.declared.Profile.{Profile}
 use Rattle.lengths.specs.Lengths.{point}
-use borrow.Author.Needs.{needs}
 use Rattle.lengths.proofs.table.point.Statement.{statement}
 use Rattle.lengths.proofs.table.point.Tie as tie
 

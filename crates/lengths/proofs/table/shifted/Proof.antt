@@ -5,10 +5,10 @@ use native.Mathlib.Omega.{arith}
 use lib.Dec.{T}
 use lib.IntN.{ℤ, natAbs}
 use lib.Signed.{nonNeg}
+use borrow.Author.Needs.{needs}
+use Rattle.lengths.proofs.ShiftLaws.{shift-fits, shifted-fits, shifted-reads-back}
 use mir.Syntax.{w16}
 use mir.Val.{Fits}
-use Rattle.lengths.proofs.ShiftLaws.{shift-fits, shifted-fits, shifted-reads-back}
-use borrow.Author.Needs.{needs}
 use Rattle.lengths.proofs.table.shifted.Statement.{statement}
 use Rattle.lengths.proofs.table.shifted.Tie as tie
 use Rattle.lengths.proofs.table.shifted.Reads as reads

@@ -3,13 +3,13 @@
 use Prim.Native.Nat.{_+_, _-_, _*_, _≤_}
 use mathlib.Core.Path.{_≡_}
 use native.Mathlib.Nat.{zero-add}
+use native.Mathlib.Omega.{arith}
 use lib.ListN.{length}
-use Rattle.merge.proofs.OutputLaws.{taken-is-short}
-use Rattle.merge.proofs.AscendingLaws.{bytesFrom, bytes-at-end, entries-here, size-here}
+use borrow.Author.Needs.{needs}
 use Rattle.merge.specs.Merge.{merged}
 use Rattle.merge.specs.Rule.{result}
-use borrow.Author.Needs.{needs}
-use native.Mathlib.Omega.{arith}
+use Rattle.merge.proofs.OutputLaws.{taken-is-short}
+use Rattle.merge.proofs.AscendingLaws.{bytesFrom, bytes-at-end, entries-here, size-here}
 use Rattle.merge.proofs.ascending.merged_size.Statement.{statement}
 use Rattle.merge.proofs.ascending.merged_size.Tie as tie
 

@@ -2,15 +2,15 @@
 -- one run of stores from turn to turn. Rests on no axiom.
 use Prim.Native.Nat.{_+_, _-_, _≤_}
 use mathlib.Core.Path.{_≡_, refl, _∙_}
+use native.Mathlib.Nat.{zero-add}
+use native.Mathlib.Omega.{arith}
 use lib.ListN.{length}
+use borrow.Author.Needs.{needs}
 use Rattle.lists.specs.Filled.{storedAt}
 use Rattle.lists.proofs.StoreLaws.{stored-none, stored-next}
-use Rattle.merge.proofs.AscendingLaws.{bytesFrom, bytes-at-end, bytes-here, entries-here, size-here}
 use Rattle.merge.specs.Merge.{merged}
 use Rattle.merge.specs.Rule.{result}
-use native.Mathlib.Nat.{zero-add}
-use borrow.Author.Needs.{needs}
-use native.Mathlib.Omega.{arith}
+use Rattle.merge.proofs.AscendingLaws.{bytesFrom, bytes-at-end, bytes-here, entries-here, size-here}
 use Rattle.merge.proofs.ascending.write_merged.Statement.{statement}
 use Rattle.merge.proofs.ascending.write_merged.Tie as tie
 

@@ -1,16 +1,16 @@
 -- Why `merge::choice::copies_disagree` answers `disagree`: it makes the same tests in the same order. Rests on no
 -- axiom.
+use Prim.Native.Nat.{_+_, _-_}
 use mathlib.Core.Path.{ap, _≡_}
+use mathlib.Core.Bool.{not}
+use native.Mathlib.Omega.{arith}
+use borrow.Author.Tests.{eq-eqb, ne-eqb}
+use lib.ListN.{getD}
+use borrow.Author.Needs.{needs}
 use Rattle.sectors.specs.Sector.{sectorSize}
 use Rattle.merge.specs.Merge.{disagree}
-use borrow.Author.Tests.{eq-eqb, ne-eqb}
 use Rattle.merge.specs.Index.{sectorAt}
 use Rattle.merge.specs.Set.{sectorOf}
-use lib.ListN.{getD}
-use mathlib.Core.Bool.{not}
-use Prim.Native.Nat.{_+_, _-_}
-use borrow.Author.Needs.{needs}
-use native.Mathlib.Omega.{arith}
 use Rattle.merge.proofs.choice.copies_disagree.Statement.{statement}
 use Rattle.merge.proofs.choice.copies_disagree.Tie as tie
 

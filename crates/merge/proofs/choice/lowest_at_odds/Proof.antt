@@ -3,14 +3,14 @@
 use Prim.Native.Nat.{_+_, _-_, _≤_}
 use mathlib.Core.Path.{_≡_, _∙_}
 use native.Mathlib.Nat.{zero-add}
+use native.Mathlib.Omega.{arith}
 use lib.ListN.{drop}
+use borrow.Author.Needs.{needs}
 use Rattle.lists.specs.Place.{lowest}
 use Rattle.merge.specs.Set.{sectorsIn}
 use Rattle.merge.specs.Merge.{atOddsAt, numbers}
 use Rattle.merge.proofs.ChoiceLaws.{entries-at-odds}
 use Rattle.merge.proofs.NumberLaws.{numbers-end, numbers-from}
-use borrow.Author.Needs.{needs}
-use native.Mathlib.Omega.{arith}
 use Rattle.merge.proofs.choice.lowest_at_odds.Statement.{statement}
 use Rattle.merge.proofs.choice.lowest_at_odds.Tie as tie
 

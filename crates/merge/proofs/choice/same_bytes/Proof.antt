@@ -3,12 +3,12 @@
 use Prim.Native.Nat.{_-_, _≤_}
 use mathlib.Core.Path.{_≡_, refl, sym, _∙_}
 use mathlib.Core.Bool.{_&&_, and-assoc, and-true}
-use lib.Seq.{drop-cons}
 use native.Mathlib.Numerals.{add-one}
+use native.Mathlib.Omega.{arith}
+use lib.Seq.{drop-cons}
 use lib.ListN.{length, drop, drop-of-length-le}
 use Rattle.merge.specs.Merge.{sameBytes}
 use Rattle.merge.proofs.ChoiceLaws.{unlike-lengths-are-unlike}
-use native.Mathlib.Omega.{arith}
 use Rattle.merge.proofs.choice.same_bytes.Statement.{statement}
 use Rattle.merge.proofs.choice.same_bytes.Tie as tie
 

@@ -1,11 +1,11 @@
 -- Why `merge::choice::takes_second` answers `takesSecond`: neither set has the number twice, so an entry that is not
 -- 0 shows one sector. Rests on no axiom.
+use native.Mathlib.Omega.{arith}
 use borrow.Author.Tests.{eq-eqb, ne-eqb}
+use borrow.Author.Needs.{needs}
 use Rattle.merge.specs.Set.{sectorOf}
 use Rattle.merge.specs.Index.{sectorAt, takesSecond}
 use Rattle.merge.proofs.ChoiceLaws.{zero-shows-nothing, place-shows-one, single-entries}
-use borrow.Author.Needs.{needs}
-use native.Mathlib.Omega.{arith}
 use Rattle.merge.proofs.choice.takes_second.Statement.{statement}
 use Rattle.merge.proofs.choice.takes_second.Tie as tie
 

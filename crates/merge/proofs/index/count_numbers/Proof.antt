@@ -4,12 +4,12 @@ use Prim.Native.Nat.{_+_, _-_, _≤_}
 use mathlib.Core.Path.{_≡_}
 use mathlib.Core.Logic.{⊎-elim}
 use native.Mathlib.Nat.{zero-add}
+use native.Mathlib.Omega.{arith}
 use lib.ListN.{drop}
+use borrow.Author.Needs.{needs}
 use Rattle.merge.specs.Merge.{howMany, numbers}
 use Rattle.merge.specs.Index.{entryInEither}
 use Rattle.merge.proofs.NumberLaws.{numbers-end, numbers-from}
-use borrow.Author.Needs.{needs}
-use native.Mathlib.Omega.{arith}
 use Rattle.merge.proofs.index.count_numbers.Statement.{statement}
 use Rattle.merge.proofs.index.count_numbers.Tie as tie
 

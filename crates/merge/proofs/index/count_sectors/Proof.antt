@@ -2,14 +2,14 @@
 -- from turn to turn. Rests on no axiom.
 use Prim.Native.Nat.{_-_, _≤_}
 use mathlib.Core.Path.{_≡_, refl, _∙_}
-use lib.ListN.{length, drop, drop-of-length-le}
 use native.Mathlib.Nat.{add-zero}
+use native.Mathlib.Omega.{arith}
+use lib.ListN.{length, drop, drop-of-length-le}
+use borrow.Author.Needs.{needs}
 use Rattle.merge.specs.Set.{setOf}
 use Rattle.merge.specs.Index.{countRule}
 use Rattle.merge.proofs.SetLaws.{set-of-none}
 use Rattle.merge.proofs.PlaceLaws.{misfit-ends-the-count, Whole, count-with-first, sector-is-whole}
-use borrow.Author.Needs.{needs}
-use native.Mathlib.Omega.{arith}
 use Rattle.merge.proofs.index.count_sectors.Statement.{statement}
 use Rattle.merge.proofs.index.count_sectors.Tie as tie
 

@@ -2,12 +2,12 @@
 use Prim.Native.Nat.{_+_, _-_, _<_, _≤_}
 use mathlib.Core.Path.{_≡_, ap, _∙_}
 use mathlib.Core.Bool.{false}
+use native.Mathlib.Omega.{arith}
 use lib.ListN.{length, drop, getD, length-set}
+use borrow.Author.Needs.{needs}
 use Rattle.sectors.specs.Sector.{sectorSize}
 use Rattle.merge.specs.Set.{setOf, isNone, isMisfitSet}
 use Rattle.merge.proofs.IndexLaws.{Indexing, fresh-indexes, end-indexes, whole-here, sector-indexes, rest-here}
-use borrow.Author.Needs.{needs}
-use native.Mathlib.Omega.{arith}
 use Rattle.merge.proofs.index.index_set.Statement.{statement}
 use Rattle.merge.proofs.index.index_set.Tie as tie
 

@@ -2,10 +2,10 @@
 -- or none. Rests on no axiom.
 use Prim.Native.Nat.{ℕ, _+_}
 use mathlib.Core.Path.{sym, ap, _∙_}
-use lib.ListN.{length}
-use Rattle.merge.proofs.OutputLaws.{bytes-of-entry, bytes-of-no-entry, sector-bytes-length}
-use borrow.Author.Needs.{needs}
 use native.Mathlib.Omega.{arith}
+use lib.ListN.{length}
+use borrow.Author.Needs.{needs}
+use Rattle.merge.proofs.OutputLaws.{bytes-of-entry, bytes-of-no-entry, sector-bytes-length}
 use Rattle.merge.proofs.output.entry_size.Statement.{statement}
 use Rattle.merge.proofs.output.entry_size.Tie as tie
 

@@ -1,15 +1,15 @@
 -- Why `merge::output::put_sector` stores the sector's bytes: three stores, then its data where they end. Rests on no
 -- axiom.
-use lib.ListN.{length-set, length-take}
-use Rattle.merge.proofs.OutputLaws.{sector-bytes-length}
-use native.Mathlib.Nat.{add-sub-cancel-left}
-use Rattle.merge.specs.Index.{sectorAt}
-use Rattle.merge.specs.Set.{sectorBytes, sectorOf}
-use Rattle.lists.specs.Filled.{storedAt}
 use Prim.Native.Nat.{suc, _+_}
 use mathlib.Core.Path.{_≡_}
-use borrow.Author.Needs.{needs}
+use native.Mathlib.Nat.{add-sub-cancel-left}
 use native.Mathlib.Omega.{arith}
+use lib.ListN.{length-set, length-take}
+use borrow.Author.Needs.{needs}
+use Rattle.lists.specs.Filled.{storedAt}
+use Rattle.merge.specs.Index.{sectorAt}
+use Rattle.merge.specs.Set.{sectorBytes, sectorOf}
+use Rattle.merge.proofs.OutputLaws.{sector-bytes-length}
 use Rattle.merge.proofs.output.put_sector.Statement.{statement}
 use Rattle.merge.proofs.output.put_sector.Tie as tie
 

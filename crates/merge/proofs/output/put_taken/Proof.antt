@@ -1,7 +1,7 @@
 -- Why `merge::output::put_taken` stores the copy taken: it is the one set's copy or the other's. Rests on no axiom.
+use borrow.Author.Needs.{needs}
 use Rattle.merge.proofs.ChoiceLaws.{single-entries}
 use Rattle.merge.proofs.OutputLaws.{taken-is-one-of-them}
-use borrow.Author.Needs.{needs}
 use Rattle.merge.proofs.output.put_taken.Statement.{statement}
 use Rattle.merge.proofs.output.put_taken.Tie as tie
 

@@ -1,8 +1,8 @@
 -- Why `merge::output::taken_size` answers the number of bytes of the copy taken: it is the one set's copy or the
 -- other's. Rests on no axiom.
+use borrow.Author.Needs.{needs}
 use Rattle.merge.proofs.ChoiceLaws.{single-entries}
 use Rattle.merge.proofs.OutputLaws.{taken-is-one-of-them}
-use borrow.Author.Needs.{needs}
 use Rattle.merge.proofs.output.taken_size.Statement.{statement}
 use Rattle.merge.proofs.output.taken_size.Tie as tie
 

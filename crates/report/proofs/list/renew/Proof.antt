@@ -2,9 +2,9 @@
 -- interval by itself has the row of 1 and three times itself. Rests on no axiom.
 use mathlib.Core.Path.{sym}
 use native.Mathlib.Omega.{arith}
+use borrow.Author.Needs.{needs}
 use Rattle.report.proofs.RowLaws.{row-of-one}
 use Rattle.report.proofs.ReportLaws.{class-number-range}
-use borrow.Author.Needs.{needs}
 use Rattle.report.proofs.list.renew.Statement.{statement}
 use Rattle.report.proofs.list.renew.Tie as tie
 

@@ -1,13 +1,10 @@
 -- Why `row::add` answers `addRow`: it goes by the definition's cases, and where no row is empty, counts and sums fit.
 -- Rests on no axiom.
-use Prim.Native.Nat.{_+_, _≤_}
-use mathlib.Core.Path.{_≡_, sym}
-use mathlib.Core.Bool.{false}
+use mathlib.Core.Path.{sym}
 use native.Mathlib.Omega.{arith}
-use Rattle.report.specs.Row.{Row, countIn, sumIn, addRow, largest, isOverlarge}
-use Rattle.report.proofs.RowLaws.{two-empty-rows, first-row-is-empty, second-row-is-empty, no-row-is-empty}
-use Rattle.report.proofs.RowLaws.{bothAdded, fitting-row}
 use borrow.Author.Needs.{needs}
+use Rattle.report.proofs.RowLaws.{two-empty-rows, first-row-is-empty, second-row-is-empty, no-row-is-empty}
+use Rattle.report.proofs.RowLaws.{fitting-row}
 use Rattle.report.proofs.row.add.Statement.{statement}
 use Rattle.report.proofs.row.add.Tie as tie
 

@@ -2,9 +2,9 @@
 -- numbers fit; else counts and sums are compared. Rests on no axiom.
 use mathlib.Core.Path.{sym, ap, ap₂, _∙_}
 use mathlib.Core.Bool.{Bool, _||_}
+use borrow.Author.Needs.{needs}
 use Rattle.report.specs.Row.{isOverlarge}
 use Rattle.report.proofs.RowLaws.{fits-if-first-is-empty, second-row-is-empty, no-row-is-empty, row-fits}
-use borrow.Author.Needs.{needs}
 use Rattle.report.proofs.row.overflows.Statement.{statement}
 use Rattle.report.proofs.row.overflows.Tie as tie
 

@@ -1,21 +1,21 @@
 -- Why `script::read_bytes` stores the bytes of a line: the fields that are left are bytes where those from the first
 -- on are, and storing them after those before comes out as storing all. Rests on no axiom.
-use Prim.Native.Nat.{ℕ, _+_, _-_, _≤_}
+use Prim.Native.Nat.{_+_, _-_, _≤_}
 use mathlib.Core.Path.{_≡_, refl, sym, _∙_}
-use mathlib.Core.List.{List, _∷_}
+use mathlib.Core.List.{_∷_}
 use native.Mathlib.Omega.{arith}
 use borrow.Author.Needs.{needs}
 use lib.ListN.{length, take, drop}
 use Rattle.lists.specs.Place.{everywhere}
 use Rattle.lists.proofs.PlaceLaws.{everywhere-of-none, everywhere-of-passing}
 use Rattle.text.specs.Hex.{isHexByte}
+use Rattle.text.proofs.HexLaws.{malformed-is-no-byte, value-is-byte}
 use Rattle.script.specs.Line.{areBytes, raised}
 use Rattle.script.specs.Read.{fieldsAfter}
 use Rattle.script.proofs.FieldLaws.{field-ends-in-line, fields-next, fields-at-the-end}
 use Rattle.script.proofs.ByteLaws.{bytes-from-tab, few-bytes}
-use Rattle.text.proofs.HexLaws.{malformed-is-no-byte, value-is-byte}
-use Rattle.script.proofs.BufferLaws.{Storing, all-is-left, rest-is-left, nothing-is-left}
-use Rattle.script.proofs.BufferLaws.{faulty-read, items-read}
+use Rattle.script.proofs.BufferLaws.{Storing, all-is-left, rest-is-left, nothing-is-left, faulty-read}
+use Rattle.script.proofs.BufferLaws.{items-read}
 use Rattle.script.proofs.items.read_bytes.Statement.{statement}
 use Rattle.script.proofs.items.read_bytes.Tie as tie
 

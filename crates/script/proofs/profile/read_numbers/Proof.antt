@@ -1,8 +1,8 @@
 -- Why `script::read_numbers` stores the decimals of a line: those that are left fit the places left where all fit
 -- all, and they come after those that are stored. Rests on no axiom.
-use Prim.Native.Nat.{ℕ, _+_, _-_, _≤_, _<_}
+use Prim.Native.Nat.{_+_, _-_, _≤_, _<_}
 use mathlib.Core.Path.{_≡_, refl, sym, _∙_}
-use mathlib.Core.List.{List, _∷_, _++_, map}
+use mathlib.Core.List.{_∷_, _++_, map}
 use native.Mathlib.Omega.{arith}
 use borrow.Author.Needs.{needs}
 use lib.ListN.{length, take, drop, length-set}
@@ -10,8 +10,8 @@ use Rattle.text.specs.Decimal.{valueOf}
 use Rattle.text.proofs.DecimalLaws.{malformed-is-no-decimal, number-is-decimal}
 use Rattle.script.specs.Read.{fieldsAfter}
 use Rattle.script.proofs.FieldLaws.{field-ends-in-line, fields-next, fields-at-the-end}
-use Rattle.script.proofs.NumberLaws.{fitting, fitting-without-place, fitting-at-malformed}
-use Rattle.script.proofs.NumberLaws.{fitting-after-number, number-stored, no-numbers-read, all-numbers-read}
+use Rattle.script.proofs.NumberLaws.{fitting, fitting-without-place, fitting-at-malformed, fitting-after-number}
+use Rattle.script.proofs.NumberLaws.{number-stored, no-numbers-read, all-numbers-read}
 use Rattle.script.proofs.profile.read_numbers.Statement.{statement}
 use Rattle.script.proofs.profile.read_numbers.Tie as tie
 

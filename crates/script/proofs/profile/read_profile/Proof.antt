@@ -3,11 +3,11 @@
 use mathlib.Core.Path.{_≡_, sym, _∙_, ap}
 use lib.ListN.{take}
 use lib.Seq.{length-take-le}
+use borrow.Author.Needs.{needs}
+use Rattle.timing.specs.Numbers.{fromNumbers}
 use Rattle.script.specs.Line.{wordOf, isProfileLine, profileOf, profileRead}
 use Rattle.script.specs.declared.ProfileLine.the-variants.{Given}
-use Rattle.timing.specs.Numbers.{fromNumbers}
 use Rattle.script.proofs.LineLaws.{word-ends-in-line, word-is-a-part, arguments-after-word}
-use borrow.Author.Needs.{needs}
 use Rattle.script.proofs.profile.read_profile.Statement.{statement}
 use Rattle.script.proofs.profile.read_profile.Tie as tie
 

@@ -2,17 +2,17 @@
 -- Rests on no axiom.
 use Prim.Native.Nat.{_≤_}
 use mathlib.Core.Path.{_≡_, ap}
-use native.Mathlib.Omega.{arith}
 use mathlib.Core.List.{[], _∷_}
+use native.Mathlib.Omega.{arith}
 use lib.ListN.{length}
-use Rattle.text.specs.Ascii.{ascii}
-use Rattle.text.specs.Line.{lineOf}
+use borrow.Author.Needs.{needs}
 use Rattle.refusal.specs.Answer.{refused}
 use Rattle.refusal.specs.Table.{numberOf, placeOf}
+use Rattle.text.specs.Ascii.{ascii}
+use Rattle.text.specs.Line.{lineOf}
 use Rattle.strip.specs.Output.{refusalText}
 use Rattle.strip.specs.Printed.{outputLength}
 use Rattle.strip.proofs.OutputLaws.{printed-at-front, refusal-fits}
-use borrow.Author.Needs.{needs}
 use Rattle.strip.proofs.output.refuse.Statement.{statement}
 use Rattle.strip.proofs.output.refuse.Tie as tie
 

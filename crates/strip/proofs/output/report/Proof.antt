@@ -3,8 +3,8 @@
 use Prim.Native.Nat.{_≤_}
 use native.Mathlib.Omega.{arith}
 use lib.ListN.{length}
-use Rattle.strip.proofs.OutputLaws.{reportSize, printed-at-front, report-fits, report-length, report-stored}
 use borrow.Author.Needs.{needs}
+use Rattle.strip.proofs.OutputLaws.{reportSize, printed-at-front, report-fits, report-length, report-stored}
 use Rattle.strip.proofs.output.report.Statement.{statement}
 use Rattle.strip.proofs.output.report.Tie as tie
 

@@ -1,7 +1,7 @@
 -- Why `Reading::close` gives `closed`: both ask whether the word has a gap, whether it is a mark, and whether a gap was
 -- out of place before.
-use borrow.Author.Tests.{eq-eqb, ne-eqb}
 use mathlib.Core.Path.{sym, _∙_}
+use borrow.Author.Tests.{eq-eqb, ne-eqb}
 use borrow.Author.Needs.{needs}
 use Rattle.half_cells.specs.machine.Word.{misfits}
 use Rattle.symbols.specs.machine.Step.{surplus, wordOf, closed}

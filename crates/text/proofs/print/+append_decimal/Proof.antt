@@ -4,15 +4,15 @@ use Prim.Native.Nat.{ℕ, _<_}
 use mathlib.Core.Path.{sym}
 use native.Mathlib.Omega.{arith}
 use lib.ListN.{length-set}
+use borrow.Fn.Kinds.{In}
+use borrow.Fn.PlainCycle.{Measures, is, falls, and}
 use Rattle.lists.proofs.StoreLaws.{stored-one, stored-one-more}
 use Rattle.text.proofs.PrintLaws.{decimal-of-digit, decimal-of-more, decimal-length-of-digit}
 use Rattle.text.proofs.PrintLaws.{decimal-length-of-more}
-use borrow.Fn.Kinds.{In}
-use borrow.Fn.PlainCycle.{Measures, is, falls, and}
+use Rattle.text.proofs.print.+append_decimal.{statement}
 use Rattle.text.proofs.print.append_decimal.Reads as reads
 use Rattle.text.proofs.print.append_decimal.Kinds as kinds
 use Rattle.text.proofs.print.+append_decimal.Lts-append_decimal as lts
-use Rattle.text.proofs.print.+append_decimal.{statement}
 use Rattle.text.proofs.print.+append_decimal.Tie.{close}
 
 -- the number falls with each call

@@ -1,10 +1,7 @@
 -- Why `text::append_line` stores a line: its word, its fields and a line feed go one after the other. Rests on no
 -- axiom.
-use Prim.Native.Nat.{_+_, _≤_}
 use native.Mathlib.Omega.{arith}
-use lib.ListN.{length}
 use borrow.Author.Needs.{needs}
-use Rattle.text.specs.Line.{fieldsOf}
 use Rattle.text.proofs.LineLaws.{line-length, line-stored}
 use Rattle.text.proofs.print.append_line.Statement.{statement}
 use Rattle.text.proofs.print.append_line.Tie as tie

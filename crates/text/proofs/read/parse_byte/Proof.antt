@@ -4,8 +4,8 @@ use mathlib.Core.Path.{refl}
 use mathlib.Core.Bool.{and-false}
 use native.Mathlib.Omega.{arith}
 use borrow.Author.Tests.{lt-ltb, le-ltb, eq-eqb, ne-eqb}
-use Rattle.text.proofs.HexLaws.{byte-by-length}
 use borrow.Author.Needs.{needs}
+use Rattle.text.proofs.HexLaws.{byte-by-length}
 use Rattle.text.proofs.read.parse_byte.Statement.{statement}
 use Rattle.text.proofs.read.parse_byte.Tie as tie
 

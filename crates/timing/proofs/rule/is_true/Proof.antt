@@ -1,8 +1,8 @@
 -- Why `timing::is_true` answers `isTrue`: it makes the definition's tests with the swing that `swing` gave, and under
 -- the ranges no sum wraps. Rests on no axiom.
 use native.Mathlib.Omega.{arith}
-use Rattle.timing.specs.Profile.{isTrue}
 use borrow.Author.Needs.{needs}
+use Rattle.timing.specs.Profile.{isTrue}
 use Rattle.timing.proofs.rule.is_true.Statement.{statement}
 use Rattle.timing.proofs.rule.is_true.Tie as tie
 

@@ -4,9 +4,9 @@ use Prim.Native.Nat.{ℕ, _≤_, _<_, _-_}
 use mathlib.Core.Path.{_≡_, refl, sym, ap, _∙_}
 use mathlib.Core.List.{List}
 use native.Mathlib.Numerals.{add-one}
+use native.Mathlib.Omega.{arith}
 use lib.ListN.{length}
 use borrow.Author.Needs.{needs}
-use native.Mathlib.Omega.{arith}
 use Rattle.timing.specs.Numbers.{ranges, profileNumbers}
 use Rattle.timing.specs.declared.Range.{Range}
 use Rattle.timing.proofs.RangeLaws.{unsetFrom, scan-ends-here, scan-goes-on, scan-finds-none}

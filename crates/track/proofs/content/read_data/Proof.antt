@@ -2,10 +2,10 @@
 use Prim.Native.Nat.{ℕ, _+_, _≤_}
 use mathlib.Core.Path.{_≡_, ap, _∙_}
 use native.Mathlib.Omega.{arith}
+use borrow.Author.Needs.{needs}
+use Rattle.sectors.proofs.SectorCounts.{size-at-most-1024}
 use Rattle.track.specs.FieldKinds.{dataBytes}
 use Rattle.track.specs.machine.Steps.{openedOf, dataRead}
-use Rattle.sectors.proofs.SectorCounts.{size-at-most-1024}
-use borrow.Author.Needs.{needs}
 use Rattle.track.proofs.content.read_data.Statement.{statement}
 use Rattle.track.proofs.content.read_data.Tie as tie
 

@@ -1,7 +1,7 @@
 -- Why `id::four_bytes` answers `idWith`: each of the four is a data byte and fits. Rests on no axiom.
 use native.Mathlib.Omega.{arith}
-use Rattle.track.proofs.IdLaws.{identity-has-data-bytes}
 use borrow.Author.Needs.{needs}
+use Rattle.track.proofs.IdLaws.{identity-has-data-bytes}
 use Rattle.track.proofs.id.four_bytes.Statement.{statement}
 use Rattle.track.proofs.id.four_bytes.Tie as tie
 

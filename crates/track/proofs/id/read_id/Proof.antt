@@ -4,10 +4,10 @@ use Prim.Native.Nat.{ℕ}
 use mathlib.Core.Path.{sym, ap, _∙_}
 use mathlib.Core.Bool.{true, false}
 use mathlib.Core.List.{List}
+use borrow.Author.Needs.{needs}
 use Rattle.track.specs.machine.Steps.{identified}
 use Rattle.track.proofs.OpeningLaws.{all-in-place, opened-means}
 use Rattle.track.proofs.IdLaws.{unopened-is-no-id, field-is-identified}
-use borrow.Author.Needs.{needs}
 use Rattle.track.proofs.id.read_id.Statement.{statement}
 use Rattle.track.proofs.id.read_id.Tie as tie
 

@@ -3,14 +3,14 @@
 use mathlib.Core.Path.{_≡_, sym, ap, _∙_}
 use native.Mathlib.Omega.{arith}
 use lib.ListN.{length, take}
+use borrow.Author.Needs.{needs}
 use Rattle.fields.specs.FieldRule.{fieldAnswer, fieldReading}
 use Rattle.fields.proofs.ReaderLaws.{range-of-count, checked-reads}
 use Rattle.track.specs.FieldKinds.{itemsOf, opensWith}
 use Rattle.track.specs.machine.Steps.{opens}
 use Rattle.track.proofs.FieldLaws.{FieldReads, refused-field, accepted-field}
-use Rattle.track.proofs.OpeningLaws.{items-in-place, opens-nothing, unread-opens-nothing}
-use Rattle.track.proofs.OpeningLaws.{opens-by-kind, opens-by-front, opened}
-use borrow.Author.Needs.{needs}
+use Rattle.track.proofs.OpeningLaws.{items-in-place, opens-nothing, unread-opens-nothing, opens-by-kind}
+use Rattle.track.proofs.OpeningLaws.{opens-by-front, opened}
 use Rattle.track.proofs.opening.read_marked.Statement.{statement}
 use Rattle.track.proofs.opening.read_marked.Tie as tie
 

@@ -1,8 +1,8 @@
 -- Why `opening::read_opened` answers `openedOf`: what does not begin with the classes of three marks opens as no field of
 -- a sector. Rests on no axiom.
 use mathlib.Core.Path.{sym, _∙_}
-use Rattle.track.proofs.OpeningLaws.{opens-nothing, unmarked-opens-nothing}
 use borrow.Author.Needs.{needs}
+use Rattle.track.proofs.OpeningLaws.{opens-nothing, unmarked-opens-nothing}
 use Rattle.track.proofs.opening.read_opened.Statement.{statement}
 use Rattle.track.proofs.opening.read_opened.Tie as tie
 

@@ -15,10 +15,9 @@ use Rattle.timing.specs.declared.cursor.Cursor.{Cursor}
 use Rattle.timing.proofs.ClassLaws.{classes-count}
 use Rattle.fields.specs.Lock.{markAhead, lockAt, lockFrom}
 use Rattle.fields.specs.machine.Scan.{RunTo, PassesRun}
-use Rattle.fields.proofs.FinderLaws.{lock-stands, broken-run-has-no-lock, no-lock-without-mark}
-use Rattle.fields.proofs.FinderLaws.{no-lock-past-end, search-goes-on, broken-run-is-passed}
-use Rattle.fields.proofs.FinderLaws.{longer-run-is-passed, first-64-are-passed}
-use Rattle.fields.proofs.FinderLaws.{search-ends-in-lock, search-ends-adrift}
+use Rattle.fields.proofs.FinderLaws.{lock-stands, broken-run-has-no-lock, no-lock-without-mark, no-lock-past-end}
+use Rattle.fields.proofs.FinderLaws.{search-goes-on, broken-run-is-passed, longer-run-is-passed}
+use Rattle.fields.proofs.FinderLaws.{first-64-are-passed, search-ends-in-lock, search-ends-adrift}
 use Rattle.fields.proofs.RunLaws.{run-goes-on, run-begins-anew, broken-here}
 
 -- a run of which no place up to its 64th has a lock before it

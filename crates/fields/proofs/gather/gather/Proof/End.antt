@@ -22,10 +22,10 @@ use Rattle.timing.specs.declared.Class.{Class}
 use Rattle.timing.proofs.ClassLaws.{classes-from-start}
 use Rattle.timing.proofs.EdgeLaws.{accepted-ascends}
 use Rattle.timing.proofs.UnitsLaws.{units-count}
+use Rattle.half_cells.specs.machine.Candidate.{candidate}
 use Rattle.symbols.specs.Bits.{O}
 use Rattle.symbols.specs.Bytes.{itemsRead}
 use Rattle.symbols.specs.Reading.{units, readFrom, readBits}
-use Rattle.half_cells.specs.machine.Candidate.{candidate}
 use Rattle.symbols.specs.machine.Step.{freshReading, strayNow, placeNow}
 use Rattle.symbols.specs.declared.Cell.{Cell}
 use Rattle.symbols.specs.declared.Reading.{Reading}

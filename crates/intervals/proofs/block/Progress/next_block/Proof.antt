@@ -6,9 +6,9 @@ use mathlib.Core.List.{List}
 use native.Mathlib.Omega.{arith}
 use lib.ListN.{length, take, drop, replicate, length-take, length-drop}
 use lib.Seq.{length-take-le}
+use borrow.Author.Needs.{needs}
 use Rattle.intervals.specs.machine.Blocks.{wordsOf}
 use Rattle.intervals.proofs.BlockLaws.{take-taken}
-use borrow.Author.Needs.{needs}
 use Rattle.intervals.proofs.block.Progress.next_block.Statement.{statement}
 use Rattle.intervals.proofs.block.Progress.next_block.Tie as tie
 

@@ -6,6 +6,7 @@ use mathlib.Core.List.{List}
 use native.Mathlib.Omega.{arith}
 use lib.ListN.{length, take, drop, length-take, length-drop, drop-of-length-le}
 use lib.Seq.{length-take-le, take-add, drop-at}
+use borrow.Author.Needs.{needs}
 use Rattle.lists.specs.Filled.{storedAt}
 use Rattle.lists.proofs.StoreLaws.{stored-none, stored-next, stored-length}
 use Rattle.timing.specs.Class.{cursorAfter}
@@ -13,7 +14,6 @@ use Rattle.timing.proofs.UnitsLaws.{cursor-after-none}
 use Rattle.intervals.specs.machine.Blocks.{restFrom, wordsOf}
 use Rattle.intervals.proofs.BlockLaws.{take-taken, Fair, rest-wants, rest-stops, rest-goes-on, cursor-goes-on}
 use Rattle.intervals.proofs.BlockLaws.{nothing-left, words-more, fair-after, comes-nearer}
-use borrow.Author.Needs.{needs}
 use Rattle.intervals.proofs.block.Progress.pass_on.Statement.{statement}
 use Rattle.intervals.proofs.block.Progress.pass_on.Tie as tie
 

@@ -1,7 +1,7 @@
 -- Why `Progress::start` is `atFirst`: both readings and both cursors are those before any interval. Rests on no axiom.
 use mathlib.Core.Path.{refl}
-use Rattle.intervals.specs.machine.Blocks.{atFirst}
 use borrow.Author.Needs.{needs}
+use Rattle.intervals.specs.machine.Blocks.{atFirst}
 use Rattle.intervals.proofs.block.Progress.start.Statement.{statement}
 use Rattle.intervals.proofs.block.Progress.start.Tie as tie
 

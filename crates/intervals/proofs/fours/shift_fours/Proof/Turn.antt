@@ -8,7 +8,6 @@ use native.Mathlib.Nat.{add-zero}
 use native.Mathlib.Numerals.{add-one}
 use native.Mathlib.Omega.{arith}
 use borrow.Author.Tests.{leb-true}
-use mir.Val.{boolByte}
 use lib.ListN.{length, take, drop, set, length-set, length-drop}
 use lib.Seq.{drop-drop, length-take-le, take-suc-set, take-set-le}
 use Rattle.lists.specs.Filled.{ifGiven}
@@ -18,6 +17,7 @@ use Rattle.symbols.specs.declared.Reading.{Reading}
 use Rattle.symbols.proofs.JoinLaws.{join-is-shift}
 use Rattle.intervals.specs.machine.Fours.{Fours, foursFrom}
 use Rattle.intervals.proofs.FoursLaws.{cells-in-parts}
+use mir.Val.{boolByte}
 
 -- kept, if a byte is whole, or to be stored over
 kept

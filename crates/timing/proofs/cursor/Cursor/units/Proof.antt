@@ -1,9 +1,9 @@
 -- `Cursor::units` is `unitsIn` itself, and never above 4. Rests on no axiom.
 use mathlib.Core.Path.{refl}
 use native.Mathlib.Omega.{arith}
+use borrow.Author.Needs.{needs}
 use Rattle.timing.specs.machine.Edges.{unitsIn}
 use Rattle.timing.proofs.UnitsLaws.{units-in-range}
-use borrow.Author.Needs.{needs}
 use Rattle.timing.proofs.cursor.Cursor.units.Statement.{statement}
 use Rattle.timing.proofs.cursor.Cursor.units.Tie as tie
 
