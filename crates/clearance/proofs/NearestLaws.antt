@@ -79,7 +79,8 @@ module _
     abbrev betweenEdges : ℕ
     betweenEdges = min (room 0 65535 (turned y) (turned y)) (room 0 65535 (turned z) (turned z))
 
-    one-by-class : {x : Class} → Stands c d x → min (inWindow (c .min .0) (c .rpt .0) d) betweenEdges ≡ clearanceBy x c d
+    one-by-class : {x : Class} → Stands c d x → min (inWindow (c .min .0) (c .rpt .0) d) betweenEdges
+        ≡ clearanceBy x c d
     one-by-class (narrow h) = at-no-edge _ _ (omega arith)
     one-by-class (two h₁ h₂) =
         rw (

@@ -104,7 +104,8 @@ module _ (table out : List ℕ) where
       : (rest : Rest) (place : ℕ)
       → Highest (rest .ones) place
       → place < rest .last
-      → restDrawn table (storedLate out (rest .cells) (getD table (behind rest place .window) 0 ∷ [])) (behind rest place)
+      → restDrawn table (storedLate out (rest .cells) (getD table (behind rest place .window) 0 ∷ []))
+      (behind rest place)
       ≡ restDrawn table out rest
   unfolding drawn ended
   a-one-more rest place high inside =
@@ -138,7 +139,8 @@ pub record Stepped (rest next : Rest) : Type 0 where
   pub in-table : next .window < 64
   pub same
       : (table out : List ℕ)
-      → restDrawn table (storedLate out (rest .cells) (getD table (next .window) 0 ∷ [])) next ≡ restDrawn table out rest
+      → restDrawn table (storedLate out (rest .cells) (getD table (next .window) 0 ∷ [])) next
+      ≡ restDrawn table out rest
 
 pub steps : (rest : Rest) (place : ℕ) → Pending rest → Highest (rest .ones) place → Stepped rest (behind rest place)
 unfolding turned

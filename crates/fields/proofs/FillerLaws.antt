@@ -121,7 +121,8 @@ module _ (tail : List Class) where
   gap-passes (c ∷ filler) front run h few e =
       let longer : length (front ++ (c ∷ [])) ≡ length front + 1 = length-append front (c ∷ []) in
       one-class-more (eqb (classNumber c) 2) c filler front run refl h few e (λ r low short p.
-      (rw (append-snoc front c (filler ++ tail), longer) at (gap-passes filler (front ++ (c ∷ [])) r (omega arith) short p))
+      (rw (append-snoc front c (filler ++ tail), longer) at (gap-passes filler (front ++ (c ∷ [])) r
+      (omega arith) short p))
       ∙ ap (lockAfter (front ++ (c ∷ filler ++ tail))) (omega arith))
 
 -- ---- filler, a run and a mark

@@ -88,7 +88,8 @@ run-keeps-items s (o ∷ os) =
     rw (← append-assoc (s .items) (acceptedBy o s), operation-keeps o s .items)
     (simp (append-assoc, run-keeps-items next os))
 
-pub run-holds-at-most-two : (s : State) (os : List Operation) → length (s .items) ≤ 2 → length (stateAfter s os .items) ≤ 2
+pub run-holds-at-most-two : (s : State) (os : List Operation) → length (s .items) ≤ 2
+    → length (stateAfter s os .items) ≤ 2
 unfolding stateAfter
 run-holds-at-most-two s [] h = h
 run-holds-at-most-two s (o ∷ os) h = run-holds-at-most-two (ruleOf o s .next) os (operation-keeps o s .few h)

@@ -38,4 +38,5 @@ rest-of-items (suc (suc held)) a b =
 pub no-bit-keeps-register : (e : ℕ) → firstBit e 0 ≡ e
 unfolding firstBit
 no-bit-keeps-register e =
-    (elim (eqb e 0) as (λ t. eqb e 0 ≡ t → cond t 0 e ≡ e) [ true ↦ λ h. sym (eqb-true e 0 h) | false ↦ λ h. refl ]) refl
+    (elim (eqb e 0) as (λ t. eqb e 0 ≡ t → cond t 0 e ≡ e)
+    [ true ↦ λ h. sym (eqb-true e 0 h) | false ↦ λ h. refl ]) refl

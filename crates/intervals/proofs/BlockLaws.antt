@@ -44,7 +44,8 @@ unfolding atFirst freshReading
 fair-at-first ds p = record { within = omega arith; room = omega arith }
 
 -- all is left at first
-pub all-at-first : (most : ℕ) (ds : List ℕ) (p : Profile) → restFrom most ds (atFirst p) ≡ passed most (unitsFrom (atStart p) ds)
+pub all-at-first : (most : ℕ) (ds : List ℕ) (p : Profile) → restFrom most ds (atFirst p)
+    ≡ passed most (unitsFrom (atStart p) ds)
 unfolding restFrom atFirst passed
 all-at-first most ds p = refl
 

@@ -178,7 +178,8 @@ by-fours (suc n) us most k m cells size room more small fit =
     ∙ pass-in-parts most k m front back
     ∙ rw (
       four front most k m here (omega arith) room (omega arith) small fit-here,
-      by-fours n back most (k + length front) (eased next) later others held (omega (arith, run .words)) small fit-later,
+      by-fours n back most (k + length front) (eased next) later others held (omega (arith, run .words))
+          small fit-later,
       used,
       map-append,
     )

@@ -45,7 +45,8 @@ pub classes-are-near : (c : Cursor) (ds : List ℕ) → Ascending c → Near (cl
 classes-are-near c [] up = rw (classes-none c, units-none c) near-none
 classes-are-near c (d ∷ ds) up =
     rw (classes-cons c d ds, units-cons c d ds)
-    (near-more {c = classIn c d} {x = cellOfUnits (unitsIn c d)} (λ cell. rw (units-of-cell c d up cell) (cell-is-read-as (classIn c d) cell))
+    (near-more {c = classIn c d} {x = cellOfUnits (unitsIn c d)}
+    (λ cell. rw (units-of-cell c d up cell) (cell-is-read-as (classIn c d) cell))
     (classes-are-near (cursorPast c d) ds (ascending-past c d up)))
 
 -- where none is narrow or wide, they are the cells
@@ -70,7 +71,8 @@ all-cells-are-fair k (c ∷ cs) h =
     read-first k cs (cell-is-read-as c cell) .0 ∙ all-cells-are-fair (suc k) cs rest
 
 -- the first interval of a list decides, unless it is a cell
-pub narrow-is-refused : (k : ℕ) (c : Class) (cs : List Class) → classNumber c ≡ 1 → edgeRuleFrom k (c ∷ cs) ≡ refused 5 k
+pub narrow-is-refused : (k : ℕ) (c : Class) (cs : List Class) → classNumber c ≡ 1
+    → edgeRuleFrom k (c ∷ cs) ≡ refused 5 k
 unfolding edgeRuleFrom
 narrow-is-refused k c cs h = rw (same-number c Narrow h)
 

@@ -23,7 +23,13 @@ module _
     data-byte : (w : ℕ) (bs : List Bit) → ((t : Bool) → P t bs) → (u : Bool) → P u (byteBits w ++ bs)
     unfolding byteBits
     data-byte w bs p =
-        data-bit (eqb (w / 128 % 2) 1) _ (data-bit (eqb (w / 64 % 2) 1) _ (data-bit (eqb (w / 32 % 2) 1) _ (data-bit (eqb (w / 16 % 2) 1) _ (data-bit (eqb (w / 8 % 2) 1) _ (data-bit (eqb (w / 4 % 2) 1) _ (data-bit (eqb (w / 2 % 2) 1) _ (data-bit (eqb (w / 1 % 2) 1) bs (p _) _) _) _) _) _) _) _)
+        data-bit (eqb (w / 128 % 2) 1) _
+        (data-bit (eqb (w / 64 % 2) 1) _
+        (data-bit (eqb (w / 32 % 2) 1) _
+        (data-bit (eqb (w / 16 % 2) 1) _
+        (data-bit (eqb (w / 8 % 2) 1) _
+        (data-bit (eqb (w / 4 % 2) 1) _ (data-bit (eqb (w / 2 % 2) 1) _ (data-bit (eqb (w / 1 % 2) 1) bs (p _) _) _)
+        _) _) _) _) _)
 
     mark-a1 : (bs : List Bit) → P true bs → (u : Bool) → P u (markBits 0xa1 ++ bs)
     unfolding markBits withGaps byteBits

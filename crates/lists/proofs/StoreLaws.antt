@@ -50,7 +50,8 @@ module _ {A : Type 0} where
 
   -- one store after a run
   pub stored-one-more
-      : (vs l : List A) (i j : ℕ) (a : A) → j ≡ i + length vs → set (storedAt l i vs) j a ≡ storedAt l i (vs ++ (a ∷ []))
+      : (vs l : List A) (i j : ℕ) (a : A) → j ≡ i + length vs → set (storedAt l i vs) j a
+      ≡ storedAt l i (vs ++ (a ∷ []))
   stored-one-more vs l i j a e = sym (stored-one (storedAt l i vs) j a) ∙ stored-after-stored vs (a ∷ []) l i j e
 
   -- one store of a list, and then the rest of it

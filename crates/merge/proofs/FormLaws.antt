@@ -31,7 +31,8 @@ unfolding setBytes sectorBytes sectorOf isSector
 print-then-read [] e = set-of-none
 print-then-read (s ∷ ss) e =
     let fits =
-    both (leb (s .code) 3) (eqb (length (s .bytes)) (sectorSize (s .code))) (everywhere-passes-at-first isSector s ss e) in
+    both (leb (s .code) 3) (eqb (length (s .bytes)) (sectorSize (s .code)))
+    (everywhere-passes-at-first isSector s ss e) in
     let size : length (s .bytes) ≡ sectorSize (s .code) = eqb-true _ _ (fits .1) in
     let rest = setBytes ss in
     let room : sectorSize (s .code) ≤ length (s .bytes ++ rest) = rw (length-append (s .bytes) rest) (omega arith) in

@@ -41,7 +41,11 @@ moved-out-is-linear : (n k : ℕ) → Linear (movedOut n k)
 moved-out-is-linear n k =
     record {
       on = λ a b.
-          cc (up-is-linear k .on a b, shifted-by-of-xor n (a * 2 ^ k % 2 ^ 16) (b * 2 ^ k % 2 ^ 16) (omega arith) (omega arith));
+          cc (
+            up-is-linear k .on a b,
+            shifted-by-of-xor n (a * 2 ^ k % 2 ^ 16) (b * 2 ^ k % 2 ^ 16) (omega arith)
+                (omega arith),
+          );
     }
 
 -- ---- one byte

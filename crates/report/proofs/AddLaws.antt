@@ -84,7 +84,8 @@ add-reports-comm a b =
 pub add-reports-assoc : (a b c : Report) → addReports (addReports a b) c ≡ addReports a (addReports b c)
 unfolding addReports
 add-reports-assoc a b c =
-    same-report (add-row-assoc _ _ _) (add-row-assoc _ _ _) (add-row-assoc _ _ _) (add-row-assoc _ _ _) (add-row-assoc _ _ _)
+    same-report (add-row-assoc _ _ _) (add-row-assoc _ _ _) (add-row-assoc _ _ _) (add-row-assoc _ _ _)
+    (add-row-assoc _ _ _)
 
 -- ---- what fits
 

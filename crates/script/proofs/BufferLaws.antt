@@ -58,5 +58,6 @@ module _ {good : Bool} {items before : List ℕ} {place : ℕ} {after : List ℕ
   pub faulty-read : good ≡ false → ItemsRead good items before place Faulty after
   faulty-read h = record { verdict = sym h; stored = λ n e. absurd (false≢true (cc)) }
 
-  pub items-read : {n : ℕ} → good ≡ true → Stored before place items n after → ItemsRead good items before place (Items n) after
+  pub items-read : {n : ℕ} → good ≡ true → Stored before place items n after
+      → ItemsRead good items before place (Items n) after
   items-read {n = n} h k = record { verdict = sym h; stored = λ m e. let q : m ≡ n = cc in rw q k }

@@ -45,7 +45,8 @@ unfolding piecesOf
 few-pieces [] = omega arith
 few-pieces (b ∷ bs) =
     let few = rw (pieces-of-text tab bs) at (few-pieces bs) in
-    elim (eqb b tab) as (λ t. length (cond t ([] ∷ piecesOf tab bs) (before b (piecesOf tab bs))) ≤ suc (suc (length bs)))
+    elim (eqb b tab) as (λ t. length (cond t ([] ∷ piecesOf tab bs) (before b (piecesOf tab bs))) ≤ suc
+    (suc (length bs)))
     [ true ↦ rw (pieces-of-text tab bs) (omega arith) | false ↦ rw (pieces-of-text tab bs) (omega arith) ]
 
 pub few-fields : (s : List ℕ) → length (fieldsAfter s) ≤ length s

@@ -50,7 +50,8 @@ module _ (line rest : List ℕ) where
   unfolding garbledFrom
   garbled-next n = rw (pieces-of-text lineFeed rest)
 
-  pub items-next : itemsOfLines (line ∷ piecesOf lineFeed rest) ≡ lineItems line ++ itemsOfLines (piecesOf lineFeed rest)
+  pub items-next : itemsOfLines (line ∷ piecesOf lineFeed rest)
+      ≡ lineItems line ++ itemsOfLines (piecesOf lineFeed rest)
   unfolding itemsOfLines
   items-next = rw (pieces-of-text lineFeed rest)
 
@@ -89,7 +90,8 @@ module _ {lines : List (List ℕ)} {before : List ℕ} where
       let counted = accepted-later (garbledFrom 2 lines) count _ first in
       record {
         answer =
-            rw (first-refusal-passes (garbledFrom 2 lines) _ (counted .0), length-take, ← counted .1) (ap accepted size);
+            rw (first-refusal-passes (garbledFrom 2 lines) _ (counted .0), length-take, ← counted .1)
+            (ap accepted size);
         output =
             second (counted .0)
             ∙ stored-as-far-as-there-is-room before (itemsOfLines lines)

@@ -37,7 +37,8 @@ pub number-stored : (numbers : List ℕ) (k n value : ℕ) (more : List ℕ)
     → k < length numbers
     → value ≡ n
     → take (k + 1) (set numbers k n) ++ more ≡ take k numbers ++ value ∷ more
-number-stored numbers k n value more h e = rw (add-one, take-suc-set numbers k n h, ← e) (append-snoc (take k numbers) value more)
+number-stored numbers k n value more h e =
+    rw (add-one, take-suc-set numbers k n h, ← e) (append-snoc (take k numbers) value more)
 
 module _ {fields : List (List ℕ)} {places : ℕ} {after : List ℕ} where
   pub no-numbers-read : fitting 0 places fields ≡ false → NumbersRead fields places false after

@@ -94,7 +94,8 @@ module _ (text : List ℕ) (end : ℕ) (h : length text ≤ 16384) (e : end ≡ 
         let first = given-is-profile-line (take end text) p f in
         record {
           answer = same ∙ rw (rule-by-lines, first .0, items-of-the-lines) (read .answer);
-          profile = λ o n q. rw (← piece-is-a-part lineFeed text end size) (sym (ap (profileGiven p) q) ∙ own ∙ sym (first .1));
+          profile = λ o n q. rw (← piece-is-a-part lineFeed text end size)
+              (sym (ap (profileGiven p) q) ∙ own ∙ sym (first .1));
           output = rw (rule-by-lines, first .0, items-of-the-lines) (read .output);
         }
 

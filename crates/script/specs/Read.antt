@@ -64,7 +64,8 @@ within buffer list = take (length buffer) list
 
 -- the same with a count of the items that have room, and a buffer that a refusal leaves as it was
 pub record LinesStored (lines : List (List ℕ)) (before : List ℕ) (r : Counted) (after : List ℕ) : Type 0 where
-  pub answer : countedAnswer r ≡ firstRefusal (garbledFrom 2 lines) (accepted (length (within before (itemsOfLines lines))))
+  pub answer : countedAnswer r
+      ≡ firstRefusal (garbledFrom 2 lines) (accepted (length (within before (itemsOfLines lines))))
   pub output : after ≡ settled (garbledFrom 2 lines) (within before (itemsOfLines lines)) before
 
 abbrev pub scriptAnswer : Script → Answer

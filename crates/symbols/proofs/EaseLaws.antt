@@ -57,7 +57,8 @@ module _ (m : Reading) (u : ℕ) (room : m .held + u ≤ 32) where
     unfolding eased shifted
     ease-by-shift =
         let more : 17 ≤ (m .held + u) % 2 ^ 32 = omega arith in
-        let held : ((m .held + u) % 2 ^ 32 + (2 ^ 32 - 16)) % 2 ^ 32 ≡ ((m .held + (2 ^ 32 - 16)) % 2 ^ 32 + u) % 2 ^ 32 =
+        let held : ((m .held + u) % 2 ^ 32 + (2 ^ 32 - 16)) % 2 ^ 32
+        ≡ ((m .held + (2 ^ 32 - 16)) % 2 ^ 32 + u) % 2 ^ 32 =
         omega arith in
         rw (le-leb 17 ((m .held + u) % 2 ^ 32) more, le-leb 17 (m .held) whole, held)
 

@@ -79,5 +79,6 @@ pub number-is-decimal : (field : List ℕ) (n : ℕ)
     → (isDecimal field ≡ true) × (valueOf field ≡ n)
 unfolding decimalRead
 number-is-decimal field n e =
-    (elim (isDecimal field) as (λ t. cond t (Number (valueOf field)) Malformed ≡ Number n → (t ≡ true) × (valueOf field ≡ n))
+    (elim (isDecimal field) as (λ t. cond t (Number (valueOf field)) Malformed ≡ Number n → (t ≡ true)
+    × (valueOf field ≡ n))
     [ true ↦ λ q. (refl, cc) | false ↦ λ q. (cc, cc) ]) e

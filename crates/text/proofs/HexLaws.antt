@@ -32,5 +32,6 @@ malformed-is-no-byte field e =
 pub value-is-byte : (field : List ℕ) (b : ℕ) → byteRead field ≡ Value b → (isHexByte field ≡ true) × (hexByte field ≡ b)
 unfolding byteRead
 value-is-byte field b e =
-    (elim (isHexByte field) as (λ t. cond t (Value (hexByte field)) Malformed ≡ Value b → (t ≡ true) × (hexByte field ≡ b))
+    (elim (isHexByte field) as (λ t. cond t (Value (hexByte field)) Malformed ≡ Value b → (t ≡ true)
+    × (hexByte field ≡ b))
     [ true ↦ λ q. (refl, cc) | false ↦ λ q. (cc, cc) ]) e

@@ -60,4 +60,11 @@ module _ (sep : ℕ) (s : List ℕ) (end : ℕ) (e : end ≡ length (upTo sep s)
   pub pieces-last : end ≡ length s → piecesOf sep s ≡ s ∷ []
   unfolding piecesAfter
   pieces-last h =
-      rw (pieces-of-text sep s, ← e, drop-of-length-le s {i = end} (omega arith), ← piece-is-a-part, take-all end s (omega arith))
+      rw (
+        pieces-of-text sep s,
+        ← e,
+        drop-of-length-le s {i = end} (omega arith),
+        ← piece-is-a-part,
+        take-all end s
+            (omega arith),
+      )

@@ -10,7 +10,8 @@ unfolding isItem isByte
 is-item-spec =
     tie.close
     (tie.spec (λ c. rw (lt-ltb _ _ (c .if1 .taken))) (λ c. search needs)
-    (λ c. rw (le-ltb _ _ (c .before .before .if1 .left), ← c .before .is-mark .ensures, c .if2 .taken)) (λ c. search needs)
+    (λ c. rw (le-ltb _ _ (c .before .before .if1 .left), ← c .before .is-mark .ensures, c .if2 .taken))
+    (λ c. search needs)
     (λ c.
     rw (le-ltb _ _ (c .before .before .before .if1 .left), ← c .before .before .is-mark .ensures, c .before .if2 .left)
     (c .is-check .ensures)))

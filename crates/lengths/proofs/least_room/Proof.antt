@@ -28,7 +28,8 @@ least-room-spec =
     tie.close
     (tie.spec (λ c κs. kept _ (c .pre) .ranges) (λ c. let k = kept _ (c .before .before .pre) in omega arith)
     (λ c. let k = kept _ (c .before .before .before .pre) in omega arith)
-    (λ c. let k = kept _ (c .before .before .before .before .pre) in omega arith) (λ c. search needs) (λ c. search needs)
+    (λ c. let k = kept _ (c .before .before .before .before .pre) in omega arith) (λ c. search needs)
+    (λ c. search needs)
     (λ c. let k = kept _ (c .before .before .before .before .before .before .pre) in omega arith) (λ c. search needs)
     (λ c. let k = kept _ (c .before .before .before .before .before .before .before .pre) in omega arith)
     (λ c. search needs) (λ c. search needs) (λ c. search needs) returns)

@@ -59,7 +59,8 @@ returns-2 c =
     let few = turn .before .at-most .ensures in
     elim (decLt k (length (args .numbers .now))) [
       | yes h ↦
-          sym (stored-past-end _ (args .at + k) (drop k (args .numbers .now)) (omega (arith, few, same, c .loop-test .left)))
+          sym (stored-past-end _ (args .at + k) (drop k (args .numbers .now))
+          (omega (arith, few, same, c .loop-test .left)))
           ∙ rest
       | no h ↦ sym (stored-none _ _) ∙ rw (drop-of-length-le (args .numbers .now) {i = k} (omega arith)) at rest
     ]

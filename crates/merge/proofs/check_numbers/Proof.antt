@@ -32,4 +32,6 @@ decided c =
 
 pub check-numbers-spec : {M : Type 1} → statement M
 check-numbers-spec =
-    tie.close (tie.spec (λ c κs. search needs) returns (λ c κs. search needs) (λ c. search needs) (λ c. rw (lt-ltb _ _ (c .if2 .taken)) at (decided (c .before))) (λ c. rw (le-ltb _ _ (c .if2 .left)) at (decided (c .before))))
+    tie.close (tie.spec (λ c κs. search needs) returns (λ c κs. search needs) (λ c. search needs)
+    (λ c. rw (lt-ltb _ _ (c .if2 .taken)) at (decided (c .before)))
+    (λ c. rw (le-ltb _ _ (c .if2 .left)) at (decided (c .before))))

@@ -34,5 +34,6 @@ add-rows-spec =
     (tie.spec Inv-loop μ-loop (λ c. (search needs, refl)) (λ c. search needs) (λ c. search needs) (λ c. search needs)
     (λ c. search needs)
     (λ c κs.
-    let turn = c .before .before in row-of-sum-fits _ _ _ (turn .loop-test .taken) (turn .before .before .pre)) (λ c. search needs) (λ c. search needs) (λ c. search needs) (λ c. search needs)
+    let turn = c .before .before in row-of-sum-fits _ _ _ (turn .loop-test .taken) (turn .before .before .pre))
+    (λ c. search needs) (λ c. search needs) (λ c. search needs) (λ c. search needs)
     loop-again returns)

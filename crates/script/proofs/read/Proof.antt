@@ -56,7 +56,8 @@ read-spec =
     (λ c.
     let found = c .before in
     sym
-    (length-take-le _ _ (first-line-ends-in-text _ _ (found .before .before .if1 .left) (found .before .find .ensures))))
+    (length-take-le _ _
+    (first-line-ends-in-text _ _ (found .before .before .if1 .left) (found .before .find .ensures))))
     (λ c κs. search needs) (λ c. search needs) (λ c. search needs)
     (λ c. omega (arith, line-found (c .before .before .before .before .before)))
     (λ c κs.

@@ -63,7 +63,8 @@ returns-2 c =
 pub begin-spec : {M : Type 1} → statement M
 begin-spec =
     tie.close
-    (tie.spec (λ c. search needs) (λ c. search needs) (λ c. with-all _ _ _ (c .before .before .before .pre) (omega arith))
+    (tie.spec (λ c. search needs) (λ c. search needs)
+    (λ c. with-all _ _ _ (c .before .before .before .pre) (omega arith))
     (λ c κs. (c .if2 .taken, c .before .before .before .before .fits .word .fits))
     (λ c κs. (pending _ _ _ (c .before .before .before .before .before .pre), c .highest-one .ensures))
     (λ c κs.

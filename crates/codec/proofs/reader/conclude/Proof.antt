@@ -12,7 +12,8 @@ unfolding stripAnswer
 conclude-spec =
     tie.close
     (tie.spec (λ c. rw (ne-eqb _ 4 (c .if1 .taken)))
-    (λ c. rw (eq-eqb _ 4 (c .before .before .if1 .left), lt-ltb 6400 _ (c .if2 .taken))) (λ c. search needs) (λ c. search needs)
+    (λ c. rw (eq-eqb _ 4 (c .before .before .if1 .left), lt-ltb 6400 _ (c .if2 .taken))) (λ c. search needs)
+    (λ c. search needs)
     (λ c.
     let stray = c .before .before in
     let few = stray .before in

@@ -19,5 +19,6 @@ read-strip-spec =
     let told = c .before in
     let checked = told .before .before in
     let pre = checked .before .before .before .pre in
-    edge-refuses _ _ _ (pre .0) (pre .1) _ _ (checked .check-edges .ensures) (told .refusal .given .1)) (λ c. search needs)
+    edge-refuses _ _ _ (pre .0) (pre .1) _ _ (checked .check-edges .ensures) (told .refusal .given .1))
+    (λ c. search needs)
     (λ c. search needs))

@@ -15,7 +15,8 @@ write-byte-spec =
     (λ c κs.
     let entry = c .before .before .before in
     let made = c .before .made-word in
-    (one-word (entry .args .start .pen) _ (entry .pre .0) (made .ok), rw (made .ensures) (entry .pre .1))) (λ c. search needs)
+    (one-word (entry .args .start .pen) _ (entry .pre .0) (made .ok), rw (made .ensures) (entry .pre .1)))
+    (λ c. search needs)
     (λ c.
     let made = c .before .before .before .before in
     ap (λ (d : Drawing). writing (record { pen = d .pen; previous = made .before .before .args .byte }) (d .out))

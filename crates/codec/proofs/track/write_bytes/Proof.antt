@@ -114,7 +114,8 @@ returns c =
 pub write-bytes-spec : {M : Type 1} → statement M
 write-bytes-spec =
     tie.close
-    (tie.spec Inv-loop μ-loop (λ c. (omega arith, (c .before .before .pre .0 .0, omega arith), refl)) (λ c. omega arith) (λ c. omega arith) (λ c. omega arith) (λ c. omega arith)
+    (tie.spec Inv-loop μ-loop (λ c. (omega arith, (c .before .before .pre .0 .0, omega arith), refl))
+    (λ c. omega arith) (λ c. omega arith) (λ c. omega arith) (λ c. omega arith)
     (λ c. omega arith) (λ c. omega arith) write-two-requires (λ c. omega arith) (λ c. omega arith) loop-again
     (λ c. omega arith) (λ c. omega arith) (λ c. omega arith) write-byte-requires same-length returns
     (λ c. same-length-of-whole _ _ _ _ _ (c .before .before .loop .inv .2))

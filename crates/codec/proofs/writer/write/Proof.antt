@@ -11,7 +11,8 @@ pub write-spec : {M : Type 1} → statement M
 unfolding writeRule writeOutput
 write-spec =
     tie.close
-    (tie.spec (λ c. search needs) (λ c. search needs) (λ c. search needs) (λ c. search needs) (λ c. search needs) (λ c. search needs)
+    (tie.spec (λ c. search needs) (λ c. search needs) (λ c. search needs) (λ c. search needs) (λ c. search needs)
+    (λ c. search needs)
     (λ c κs.
     let listed = c .before .before .before in
     let told = listed .before in (

@@ -34,4 +34,5 @@ returns-2 c =
 pub write-list-spec : {M : Type 1} → statement M
 write-list-spec =
     tie.close
-    (tie.spec (λ c. search needs) (λ c κs. (c .before .before .before .pre .1, c .written-bytes .ensures)) write-stream-requires (λ c. search needs) returns returns-2)
+    (tie.spec (λ c. search needs) (λ c κs. (c .before .before .before .pre .1, c .written-bytes .ensures))
+    write-stream-requires (λ c. search needs) returns returns-2)

@@ -14,7 +14,8 @@ returns c = verdict-refuses _ _ _ _ (c .before .before .before .check .ensures) 
 returns-2 : tie.Need-returns-2
 unfolding findRule
 returns-2 c =
-    c .search .ensures ∙ verdict-passes _ _ _ (c .before .before .before .check .ensures) (c .before .enum-told .given .1)
+    c .search .ensures
+    ∙ verdict-passes _ _ _ (c .before .before .before .check .ensures) (c .before .enum-told .given .1)
 
 pub find-lock-spec : {M : Type 1} → statement M
 find-lock-spec =

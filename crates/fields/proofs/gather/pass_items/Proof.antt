@@ -184,5 +184,6 @@ pass-items-spec =
     (λ c κs. let fair = c .before .before .before .loop .inv .0 in (fair .within, fair .room))
     (λ c. omega (arith, part (c .before .before) .more)) (λ c. search needs)
     (λ c. let p = part (c .before .before) in omega (arith, p .more, p .few, p .long))
-    (λ c. let p = part (c .before .before .before) in sym (length-take-le _ _ (omega (arith, p .more, p .few, p .long))))
+    (λ c. let p = part (c .before .before .before) in
+    sym (length-take-le _ _ (omega (arith, p .more, p .few, p .long))))
     cast-sum-up (λ c κs. search needs) loop-less loop-again (λ c. search needs) returns)

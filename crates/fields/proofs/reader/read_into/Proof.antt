@@ -39,7 +39,8 @@ returns-2 c =
     let e = sym (ap countedAnswer (told .1)) ∙ answer in
     let (read, delivered) = c .before .before .deliver .ensures in (
       read
-          ∙ ap (λ (k : ℕ). deliverReading k (told .0 .0) (gathered .gather .result .holds) (length out)) (front gathered)
+          ∙ ap (λ (k : ℕ). deliverReading k (told .0 .0) (gathered .gather .result .holds) (length out))
+          (front gathered)
           ∙ gather-reads _ _ _ _ e sum (length out),
       delivered ∙ gather-delivers _ _ _ _ e sum (entry .args .buffer .now) _ out (entry .pre .1 .2) items,
     )

@@ -43,4 +43,5 @@ returns-2 c =
 
 pub count-cells-spec : {M : Type 1} → statement M
 count-cells-spec =
-    tie.close (tie.spec (λ c κs. search needs) (λ c. search needs) (λ c. search needs) returns (λ c. search needs) returns-2)
+    tie.close (tie.spec (λ c κs. search needs) (λ c. search needs) (λ c. search needs) returns
+    (λ c. search needs) returns-2)

@@ -32,7 +32,8 @@ closed-turn c =
     let tested = c .before .before .before .before .before .before in
     let inside = tested .before .before .before .before in
     let turn = inside .before .loop .inv in
-    turn-closes _ _ _ _ _ _ (turn .0) (turn .1) (inside .loop-test .taken) _ _ _ _ (tested .before .before .shift .ensures)
+    turn-closes _ _ _ _ _ _ (turn .0) (turn .1) (inside .loop-test .taken) _ _ _ _
+    (tested .before .before .shift .ensures)
     (sym (tested .before .is-whole .ensures) ∙ tested .if1 .taken) (c .before .before .before .before .word .ensures)
     (c .before .before .before .put .ensures) (c .close .ensures)
 
@@ -55,7 +56,8 @@ add-store-at c =
 
 close-requires : tie.Need-close-requires Inv-loop μ-loop
 close-requires c κs =
-    let tested = c .before .before .before .before .before in leb-true 17 _ (sym (tested .before .is-whole .ensures) ∙ tested .if1 .taken)
+    let tested = c .before .before .before .before .before in leb-true 17 _
+    (sym (tested .before .is-whole .ensures) ∙ tested .if1 .taken)
 
 add-t24 : tie.Need-add-t24 Inv-loop μ-loop
 add-t24 c =

@@ -18,7 +18,8 @@ abbrev Inv-loop : tie.InvT-loop
 Inv-loop intervals cursor₀ all₀ k₀ cursor all k =
     (k ≤ length intervals)
     × Ascending cursor
-    × ((all && everywhere isCell (classesFrom cursor (drop k intervals))) ≡ everywhere isCell (classesFrom cursor₀ intervals))
+    × ((all && everywhere isCell (classesFrom cursor (drop k intervals)))
+    ≡ everywhere isCell (classesFrom cursor₀ intervals))
 
 abbrev μ-loop : tie.MeasureT-loop
 μ-loop intervals cursor₀ all₀ k₀ cursor all k = length intervals - k
@@ -45,7 +46,8 @@ returns : tie.Need-returns Inv-loop μ-loop
 unfolding everywhere
 returns c =
     let turn = c .before in
-    let none = drop-of-length-le (turn .before .before .args .intervals .now) {i = turn .loop .k} (c .loop-test .left) in
+    let none = drop-of-length-le (turn .before .before .args .intervals .now) {i = turn .loop .k}
+    (c .loop-test .left) in
     sym (and-true (turn .loop .all)) ∙ rw (none, classes-none) at (turn .loop .inv .2)
 
 pub all-cells-spec : {M : Type 1} → statement M

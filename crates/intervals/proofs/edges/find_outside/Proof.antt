@@ -71,7 +71,8 @@ returns-3 : tie.Need-returns-3 Inv-loop μ-loop
 unfolding edgeRuleFrom
 returns-3 c =
     let turn = c .before in
-    let none = drop-of-length-le (turn .before .before .args .intervals .now) {i = turn .loop .k} (c .loop-test .left) in
+    let none = drop-of-length-le (turn .before .before .args .intervals .now) {i = turn .loop .k}
+    (c .loop-test .left) in
     rw (none, classes-none) at (turn .loop .inv .1)
 
 pub find-outside-spec : {M : Type 1} → statement M

@@ -44,7 +44,8 @@ loop-again c =
     let inside = c .before .before .before .before .before in
     let cells = inside .before .before .before .before .pre in
     rw (c .ease .ensures)
-    (goes-on _ _ _ (inside .before .loop .inv) (rw (inside .before .loop .inv .size) at (inside .loop-test .taken)) _ _ _ cells
+    (goes-on _ _ _ (inside .before .loop .inv)
+    (rw (inside .before .loop .inv .size) at (inside .loop-test .taken)) _ _ _ cells
     (rw (c .before .before .before .before .four-cells .ensures) at (join .ensures)) (stored .ensures)
     (told .ensures))
 

@@ -10,6 +10,7 @@ after-item-spec =
     tie.close
     (tie.spec (λ c. search needs) (λ c. search needs)
     (λ c. c .after-check .ensures
-    ∙ sym (after-item-of-check _ _ (sym (c .before .before .is-check .ensures) ∙ c .before .if1 .taken))) (λ c. search needs)
+    ∙ sym (after-item-of-check _ _ (sym (c .before .before .is-check .ensures) ∙ c .before .if1 .taken)))
+    (λ c. search needs)
     (λ c. c .after-byte .ensures
     ∙ sym (after-item-of-byte _ _ (sym (c .before .before .is-check .ensures) ∙ c .before .if1 .left))))

@@ -27,6 +27,7 @@ pub check-list-spec : {M : Type 1} → statement M
 check-list-spec =
     tie.close
     (tie.spec (λ c. rule-of-too-many _ (c .if1 .taken)) (λ c. search needs)
-    (λ c. rule-of-too-many-bytes _ _ (c .before .written-bytes .ensures) (c .if2 .taken)) (λ c. search needs) (λ c. search needs)
+    (λ c. rule-of-too-many-bytes _ _ (c .before .written-bytes .ensures) (c .if2 .taken)) (λ c. search needs)
+    (λ c. search needs)
     (λ c. rw (lt-ltb _ _ (c .if3 .taken)) at (by-place (c .before)))
     (λ c. rw (le-ltb _ _ (c .if3 .left)) at (by-place (c .before))))

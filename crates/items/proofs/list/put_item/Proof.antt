@@ -19,7 +19,14 @@ returns c =
     let tested = bytes .before .before in
     let check = sym (tested .before .is-check .ensures) ∙ tested .if1 .taken in
     second .put2 .ensures
-    ∙ rw (first .put .ensures, bytes .low .ensures, bytes .before .high .ensures, item-bytes-of-check _ _ check, add-one)
+    ∙ rw (
+      first .put .ensures,
+      bytes .low .ensures,
+      bytes .before .high .ensures,
+      item-bytes-of-check _ _
+          check,
+      add-one,
+    )
 
 returns-2 : tie.Need-returns-2
 returns-2 c =

@@ -19,7 +19,8 @@ returns c =
     let start = tested .before .before .before .before .args in
     let items : List ℕ = now (start .items) in
     let own : writtenFrom (start .start) items ≡ items =
-    written-from-of-no-check (start .start) items (one-byte-each-is-no-check items (sym counted ∙ tested .if1 .taken)) in (
+    written-from-of-no-check (start .start) items
+    (one-byte-each-is-no-check items (sym counted ∙ tested .if1 .taken)) in (
       c .after-bytes .ensures ∙ ap (afterBytes (start .start)) (sym own),
       (counted, c .before .before .before .store .ensures ∙ ap (storedAt (now (start .out)) 0) (sym own)),
     )

@@ -22,6 +22,7 @@ cast-t7 c =
 pub shifted-spec : {M : Type 1} → statement M
 shifted-spec =
     tie.close
-    (tie.spec (λ c. search needs) (λ c. search needs) (λ c. shift-fits _ _ _ (c .before .before .pre)) (λ c. search needs)
+    (tie.spec (λ c. search needs) (λ c. search needs) (λ c. shift-fits _ _ _ (c .before .before .pre))
+    (λ c. search needs)
     (λ c. shifted-fits _ _ _ (c .before .before .before .pre)) cast-t7
     (λ c. ap natAbs (shifted-reads-back _ _ _ (c .before .before .before .pre))))

@@ -49,4 +49,5 @@ pub merged-size-spec : {M : Type 1} → statement M
 merged-size-spec =
     tie.close
     (tie.spec Inv-loop μ-loop loop-holds (λ c. omega arith) (λ c. search needs) (λ c. omega arith) (λ c. search needs)
-    taken-size-requires (λ c. omega (arith, short c)) (λ c. omega arith) (λ c. omega arith) loop-again (λ c. omega (arith, rw (bytes-at-end _ _ _ (c .loop-test .left)) at (c .before .loop .inv .2))))
+    taken-size-requires (λ c. omega (arith, short c)) (λ c. omega arith) (λ c. omega arith) loop-again
+    (λ c. omega (arith, rw (bytes-at-end _ _ _ (c .loop-test .left)) at (c .before .loop .inv .2))))

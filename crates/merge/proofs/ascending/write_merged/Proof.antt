@@ -56,4 +56,5 @@ pub write-merged-spec : {M : Type 1} → statement M
 write-merged-spec =
     tie.close
     (tie.spec Inv-loop μ-loop loop-holds (λ c. omega arith) (λ c. search needs) (λ c. omega arith) (λ c. search needs)
-    put-taken-requires (λ c. omega arith) (λ c. omega arith) loop-again (λ c. c .before .loop .inv .1) (λ c. rw (bytes-at-end _ _ _ (c .loop-test .left), stored-none) at (c .before .loop .inv .3)))
+    put-taken-requires (λ c. omega arith) (λ c. omega arith) loop-again (λ c. c .before .loop .inv .1)
+    (λ c. rw (bytes-at-end _ _ _ (c .loop-test .left), stored-none) at (c .before .loop .inv .3)))

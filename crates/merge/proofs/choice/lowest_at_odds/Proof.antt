@@ -54,5 +54,6 @@ returns-2 c = omega (arith, rw (numbers-end _ (c .loop-test .left)) at (c .befor
 pub lowest-at-odds-spec : {M : Type 1} → statement M
 lowest-at-odds-spec =
     tie.close
-    (tie.spec Inv-loop μ-loop (λ c. (omega arith, zero-add _)) (λ c. omega arith) (λ c. search needs) (λ c. omega arith) (λ c. search needs)
+    (tie.spec Inv-loop μ-loop (λ c. (omega arith, zero-add _)) (λ c. omega arith) (λ c. search needs)
+    (λ c. omega arith) (λ c. search needs)
     at-odds-requires returns (λ c. omega arith) (λ c. omega arith) loop-again returns-2)

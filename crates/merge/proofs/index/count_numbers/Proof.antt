@@ -38,6 +38,7 @@ returns c = omega (arith, rw (numbers-end _ (c .loop-test .left)) at (c .before 
 
 pub count-numbers-spec : {M : Type 1} → statement M
 count-numbers-spec =
-    tie.close (tie.spec Inv-loop μ-loop (λ c. (omega arith, omega arith, zero-add _)) (λ c. search needs) (λ c. search needs) (λ c. search needs)
+    tie.close (tie.spec Inv-loop μ-loop (λ c. (omega arith, omega arith, zero-add _)) (λ c. search needs)
+    (λ c. search needs) (λ c. search needs)
     (λ c. search needs) (λ c κs. search needs) (λ c. omega arith) (λ c. omega arith) (λ c. omega arith) loop-again
     returns)

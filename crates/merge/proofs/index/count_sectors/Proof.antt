@@ -49,5 +49,6 @@ returns-2 c =
 pub count-sectors-spec : {M : Type 1} → statement M
 count-sectors-spec =
     tie.close
-    (tie.spec Inv-loop μ-loop (λ c. (omega arith, omega arith, refl)) (λ c κs. search needs) (λ c. search needs) returns (λ c. search needs)
+    (tie.spec Inv-loop μ-loop (λ c. (omega arith, omega arith, refl)) (λ c κs. search needs) (λ c. search needs)
+    returns (λ c. search needs)
     (λ c. omega arith) (λ c. let w = whole (c .before) in omega (arith, w .here)) loop-again returns-2)

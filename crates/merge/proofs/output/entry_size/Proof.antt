@@ -29,4 +29,5 @@ returns-2 c =
 
 pub entry-size-spec : {M : Type 1} → statement M
 entry-size-spec =
-    tie.close (tie.spec (λ c. sym (ap length (bytes-of-no-entry _ _ (c .if1 .taken)))) shared-slice-read-sector-size (λ c κs. search needs) add-result returns-2)
+    tie.close (tie.spec (λ c. sym (ap length (bytes-of-no-entry _ _ (c .if1 .taken)))) shared-slice-read-sector-size
+    (λ c κs. search needs) add-result returns-2)

@@ -33,4 +33,6 @@ returns-2 c =
     )
 
 pub put-entry-spec : {M : Type 1} → statement M
-put-entry-spec = tie.close (tie.spec (λ c. rw (bytes-of-no-entry _ _ (c .if1 .taken)) (sym (add-zero _), sym (stored-none _ _))) put-sector-requires (λ c. search needs) returns-2)
+put-entry-spec =
+    tie.close (tie.spec (λ c. rw (bytes-of-no-entry _ _ (c .if1 .taken)) (sym (add-zero _), sym (stored-none _ _)))
+    put-sector-requires (λ c. search needs) returns-2)

@@ -20,10 +20,19 @@ add-spec =
     (λ c. sym (two-empty-rows _ _ (c .before .if1 .taken) (c .if2 .taken)))
     (λ c. sym (first-row-is-empty _ _ (c .before .if1 .taken) (c .if2 .left))) (λ c. search needs)
     (λ c. sym (second-row-is-empty _ _ (c .before .if1 .left) (c .if3 .taken))) (λ c. search needs)
-    (λ c. search needs) (λ c. omega (arith, fitting-row _ (rw (no-row-is-empty _ _ (c .before .if1 .left) (c .if3 .left)) at (c .before .before .pre))))
+    (λ c. search needs)
+    (λ c. omega (
+      arith,
+      fitting-row _
+          (rw (no-row-is-empty _ _ (c .before .if1 .left) (c .if3 .left)) at (c .before .before .pre)),
+    ))
     (λ c. search needs) (λ c. search needs) (λ c κs. search needs) (λ c. search needs) (λ c. search needs)
     (λ c κs. search needs) (λ c. search needs) (λ c. search needs)
     (λ c.
     let at = c .before .before in
-    omega (arith, fitting-row _ (rw (no-row-is-empty _ _ (at .before .if1 .left) (at .if3 .left)) at (at .before .before .pre))))
+    omega (
+      arith,
+      fitting-row _
+          (rw (no-row-is-empty _ _ (at .before .if1 .left) (at .if3 .left)) at (at .before .before .pre)),
+    ))
     returns-4)

@@ -19,7 +19,8 @@ abbrev Inv-loop : tie.InvT-loop
 Inv-loop line from numbers₀ at₀ k₀ numbers at k =
     (length numbers ≡ length numbers₀)
     × (k ≤ length numbers)
-    × (fitting k (length numbers₀) (fieldsAfter (drop at line)) ≡ fitting 0 (length numbers₀) (fieldsAfter (drop from line)))
+    × (fitting k (length numbers₀) (fieldsAfter (drop at line))
+    ≡ fitting 0 (length numbers₀) (fieldsAfter (drop from line)))
     × (take k numbers ++ map valueOf (fieldsAfter (drop at line)) ≡ map valueOf (fieldsAfter (drop from line)))
 
 abbrev μ-loop : tie.MeasureT-loop

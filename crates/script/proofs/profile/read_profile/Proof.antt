@@ -28,7 +28,8 @@ returns c =
       ← arguments-after-word (found .before .before .args .line .now) _ (found .find .ensures),
       ← read .read-numbers .ensures .verdict,
       c .before .before .if2 .taken,
-    ) (ap Given (c .from-numbers .ensures ∙ ap fromNumbers (read .read-numbers .ensures .numbers (c .before .before .if2 .taken))))
+    ) (ap Given (c .from-numbers .ensures
+    ∙ ap fromNumbers (read .read-numbers .ensures .numbers (c .before .before .if2 .taken))))
 
 returns-2 : tie.Need-returns-2
 unfolding profileRead isProfileLine
@@ -52,4 +53,5 @@ pub read-profile-spec : {M : Type 1} → statement M
 read-profile-spec =
     tie.close (tie.spec (λ c κs. search needs)
     (λ c. sym (length-take-le _ _ (word-ends-in-line _ _ (c .before .find .ensures)))) (λ c. search needs)
-    (λ c κs. search needs) (λ c. search needs) (λ c κs. search needs) (λ c κs. search needs) returns returns-2 returns-3)
+    (λ c κs. search needs) (λ c. search needs) (λ c κs. search needs) (λ c κs. search needs) returns
+    returns-2 returns-3)

@@ -27,7 +27,8 @@ returns : tie.Need-returns
 unfolding eased
 returns c =
     let self = c .before .before .before .args .self in
-    let held = left-behind _ (self .held) (c .before .before .is-whole .result) (c .before .wrapping-sub-u32 .ensures) (c .before .wrapping-sub-u32 .ok) in
+    let held = left-behind _ (self .held) (c .before .before .is-whole .result) (c .before .wrapping-sub-u32 .ensures)
+    (c .before .wrapping-sub-u32 .ok) in
     rw (← c .before .before .is-whole .ensures, ← held, ← c .wrapping-add-u32 .ensures)
 
 pub ease-spec : {M : Type 1} → statement M

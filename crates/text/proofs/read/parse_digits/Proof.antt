@@ -47,4 +47,5 @@ parse-digits-spec =
     (λ c. omega arith) (λ c. omega arith)
     (λ c. sym (digits-too-large _ _ (c .if3 .taken))
     ∙ sym (digits-at-digit _ _ _ (c .before .before .if1 .left) (c .before .if2 .left))
-    ∙ turn (c .before .before .before .before)) (λ c. omega arith) (λ c. omega arith) loop-again (λ c. omega arith) returns-4)
+    ∙ turn (c .before .before .before .before)) (λ c. omega arith) (λ c. omega arith) loop-again
+    (λ c. omega arith) returns-4)

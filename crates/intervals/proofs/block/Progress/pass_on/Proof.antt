@@ -63,10 +63,12 @@ wants
     : (c : tie.Then1 Inv-loop μ-loop)
     → let turn = c .before .before in
     let args = turn .before .before .before .before .before .before .args in
-    (turn .loop .at .pass .used < length (upTo (turn .before .before))) × (turn .loop .at .pass .reading .words < args .most)
+    (turn .loop .at .pass .used < length (upTo (turn .before .before)))
+    × (turn .loop .at .pass .reading .words < args .most)
 wants c =
     let cut = c .before .before .before .before in
-    rest-wants _ (upTo cut) (c .before .before .loop .at) (rw (up-to cut .0) (sym (c .before .goes-on .ensures) ∙ c .if1 .taken))
+    rest-wants _ (upTo cut) (c .before .before .loop .at)
+    (rw (up-to cut .0) (sym (c .before .goes-on .ensures) ∙ c .if1 .taken))
 
 add-end : tie.Need-add-end Inv-loop μ-loop
 add-end c =

@@ -103,7 +103,8 @@ module _ (n : ℕ) (start : Reading) (us : List ℕ) where
           let few = so-far .few in
           let room = so-far .size in
           let one = one-at-most t in
-          let row = kept t words count x (wordOf now) (omega arith) (λ h. stored (leb-true 17 (now .held) (sym told ∙ h))) in
+          let row = kept t words count x (wordOf now) (omega arith)
+          (λ h. stored (leb-true 17 (now .held) (sym told ∙ h))) in
           record {
             within = omega arith;
             few = omega arith;
