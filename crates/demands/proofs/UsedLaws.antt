@@ -1,14 +1,11 @@
 -- What is accepted uses at least one interval: no interval gives no bits, which is ragged for a strip and too few for a
 -- field. Rests on no axiom.
 use Prim.Native.Nat.{ℕ, _<_}
-use mathlib.Core.Path.{_≡_, refl}
-use mathlib.Core.Bool.{Bool, true, false, cond}
+use mathlib.Core.Path.{_≡_}
 use mathlib.Core.List.{List, [], _∷_}
 use native.Mathlib.Omega.{arith}
-use lib.Dec.{eqb}
 use borrow.Author.Tests.{eq-eqb}
 use lib.ListN.{length}
-use Rattle.refusal.specs.Answer.{Answer}
 use Rattle.refusal.proofs.AnswerLaws.{first-refusal-accepts, refuse-if-accepts}
 use Rattle.timing.specs.Profile.{outside, profileRule}
 use Rattle.timing.specs.Class.{classesOf}
@@ -21,7 +18,8 @@ use Rattle.intervals.specs.Cells.{cellsRead, cellsOfClasses}
 use Rattle.codec.specs.Reader.{readRule}
 use Rattle.fields.specs.Field.{fieldCells, fieldUsed}
 use Rattle.fields.proofs.FieldLaws.{field-bits-enough}
-use Rattle.fields.specs.FieldRule.{gatherRule, checkedRule, fieldRule, fieldReading, fieldTurnedAway, answerWith}
+use Rattle.fields.proofs.ReaderLaws.{answer-is-its-rule}
+use Rattle.fields.specs.FieldRule.{gatherRule, checkedRule, fieldRule, fieldReading}
 use Rattle.demands.proofs.ReadLaws.{passed-of-accepted}
 
 -- ---- a strip
@@ -43,19 +41,13 @@ unfolding readBits readFrom
 bits-have-cells [] h = h
 bits-have-cells (x ∷ xs) h = omega arith
 
-answer-of-reading : (rule : Answer) (used : ℕ) (holds : Bool) → answerWith rule used holds .answer ≡ rule
-answer-of-reading rule used holds =
-    elim (eqb (rule .number) 0) as (λ t.
-    (cond t (record { answer = rule; used = used; holds = holds }) (fieldTurnedAway rule)) .answer ≡ rule)
-    [ true ↦ refl | false ↦ refl ]
-
 pub field-has-intervals
     : (p : Profile) (ds : List ℕ) (n room : ℕ)
     → fieldReading p ds n room .answer .number ≡ 0
     → 0 < fieldReading p ds n room .used
 unfolding fieldReading fieldRule checkedRule gatherRule fieldUsed
 field-has-intervals p ds n room h =
-    let accepts : fieldRule p ds n room .number ≡ 0 = rw answer-of-reading at h in
+    let accepts : fieldRule p ds n room .number ≡ 0 = rw answer-is-its-rule at h in
     let after-2 = first-refusal-accepts (profileRule p) _ accepts .1 in
     let after-12 = refuse-if-accepts (outside 1 1030 n) 11 0 _ after-2 .1 in
     let stops = first-refusal-accepts _ _ (first-refusal-accepts _ _ after-12 .0) .0 in

@@ -21,9 +21,16 @@ use Rattle.timing.specs.declared.Class.{Class}
 use Rattle.timing.proofs.ClassLaws.{classes-length}
 use Rattle.fields.specs.Field.{fieldUsed, fieldItems, fieldHolds}
 use Rattle.fields.specs.FieldRule.{FieldAnswer, fieldTurnedAway, checkedReading, checkedOutput, fieldRule}
-use Rattle.fields.specs.FieldRule.{fieldReading, fieldOutput}
+use Rattle.fields.specs.FieldRule.{fieldReading, fieldOutput, answerWith}
 use Rattle.fields.proofs.FieldLaws.{field-used-at-most, field-items-count}
 use Rattle.fields.proofs.RuleLaws.{gather-stops-nowhere, gather-accepts}
+
+-- the answer is the rule's, whatever comes with it
+pub answer-is-its-rule : (a : Answer) (used : ℕ) (holds : Bool) → answerWith a used holds .answer ≡ a
+answer-is-its-rule a used holds =
+    elim (eqb (a .number) 0) as (λ t.
+    (cond t (record { answer = a; used = used; holds = holds }) (fieldTurnedAway a)) .answer ≡ a)
+    [ true ↦ refl | false ↦ refl ]
 
 -- under an accepted profile, of a count in range
 pub checked-reads

@@ -7,17 +7,11 @@ use Rattle.words.proofs.SpreadLaws.{spread-is-word}
 use Rattle.words.proofs.made_word.Statement.{statement}
 use Rattle.words.proofs.made_word.Tie as tie
 
-returns : tie.Need-returns
-unfolding wordOf isMark markWord
-returns c = rw (c .if1 .taken) refl
-
-returns-2 : tie.Need-returns-2
-unfolding wordOf isMark markWord
-returns-2 c = rw (c .if2 .taken) refl
-
 returns-3 : tie.Need-returns-3
 returns-3 c =
     c .spread-word .ensures ∙ spread-is-word _ _ (c .before .before .if1 .left) (c .before .if2 .left)
 
 pub made-word-spec : {M : Type 1} → statement M
-made-word-spec = tie.close (tie.spec returns returns-2 (λ c. search needs) returns-3)
+unfolding wordOf isMark markWord
+made-word-spec =
+    tie.close (tie.spec (λ c. rw (c .if1 .taken) refl) (λ c. rw (c .if2 .taken) refl) (λ c. search needs) returns-3)

@@ -8,14 +8,6 @@ use Rattle.words.proofs.TableLaws.{entry-is-word}
 use Rattle.words.proofs.word_of.Statement.{statement}
 use Rattle.words.proofs.word_of.Tie as tie
 
-returns : tie.Need-returns
-unfolding wordOf isMark markWord
-returns c = rw (c .if1 .taken) refl
-
-returns-2 : tie.Need-returns-2
-unfolding wordOf isMark markWord
-returns-2 c = rw (c .if2 .taken) refl
-
 returns-3 : tie.Need-returns-3
 returns-3 c =
     let tested = c .before in
@@ -24,7 +16,9 @@ returns-3 c =
     (tested .before .if1 .left) (tested .if2 .left))
 
 pub word-of-spec : {M : Type 1} → statement M
+unfolding wordOf isMark markWord
 word-of-spec =
     tie.close
-    (tie.spec returns returns-2 (λ c. search needs) (λ c. search needs) (λ c. search needs) (λ c. search needs)
+    (tie.spec (λ c. rw (c .if1 .taken) refl) (λ c. rw (c .if2 .taken) refl) (λ c. search needs) (λ c. search needs)
+    (λ c. search needs) (λ c. search needs)
     (λ c. search needs) returns-3)
