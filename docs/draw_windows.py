@@ -1,12 +1,13 @@
 #!/usr/bin/env python3
-"""Draws the windows of a profile, the lengths that the strip program wrote under it, and its margin, as SVG.
+"""Draws the windows of a profile after class 2 and after any other, the lengths that the strip program wrote under it,
+and its margin, as SVG.
 
 Use: mfm_strip < examples/windows.strip | docs/draw_windows.py examples/windows.strip > docs/windows.svg
 The windows come from the input's profile line; lengths, classes and margin are the program's own output.
 """
 import sys
 
-SCALE, LEFT, TOP, HEIGHT = 5, 40, 60, 90
+SCALE, LEFT, RIGHT, TOP, HEIGHT, STEP = 5, 90, 20, 60, 90, 140
 COLOURS = {"2": "#cfe3f5", "3": "#d9efd3", "4": "#f8e3c5"}
 
 
@@ -18,42 +19,53 @@ def across(x):
     return LEFT + SCALE * (x - start)
 
 
-with open(sys.argv[1], encoding="ascii") as source:
-    numbers = [int(n) for n in source.readline().split()[1:]]
-least, b23, b34, most = numbers[5:]
-rows = [line.split("\t") for line in sys.stdin.read().splitlines()]
-margin = next(int(row[1]) for row in rows if row[0] == "margin")
-seen = {}
-for row in rows:
-    if row[0] == "cell":
-        seen.setdefault(row[2], set()).add(int(row[3]))
-
-start, end = least - 10, most + 10
-width = 2 * LEFT + SCALE * (end - start)
-drawing = [
-    f'<svg xmlns="http://www.w3.org/2000/svg" width="{width}" height="{TOP + HEIGHT + 70}" font-family="sans-serif">',
-    '<rect width="100%" height="100%" fill="white"/>',
-    text(width // 2, 24, f"Classes 2, 3 and 4, the lengths written in them, and the margin of {margin} half clocks", size=15),
-]
-for name, low, high in (("2", least, b23), ("3", b23, b34), ("4", b34, most)):
-    drawing.append(
-        f'<rect x="{across(low)}" y="{TOP}" width="{SCALE * (high - low)}" height="{HEIGHT}" '
+def window(top, name, low, high, lengths):
+    yield (
+        f'<rect x="{across(low)}" y="{top}" width="{SCALE * (high - low)}" height="{HEIGHT}" '
         f'fill="{COLOURS[name]}" stroke="#777"/>'
     )
-    drawing.append(text(across((low + high) / 2), TOP + 18, f"class {name}"))
-    lengths = sorted(seen.get(name, ()))
+    yield text(across((low + high) / 2), top + 18, f"class {name}")
     for length in lengths:
-        drawing.append(f'<circle cx="{across(length)}" cy="{TOP + 45}" r="3.5" fill="#333"/>')
-    for length, side in ((lengths[0], -margin), (lengths[-1], margin)):
-        drawing.append(
-            f'<line x1="{across(length)}" y1="{TOP + 62}" x2="{across(length + side)}" y2="{TOP + 62}" '
+        yield f'<circle cx="{across(length)}" cy="{top + 45}" r="3.5" fill="#333"/>'
+    for length, way in ((lengths[0], -1), (lengths[-1], 1)):
+        yield (
+            f'<line x1="{across(length)}" y1="{top + 62}" x2="{across(length + way * margin)}" y2="{top + 62}" '
             'stroke="#a33" stroke-width="3"/>'
         )
-        drawing.append(text(across(length), TOP + 82, length, size=11))
-for name, edge in (("Min", least), ("B23", b23), ("B34", b34), ("Rpt", most)):
-    drawing.append(text(across(edge), TOP + HEIGHT + 18, f"{name} {edge}"))
-drawing.append(
-    text(width // 2, TOP + HEIGHT + 48, "dots: lengths in half clocks; red: how far the outermost may move and keep their class", size=12)
-)
-drawing.append("</svg>")
-print("\n".join(drawing))
+        yield text(across(length) + way * 6, top + 82, length, size=11)
+
+
+def windows(top, before, b23, b34, lengths):
+    yield text(LEFT - 10 + SCALE * 10, top + 42, "after", anchor="end")
+    yield text(LEFT - 10 + SCALE * 10, top + 58, before, anchor="end")
+    for name, low, high in (("2", least, b23), ("3", b23, b34), ("4", b34, most)):
+        yield from window(top, name, low, high, sorted(lengths[name]))
+    for name, edge in (("Min", least), ("B23", b23), ("B34", b34), ("Rpt", most)):
+        yield text(across(edge), top + HEIGHT + 18, f"{name} {edge}")
+
+
+with open(sys.argv[1], encoding="ascii") as source:
+    numbers = [int(n) for n in source.readline().split()[1:]]
+least, b23_short, b23_long, b34_short, b34_long, most = numbers[5:]
+rows = [line.split("\t") for line in sys.stdin.read().splitlines()]
+margin = next(int(row[1]) for row in rows if row[0] == "margin")
+seen = {after_short: {name: set() for name in COLOURS} for after_short in (True, False)}
+before = "2"
+for row in rows:
+    if row[0] == "cell":
+        seen[before == "2"][row[2]].add(int(row[3]))
+        before = row[2]
+
+start, end = least - 10, most + 10
+width, below = LEFT + RIGHT + SCALE * (end - start), TOP + STEP + HEIGHT
+print(f'<svg xmlns="http://www.w3.org/2000/svg" width="{width}" height="{below + 70}" font-family="sans-serif">')
+print('<rect width="100%" height="100%" fill="white"/>')
+title = f"Windows by the interval before, the lengths written, and the margin of {margin} half clocks"
+print(text(width // 2, 24, title, size=15))
+for line in windows(TOP, "class 2", b23_short, b34_short, seen[True]):
+    print(line)
+for line in windows(TOP + STEP, "any other", b23_long, b34_long, seen[False]):
+    print(line)
+legend = "dots: lengths in half clocks; red: how far the outermost may move and keep their class"
+print(text(width // 2, below + 48, legend, size=12))
+print("</svg>")

@@ -13,7 +13,19 @@
 
 enum { DISKS = 6, SIZE = 512, CODE = 2, ITEMS = SIZE + 114, BYTES = SIZE + 116 };
 
-static const ism_profile drive = {58, 29, 8, 10, 12, 36, 73, 106, 139};
+static const ism_profile drive = {
+    .t1 = 58,
+    .t0 = 29,
+    .early = 8,
+    .normal = 10,
+    .late = 12,
+    .min = 36,
+    .b23_short = 73,
+    .b23_long = 73,
+    .b34_short = 106,
+    .b34_long = 106,
+    .rpt = 139,
+};
 static const char *const classes[5] = {"narrow", "2", "3", "4", "wide"};
 
 static uint8_t data[SIZE];

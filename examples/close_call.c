@@ -11,7 +11,19 @@
 
 enum { ITEMS = 64, ROOM = 8 * ITEMS + 2 };
 
-static const ism_profile drive = {58, 29, 8, 10, 12, 36, 73, 106, 139};
+static const ism_profile drive = {
+    .t1 = 58,
+    .t0 = 29,
+    .early = 8,
+    .normal = 10,
+    .late = 12,
+    .min = 36,
+    .b23_short = 73,
+    .b23_long = 73,
+    .b34_short = 106,
+    .b34_long = 106,
+    .rpt = 139,
+};
 
 static uint16_t items[ITEMS], master[ROOM], strip[ROOM], back[ITEMS];
 

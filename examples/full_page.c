@@ -14,11 +14,24 @@
 
 enum { TRACK = 3, SIDE = 0, SECTOR = 7, CODE = 2, SIZE = 512, ITEMS = SIZE + 114, BYTES = SIZE + 116 };
 
-static const ism_profile drive = {58, 29, 8, 10, 12, 36, 73, 106, 139};
+static const ism_profile drive = {
+    .t1 = 58,
+    .t0 = 29,
+    .early = 8,
+    .normal = 10,
+    .late = 12,
+    .min = 36,
+    .b23_short = 73,
+    .b23_long = 73,
+    .b34_short = 106,
+    .b34_long = 106,
+    .rpt = 139,
+};
 
 static uint8_t data[SIZE];
 static uint16_t items[ITEMS];
 static uint16_t track[8 * BYTES + 2];
+static unsigned classes[8 * BYTES + 2];
 
 /* The answer, or the end of the program with the refusal and its place. */
 static ism_answer accepted(const char *what, ism_answer answer) {
@@ -29,8 +42,13 @@ static ism_answer accepted(const char *what, ism_answer answer) {
     return answer;
 }
 
-static unsigned class_at(size_t k) {
-    return (unsigned)accepted("class", ism_class(drive, track[k])).count;
+/* The class of each interval, which depends on that of the one before; the first counts as coming after class 2. */
+static void class_track(size_t intervals) {
+    uint32_t after_short = 1;
+    for (size_t k = 0; k < intervals; k++) {
+        classes[k] = (unsigned)accepted("class", ism_class(drive, track[k], after_short)).count;
+        after_short = classes[k] == ISM_CLASS_2;
+    }
 }
 
 /* The places at which the classes of one C2 mark come after 64 intervals of class 2. */
@@ -39,9 +57,9 @@ static void print_single_marks(size_t intervals) {
     size_t run = 0;
     for (size_t k = 0; k + 5 <= intervals; k++) {
         size_t same = 0;
-        while (same < 5 && class_at(k + same) == mark[same]) same++;
+        while (same < 5 && classes[k + same] == mark[same]) same++;
         if (run >= 64 && same == 5) printf("the classes of one C2 mark at %u\n", (unsigned)k);
-        run = class_at(k) == 2 ? run + 1 : 0;
+        run = classes[k] == ISM_CLASS_2 ? run + 1 : 0;
     }
 }
 
@@ -51,6 +69,7 @@ int main(void) {
 
     size_t n = accepted("make", ism_make_sector(TRACK, SIDE, SECTOR, CODE, data, SIZE, items, ITEMS)).count;
     size_t intervals = accepted("write", ism_write(drive, items, n, track, sizeof track / sizeof *track)).count;
+    class_track(intervals);
     print_single_marks(intervals);
 
     ism_answer found = ism_find(drive, track, intervals, 0);

@@ -47,7 +47,7 @@ extern "C" {
  * Why a call was refused. `place` counts from 0, except for ISM_UNSET and ISM_GARBLED; where no place is named it is 0.
  */
 #define ISM_ACCEPTED 0u  /* not refused */
-#define ISM_UNSET 1u     /* profile number out of range; place: which of the nine, 1 to 9, the lowest */
+#define ISM_UNSET 1u     /* profile number out of range; place: which of the eleven, 1 to 11, the lowest */
 #define ISM_CROSSED 2u   /* profile not true: its windows miss its own cell lengths */
 #define ISM_FOREIGN 3u   /* not an item; place: the lowest such item */
 #define ISM_OVERLONG 4u  /* over 6,400 items, written bytes, bytes read or words; over 51,202 intervals in a strip or in
@@ -90,17 +90,28 @@ extern "C" {
 #define ISM_CHECK 0x200u
 
 /*
- * The timing of one drive type.
+ * The timing of one drive type. Initialise it by field name, {.t1 = 58, .t0 = 29, ...}.
  *
- *   t1, t0              1 to 1,023   half clocks: a cell of 2 units; each further unit
- *   early, normal, late 0 to 15      whole clocks: compare points of write precompensation
- *   min, b23, b34, rpt  1 to 4,095   half clocks: lower edges of class 2, class 3, class 4 and wide
+ *   t1, t0               1 to 1,023   half clocks: a cell of 2 units; each further unit
+ *   early, normal, late  0 to 15      whole clocks: compare points of write precompensation
+ *   min                  1 to 4,095   half clocks: lower edge of class 2
+ *   b23_short, b23_long  1 to 4,095   half clocks: lower edge of class 3 after an interval of class 2; after any other
+ *   b34_short, b34_long  1 to 4,095   half clocks: lower edge of class 4 after an interval of class 2; after any other
+ *   rpt                  1 to 4,095   half clocks: lower edge of wide
  *
- * Let D be 2 x (late - early). The profile is true if early <= normal <= late and
- *   min <= t1 - D,  t1 < b23 <= t1 + t0,  t1 + t0 + D < b34 <= t1 + 2 x t0,  t1 + 2 x t0 + D < rpt.
+ * The profile is true if early <= normal <= late and every length that can be written after each kind of cell is in
+ * its window. With e = 2 x (normal - early), l = 2 x (late - normal) and D = e + l, that is ten inequalities:
+ *
+ *                   min <= t1 - D
+ *            t1 < b23_short <= t1 + t0 + e               t1 - l < b23_long <= t1 + t0
+ *   t1 + t0 + D < b34_short <= t1 + 2 x t0 + e      t1 + t0 + l < b34_long <= t1 + 2 x t0
+ *                              t1 + 2 x t0 + D < rpt
+ *
+ * Precompensation makes a cell after one of 2 units longer than the same cell after a longer one: edges for each kind
+ * can give a larger margin. Where both of each pair are equal, the cell before does not matter.
  */
 typedef struct {
-    uint16_t t1, t0, early, normal, late, min, b23, b34, rpt;
+    uint16_t t1, t0, early, normal, late, min, b23_short, b23_long, b34_short, b34_long, rpt;
 } ism_profile;
 
 /* What a call answers. `number` is ISM_ACCEPTED or a refusal. */
@@ -112,14 +123,20 @@ typedef struct {
 
 /*
  * The margin: the largest number of half clocks by which every interval of every accepted list may be longer or
- * shorter and still keep its class.
+ * shorter and still keep its class, whichever kind of cell it comes after. It is the least room of the ten inequalities
+ * above.
  *
  *   count     the margin
  *   refusals  ISM_UNSET, ISM_CROSSED
  */
 ism_answer ism_margin(ism_profile profile);
 
-/* Classes of an interval, as ism_class counts them. An interval that equals an edge belongs above it. */
+/*
+ * Classes of an interval, as ism_class counts them. The edges b23 and b34 are b23_short and b34_short after an interval
+ * of class 2, and b23_long and b34_long after one of any other class, narrow and wide too. What counts is the class as
+ * read, not as written. The first interval of a strip, of a field, of a report's list and of a search (the one at its
+ * start) counts as coming after class 2. An interval that equals an edge belongs above it.
+ */
 #define ISM_CLASS_NARROW 1u /* below min */
 #define ISM_CLASS_2 2u      /* min to b23 - 1 */
 #define ISM_CLASS_3 3u      /* b23 to b34 - 1 */
@@ -128,10 +145,11 @@ ism_answer ism_margin(ism_profile profile);
 
 /*
  * Clearance: how far an interval is inside the window of its class, in half clocks. It is the most by which the
- * interval could move either way and keep its class: the smaller of the way down to the lower edge and the way up to
- * the last number below the upper edge. Narrow and wide intervals have 0. The readers give the least over the
- * intervals they used, so that a close call shows: a strip as written has the margin at least, and one whose intervals
- * were each changed by at most c, where c is at most the margin, has at least margin - c.
+ * interval could move either way and keep its class, the interval before it as it was read: the smaller of the way down
+ * to the lower edge and the way up to the last number below the upper edge. Narrow and wide intervals have 0. The
+ * readers give the least over the intervals they used, so that a close call shows: a strip as written has the margin at
+ * least, and one whose intervals were each changed by at most c, where c is at most the margin, has margin - c at
+ * least.
  *
  * A bench reads a master and compares its clearance with the margin on the drive's card (ism_margin). By as much as it
  * is below the margin, an interval of the master has come nearer to an edge than any is written. With 0 an interval
@@ -141,11 +159,14 @@ ism_answer ism_margin(ism_profile profile);
 /*
  * The class of one interval.
  *
- *   count      ISM_CLASS_NARROW, ISM_CLASS_2, ISM_CLASS_3, ISM_CLASS_4 or ISM_CLASS_WIDE
- *   clearance  of this interval
- *   refusals   ISM_UNSET, ISM_CROSSED; a narrow or wide interval is not refused here
+ *   after_short  whether the interval before it was of class 2: 0 no, any other number yes; yes for the first of a list
+ *   count        ISM_CLASS_NARROW, ISM_CLASS_2, ISM_CLASS_3, ISM_CLASS_4 or ISM_CLASS_WIDE
+ *   clearance    of this interval
+ *   refusals     ISM_UNSET, ISM_CROSSED; a narrow or wide interval is not refused here
+ *
+ * To class a list, begin with 1, and give for each next interval whether `count` was ISM_CLASS_2.
  */
-ism_answer ism_class(ism_profile profile, uint16_t interval);
+ism_answer ism_class(ism_profile profile, uint16_t interval, uint32_t after_short);
 
 /*
  * Writer: the intervals of a list of items, early and late points included. The bits are a lead 0, the written bytes
@@ -182,12 +203,15 @@ ism_answer ism_read(ism_profile profile, const uint16_t *intervals, size_t n, ui
  * most the margin.
  *
  *   intervals, n  any number of intervals; narrow and wide ones break a run and are not refused
- *   start         all 64 must be at or after this place; any number
+ *   start         the search begins here: all 64 must be at or after this place; any number
  *   count         the smallest such place k, at most n - 5
  *   refusals      ISM_UNSET, ISM_CROSSED, ISM_ADRIFT
  *
+ * The interval at the start counts as coming after class 2, whatever stands before it: the place found is that in the
+ * list from the start on, and the start added. Where pairs differ, a later start may so find an earlier lock.
+ *
  * To read the field behind the lock, its marks included, give ism_read_field the list from place k. To find the next
- * lock, take this k as the new start.
+ * lock, take this k as the new start. Both class the list as this search did, since k comes after class 2.
  */
 ism_answer ism_find(ism_profile profile, const uint16_t *intervals, size_t n, uint64_t start);
 
@@ -229,7 +253,7 @@ ism_answer ism_make_sector(uint8_t track, uint8_t side, uint8_t sector, uint8_t 
  * data bytes, the last of them a length code of 0 to 3, and a sum that holds. Its data is the next lock, all 64 of its
  * intervals after those that the ID used, if its field reads at the code's size + 6 bytes with three A1 marks and FB.
  * The search goes on after the data field, after the ID where no data was found, and where no entry begins at a lock,
- * at the place after it.
+ * at the place after it. Each search is one of ism_find from there.
  *
  *   id_place                   the place of the ID's lock
  *   data_place                 the place of the data's lock; 0 where no data was found
@@ -339,9 +363,13 @@ ism_report ism_drive_report(ism_profile profile, const uint16_t *intervals, size
 
 /*
  * Two reports added, row by row: counts and sums added, the lesser least, the greater greatest. A row whose count is 0
- * is passed over, whatever else it holds; two such give four zeros. The reports of two lists give the report of the
- * lists joined, however long, in any order and grouping of the lists. Only the rows are looked at, not `number` and
- * `place`.
+ * is passed over, whatever else it holds; two such give four zeros. Only the rows are looked at, not `number` and
+ * `place`. Any number of reports gives one sum, in any order and grouping: the figures of their lists, each of them
+ * classed from its own beginning.
+ *
+ * That is also the report of the lists joined, however long, where the first list is empty or ends in class 2 (of
+ * several, each but the last), or where both of each pair are equal. Elsewhere it need not be: the first interval of
+ * the second list counts as after class 2 in its own report, and comes after another class in the joined list.
  *
  *   refusals  ISM_OVERLONG if a count or a sum does not fit in 64 bits
  */

@@ -8,7 +8,6 @@ use lib.ListN.{length, getD, take, drop}
 use lib.Seq.{drop-cons}
 use Rattle.timing.specs.Class.{cursorPast, cursorAfter}
 use Rattle.timing.specs.declared.cursor.Cursor.{Cursor}
-use Rattle.timing.proofs.ClassLaws.{cursor-stays}
 use Rattle.report.proofs.SpanLaws.{least-of-none, least-of-one, spanned}
 use Rattle.clearance.specs.Clearance.{clearanceIn, clearancesFrom, leastFrom}
 
@@ -16,9 +15,10 @@ use Rattle.clearance.specs.Clearance.{clearanceIn, clearancesFrom, least
 pub clearances-here
     : (c : Cursor) (ds : List ℕ) (k : ℕ)
     → k < length ds
-    → clearancesFrom c (drop k ds) ≡ clearanceIn c (getD ds k 0) ∷ clearancesFrom c (drop (suc k) ds)
-unfolding clearancesFrom cursorAfter
-clearances-here c ds k h = cc (drop-cons ds k 0 h, cursor-stays c (getD ds k 0 ∷ []))
+    → clearancesFrom c (drop k ds)
+    ≡ clearanceIn c (getD ds k 0) ∷ clearancesFrom (cursorPast c (getD ds k 0)) (drop (suc k) ds)
+unfolding clearancesFrom
+clearances-here c ds k h = rw (drop-cons ds k 0 h)
 
 pub clearances-count : (c : Cursor) (ds : List ℕ) → length (clearancesFrom c ds) ≡ length ds
 unfolding clearancesFrom

@@ -1,7 +1,7 @@
 pub mod CursorLaws
-pub mod StandLaws
 pub mod MostLaws
 pub mod LeastLaws
 pub mod Cleared
 pub mod AloneLaws
 pub mod NearestLaws
+pub mod SeenLaws

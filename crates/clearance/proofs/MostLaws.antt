@@ -8,11 +8,11 @@ use Rattle.timing.specs.Class.{classIn}
 use Rattle.timing.specs.declared.Class.{Class}
 use Rattle.timing.specs.declared.Class.the-variants.{Narrow, Two, Three, Four, Wide}
 use Rattle.timing.specs.declared.cursor.Cursor.{Cursor}
+use Rattle.timing.proofs.StandLaws.{stands, between-two, between-three, between-four}
 use Rattle.timing.proofs.ClassLaws.{below-b23-is-two, below-b34-is-three, below-rpt-is-four}
 use Rattle.clearance.specs.Clearance.{KeepsWithin, MostKept, ClearanceBy, IsClearance, inWindow, clearanceBy}
 use Rattle.clearance.specs.Clearance.{clearanceIn}
-use Rattle.clearance.specs.Nearest.{Ascending}
-use Rattle.clearance.proofs.StandLaws.{Stands, two, three, four, stands}
+use Rattle.clearance.specs.machine.Nearest.{Reachable}
 
 -- the intervals of a class are those from one edge up to the next
 record ClassSpans (c : Cursor) (x : Class) (from to : ℕ) : Type 0 where
@@ -42,33 +42,27 @@ module _ {c : Cursor} {x : Class} {from to : ℕ} (s : ClassSpans c x from to) (
   most-is-the-nearer-edge : MostKept c d (inWindow from to d)
   most-is-the-nearer-edge = record { keeps = keeps-to-the-nearer-edge; no-more = keeps-no-further }
 
-module _ {c : Cursor} (a : Ascending c) where
-  between-two : {d : ℕ} → Stands c d Two → (c .min .0 ≤ d) × (d < c .b23 .0)
-  between-two (two h₁ h₂) = (h₁, h₂)
-
-  between-three : {d : ℕ} → Stands c d Three → (c .b23 .0 ≤ d) × (d < c .b34 .0)
-  between-three (three h₁ h₂) = (h₁, h₂)
-
-  between-four : {d : ℕ} → Stands c d Four → (c .b34 .0 ≤ d) × (d < c .rpt .0)
-  between-four (four h₁ h₂) = (h₁, h₂)
-
+module _ {c : Cursor} (a : Reachable c) where
   clearance-by-class : (d : ℕ) (x : Class) → classIn c d ≡ x → ClearanceBy x c d (clearanceBy x c d)
   clearance-by-class d Narrow here = refl
   clearance-by-class d Two here =
       most-is-the-nearer-edge
-      (record { from-positive = a .first; has = below-b23-is-two c; only = λ d e. between-two (rw (← e) (stands c d)) })
-      d here
+      (record {
+        from-positive = a .first;
+        has = below-b23-is-two c;
+        only = λ d e. between-two {c = c} (rw (← e) (stands c d));
+      }) d here
   clearance-by-class d Three here =
       most-is-the-nearer-edge (record {
         from-positive = omega arith;
         has = λ d h₁ h₂. below-b34-is-three c d (omega arith) h₁ h₂;
-        only = λ d e. between-three (rw (← e) (stands c d));
+        only = λ d e. between-three {c = c} (rw (← e) (stands c d));
       }) d here
   clearance-by-class d Four here =
       most-is-the-nearer-edge (record {
         from-positive = omega arith;
         has = λ d h₁ h₂. below-rpt-is-four c d (omega arith) (omega arith) h₁ h₂;
-        only = λ d e. between-four (rw (← e) (stands c d));
+        only = λ d e. between-four {c = c} (rw (← e) (stands c d));
       }) d here
   clearance-by-class d Wide here = refl
 

@@ -2,17 +2,57 @@
 -- one interval by itself it is the clearance, since no other edge is nearer than those of its window. Rests on no axiom.
 use Prim.Native.Nat.{ℕ, _+_, _-_, _%_, _≤_, _<_, min, max}
 use mathlib.Core.Path.{_≡_, refl, ap, ap₂, _∙_}
+use native.Mathlib.Decide.{decLt}
 use native.Mathlib.Omega.{arith}
+use borrow.Author.Tests.{lt-ltb, le-ltb}
 use Rattle.timing.specs.declared.Class.{Class}
 use Rattle.timing.specs.declared.cursor.Cursor.{Cursor}
 use Rattle.clearance.specs.Clearance.{inWindow, clearanceBy, clearanceIn}
-use Rattle.clearance.specs.Nearest.{turned, room, Ascending, leastMet}
-use Rattle.clearance.proofs.StandLaws.{Stands, narrow, two, three, four, wide, stands}
+use Rattle.clearance.specs.machine.Nearest.{turned, firstOf, lastOf, pastBound, room, Reachable, noneMet, metWith}
+use Rattle.clearance.specs.machine.Nearest.{leastMet}
+use Rattle.clearance.specs.declared.extremes.Extremes.{Extremes}
+use Rattle.timing.proofs.StandLaws.{Stands, narrow, two, three, four, wide, stands}
 
 -- ---- places in the order of signed numbers
 
 turned-low : (x : ℕ) → x < 32768 → turned x ≡ x + 32768
 turned-low x h = omega arith
+
+less-is-first : (x y : ℕ) → y < x → y ≡ min x y
+less-is-first x y h = omega arith
+
+more-is-first : (x y : ℕ) → (y < x → ⊥) → x ≡ min x y
+more-is-first x y h = omega arith
+
+less-is-last : (x y : ℕ) → (x < y → ⊥) → x ≡ max x y
+less-is-last x y h = omega arith
+
+more-is-last : (x y : ℕ) → x < y → y ≡ max x y
+more-is-last x y h = omega arith
+
+turned-first : (a b : ℕ) → turned (firstOf a b) ≡ min (turned a) (turned b)
+unfolding firstOf
+turned-first a b =
+    elim (decLt (turned b) (turned a)) [
+      | yes h ↦ rw (lt-ltb (turned b) (turned a) h) (less-is-first _ _ h)
+      | no h ↦ rw (le-ltb (turned b) (turned a) (omega arith)) (more-is-first _ _ h)
+    ]
+
+turned-last : (a b : ℕ) → turned (lastOf a b) ≡ max (turned a) (turned b)
+unfolding lastOf
+turned-last a b =
+    elim (decLt (turned a) (turned b)) [
+      | yes h ↦ rw (lt-ltb (turned a) (turned b) h) (more-is-last _ _ h)
+      | no h ↦ rw (le-ltb (turned a) (turned b) (omega arith)) (less-is-last _ _ h)
+    ]
+
+-- past a bound, and back
+counted-round : (d t : ℕ) → d < 65536 → t < 65536 → ((d + (65536 - t)) % 65536 + t) % 65536 ≡ d
+counted-round d t h g = omega arith
+
+past-and-back : (e d : ℕ) → d < 65536 → (pastBound e d + turned e) % 65536 ≡ d
+unfolding pastBound
+past-and-back e d h = counted-round d (turned e) h (omega arith)
 
 -- ---- a number more
 
@@ -72,61 +112,61 @@ at-b23-and-b34 p q s t h₁ h₂ = omega arith
 at-b34-and-rpt : (p q s t : ℕ) → t ≤ p → t ≤ s → min (min p q) (min s t) ≡ min t q
 at-b34-and-rpt p q s t h₁ h₂ = omega arith
 
-module _
-    (c : Cursor) (a : Ascending c) (d y z : ℕ) (past-b23 : (y + turned (c .b23 .0)) % 65536 ≡ d)
-    (past-b34 : (z + turned (c .b34 .0)) % 65536 ≡ d)
-  where
-    abbrev betweenEdges : ℕ
-    betweenEdges = min (room 0 65535 (turned y) (turned y)) (room 0 65535 (turned z) (turned z))
+module _ (c : Cursor) (a : Reachable c) (d : ℕ) (fits : d < 65536) where
+  abbrev past-b23 : ℕ
+  past-b23 = pastBound (c .bounds .b23 .0) d
 
-    one-by-class : {x : Class} → Stands c d x → min (inWindow (c .min .0) (c .rpt .0) d) betweenEdges
-        ≡ clearanceBy x c d
-    one-by-class (narrow h) = at-no-edge _ _ (omega arith)
-    one-by-class (two h₁ h₂) =
-        rw (
-          below-edge (c .b23 .0) d y past-b23 h₂ (omega arith),
-          below-edge (c .b34 .0) d z past-b34 (omega arith) (omega arith),
-        ) (at-min-and-b23 _ _ _ _ (omega arith) (omega arith))
-    one-by-class (three h₁ h₂) =
-        rw (from-edge (c .b23 .0) d y past-b23 h₁ (omega arith), below-edge (c .b34 .0) d z past-b34 h₂ (omega arith))
-        (at-b23-and-b34 _ _ _ _ (omega arith) (omega arith))
-    one-by-class (four h₁ h₂) =
-        rw (
-          from-edge (c .b23 .0) d y past-b23 (omega arith) (omega arith),
-          from-edge (c .b34 .0) d z past-b34 h₁ (omega arith),
-        ) (at-b34-and-rpt _ _ _ _ (omega arith) (omega arith))
-    one-by-class (wide h) = at-no-edge _ _ (omega arith)
+  abbrev past-b34 : ℕ
+  past-b34 = pastBound (c .bounds .b34 .0) d
 
-    one-met
-        : d < 65536
-        → min (room (turned (c .min .0)) (turned (c .rpt .0 - 1)) (turned d) (turned d)) betweenEdges ≡ clearanceIn c d
-    unfolding clearanceIn
-    one-met fits =
-        cc
-        (from-ends (c .min .0) (c .rpt .0 - 1) d (omega (arith, a)) (omega (arith, a)) fits, one-by-class (stands c d))
+  abbrev betweenBounds : ℕ
+  betweenBounds =
+      min (room 0 65535 (turned past-b23) (turned past-b23)) (room 0 65535 (turned past-b34) (turned past-b34))
 
-    -- it joins those met, and so does how far it is past either edge
-    pub met-with
-        : (shortest longest from below s l f₁ b₁ f₂ b₂ : ℕ)
-        → d < 65536
-        → turned s ≡ min (turned shortest) (turned d)
-        → turned l ≡ max (turned longest) (turned d)
-        → turned f₁ ≡ min (turned from) (turned y)
-        → turned f₂ ≡ min (turned f₁) (turned z)
-        → turned b₁ ≡ max (turned below) (turned y)
-        → turned b₂ ≡ max (turned b₁) (turned z)
-        → leastMet c s l f₂ b₂ ≡ min (leastMet c shortest longest from below) (clearanceIn c d)
-    unfolding leastMet
-    met-with shortest longest from below s l f₁ b₁ f₂ b₂ fits at-s at-l at-f₁ at-f₂ at-b₁ at-b₂ =
-        ap₂ min (room-with _ _ _ _ _ _ _ at-s at-l)
-        (room-with 0 65535 _ _ _ _ _ at-f₂ at-b₂ ∙ ap₂ min (room-with 0 65535 _ _ _ _ _ at-f₁ at-b₁) refl)
-        ∙ sorted-out _ _ _ _ _
-        ∙ ap (min _) (one-met fits)
+  one-by-class
+      : {x : Class} → Stands c d x → min (inWindow (c .min .0) (c .rpt .0) d) betweenBounds ≡ clearanceBy x c d
+  one-by-class (narrow h) = at-no-edge _ _ (omega arith)
+  one-by-class (two h₁ h₂) =
+      rw (
+        below-edge (c .bounds .b23 .0) d past-b23 (past-and-back _ d fits) h₂ (omega arith),
+        below-edge (c .bounds .b34 .0) d past-b34 (past-and-back _ d fits) (omega arith) (omega arith),
+      ) (at-min-and-b23 _ _ _ _ (omega arith) (omega arith))
+  one-by-class (three h₁ h₂) =
+      rw (
+        from-edge (c .bounds .b23 .0) d past-b23 (past-and-back _ d fits) h₁ (omega arith),
+        below-edge (c .bounds .b34 .0) d past-b34 (past-and-back _ d fits) h₂ (omega arith),
+      ) (at-b23-and-b34 _ _ _ _ (omega arith) (omega arith))
+  one-by-class (four h₁ h₂) =
+      rw (
+        from-edge (c .bounds .b23 .0) d past-b23 (past-and-back _ d fits) (omega arith) (omega arith),
+        from-edge (c .bounds .b34 .0) d past-b34 (past-and-back _ d fits) h₁ (omega arith),
+      ) (at-b34-and-rpt _ _ _ _ (omega arith) (omega arith))
+  one-by-class (wide h) = at-no-edge _ _ (omega arith)
+
+  one-met
+      : min (room (turned (c .min .0)) (turned (c .rpt .0 - 1)) (turned d) (turned d)) betweenBounds ≡ clearanceIn c d
+  unfolding clearanceIn
+  one-met =
+      cc
+      (from-ends (c .min .0) (c .rpt .0 - 1) d (omega (arith, a)) (omega (arith, a)) fits, one-by-class (stands c d))
+
+  -- it joins those met, and so does how far it is past either bound
+  pub met-with
+      : (m : Extremes)
+      → leastMet (c .min .0) (c .rpt .0) (metWith m (c .bounds) d)
+      ≡ min (leastMet (c .min .0) (c .rpt .0) m) (clearanceIn c d)
+  unfolding leastMet metWith
+  met-with m =
+      ap₂ min (room-with _ _ _ _ _ _ _ (turned-first _ _) (turned-last _ _))
+      (room-with 0 65535 _ _ _ _ _ (turned-first _ _) (turned-last _ _)
+      ∙ ap₂ min (room-with 0 65535 _ _ _ _ _ (turned-first _ _) (turned-last _ _)) refl)
+      ∙ sorted-out _ _ _ _ _
+      ∙ ap (min _) one-met
 
 -- ---- the first interval
 
 none-by-class
-    : {c : Cursor} {d : ℕ} {x : Class} → Ascending c → Stands c d x → clearanceBy x c d ≤ 65535 - turned (c .min .0)
+    : {c : Cursor} {d : ℕ} {x : Class} → Reachable c → Stands c d x → clearanceBy x c d ≤ 65535 - turned (c .min .0)
 none-by-class a (narrow h) = omega arith
 none-by-class a (two h₁ h₂) = omega arith
 none-by-class a (three h₁ h₂) = omega arith
@@ -139,9 +179,9 @@ none-nearer p q e h₁ h₂ h₃ = omega arith
 -- before it nothing is nearer to an edge than any interval
 pub first-met
     : (c : Cursor) (d : ℕ)
-    → Ascending c
-    → min (leastMet c 32767 32768 32767 32768) (clearanceIn c d) ≡ clearanceIn c d
-unfolding leastMet clearanceIn
+    → Reachable c
+    → min (leastMet (c .min .0) (c .rpt .0) noneMet) (clearanceIn c d) ≡ clearanceIn c d
+unfolding leastMet noneMet clearanceIn
 first-met c d a =
     none-nearer (turned (c .min .0)) (turned (c .rpt .0 - 1)) _ (omega arith) (omega arith)
     (none-by-class a (stands c d))

@@ -1,10 +1,11 @@
 -- Document 02, (vi): what holds of clearances. No lemmas here.
 use Prim.Native.Nat.{ℕ, _≤_, _<_}
 use mathlib.Core.Path.{_≡_}
+use mathlib.Core.Bool.{Bool}
 use mathlib.Core.List.{List}
 use lib.ListN.{length, getD, take}
 use Rattle.timing.specs.Profile.{profileRule}
-use Rattle.timing.specs.Class.{atStart, cursorAfter}
+use Rattle.timing.specs.Class.{cursorOf, atStart, cursorAfter}
 use Rattle.timing.specs.declared.Profile.{Profile}
 use Rattle.timing.specs.declared.cursor.Cursor.{Cursor}
 use Rattle.clearance.specs.Clearance.{IsClearance, clearanceIn, clearanceOf, leastClearance}
@@ -16,7 +17,7 @@ cursorAt p ds k = cursorAfter (atStart p) (take k ds)
 -- under one accepted profile
 pub record Cleared (p : Profile) : Type 0 where
   -- the formula gives what it means, for one interval by itself and for each of a list
-  pub of-interval : (d : ℕ) → IsClearance (atStart p) d (clearanceOf p d)
+  pub of-interval : (two : Bool) (d : ℕ) → IsClearance (cursorOf p two) d (clearanceOf p two d)
   pub of-each
       : (ds : List ℕ) (k : ℕ)
       → k < length ds

@@ -3,8 +3,9 @@
 -- the ways to the two edges of its window (`clearanceIn`; `Claims` says that the two are one).
 use Prim.Native.Nat.{ℕ, suc, _+_, _-_, _≤_, min}
 use mathlib.Core.Path.{_≡_}
+use mathlib.Core.Bool.{Bool}
 use mathlib.Core.List.{List, [], _∷_}
-use Rattle.timing.specs.Class.{atStart, classIn, cursorPast}
+use Rattle.timing.specs.Class.{cursorOf, atStart, classIn, cursorPast}
 use Rattle.timing.specs.declared.Profile.{Profile}
 use Rattle.timing.specs.declared.Class.{Class}
 use Rattle.timing.specs.declared.Class.the-variants.{Narrow, Two, Three, Four, Wide}
@@ -42,9 +43,9 @@ inWindow from to d = min (d - from) (to - 1 - d)
 
 abbrev pub clearanceBy : Class → Cursor → ℕ → ℕ
 clearanceBy Narrow c d = 0
-clearanceBy Two c d = inWindow (c .min .0) (c .b23 .0) d
-clearanceBy Three c d = inWindow (c .b23 .0) (c .b34 .0) d
-clearanceBy Four c d = inWindow (c .b34 .0) (c .rpt .0) d
+clearanceBy Two c d = inWindow (c .min .0) (c .bounds .b23 .0) d
+clearanceBy Three c d = inWindow (c .bounds .b23 .0) (c .bounds .b34 .0) d
+clearanceBy Four c d = inWindow (c .bounds .b34 .0) (c .rpt .0) d
 clearanceBy Wide c d = 0
 
 -- of the next interval, where the classing stands
@@ -62,9 +63,9 @@ clearancesFrom c (d ∷ ds) = clearanceIn c d ∷ clearancesFrom (cursorPast c d
 unfoldable pub leastFrom : Cursor → List ℕ → ℕ
 leastFrom c ds = least (clearancesFrom c ds)
 
--- of one interval by itself
-unfoldable pub clearanceOf : Profile → ℕ → ℕ
-clearanceOf p d = clearanceIn (atStart p) d
+-- of one interval by itself, told whether the one before was of class 2
+unfoldable pub clearanceOf : Profile → Bool → ℕ → ℕ
+clearanceOf p two d = clearanceIn (cursorOf p two) d
 
 -- the least over a whole list
 unfoldable pub leastClearance : Profile → List ℕ → ℕ

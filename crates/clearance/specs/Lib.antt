@@ -1,3 +1,3 @@
 pub mod Clearance
-pub mod Nearest
 pub mod Claims
+pub mod machine

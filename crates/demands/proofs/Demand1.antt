@@ -88,7 +88,7 @@ unfolding marginRule classRule writeRule listRule streamRule streamOf sectorRule
 demand-1 =
     record {
       margin = λ p. profile-first p _ answers-accepted;
-      class = λ p d. profile-first p _ answers-accepted;
+      class = λ p two d. profile-first p _ answers-accepted;
       writer = λ p items room.
           profile-first p _
           (turn-before 3 _ _ (means-either 6400 _ 6400 _)

@@ -6,13 +6,14 @@ use mathlib.Core.Path.{_≡_, refl}
 use mathlib.Core.Bool.{Bool, true, false}
 use mathlib.Core.List.{List, [], _∷_, map}
 use lib.Dec.{eqb}
-use lib.ListN.{length, getD, length-set}
+use lib.ListN.{length, getD, drop, length-set}
 use lib.Seq.{getD-set-same, getD-set-other}
 use borrow.Author.Tests.{eqb-true, eqb-false}
 use Rattle.refusal.specs.Answer.{accepted}
 use Rattle.timing.specs.Class.{classesOf, classNumber}
 use Rattle.timing.specs.declared.Profile.{Profile}
 use Rattle.timing.proofs.ProfileLaws.{kept}
+use Rattle.timing.proofs.MiddleLaws.{Behind}
 use Rattle.items.specs.Written.{written}
 use Rattle.symbols.specs.Cells.{writtenCells}
 use Rattle.symbols.proofs.RoundTripLaws.{cells-are-read}
@@ -21,9 +22,10 @@ use Rattle.lengths.specs.Units.{classOfUnits}
 use Rattle.lengths.proofs.NearLaws.{Near, near-of-each, near-at, near-itself, near-streams-are-equally-long}
 use Rattle.lengths.specs.Margin.{marginOf, marginRule}
 use Rattle.lengths.proofs.WindowLaws.{near-stream-has-classes}
+use Rattle.lengths.proofs.MiddleLaws.{search-is-behind}
 use Rattle.lengths.proofs.MarginLaws.{Broken, margin-leaves-room, above-margin-is-broken}
 use Rattle.lengths.proofs.BrokenLaws.{brokenStream, broken-stream-is-near, broken-stream-has-other-classes}
-use Rattle.lengths.proofs.StreamLaws.{length-fits}
+use Rattle.lengths.proofs.KindLaws.{length-fits}
 use Rattle.lengths.proofs.PapersMargin.{margin-is-the-papers, one-byte-is-written}
 use Rattle.codec.specs.Reader.{itemsOfStream, readRule}
 use Rattle.demands.specs.Streams.{AcceptedProfile, AcceptedList, Moved, Misread, turned-away, another}
@@ -50,18 +52,33 @@ module _ (p : Profile) (accepts : AcceptedProfile p) where
       → classesOf p ds ≡ map classOfUnits (writtenCells ws)
   near-has-classes = near-stream-has-classes (margin-leaves-room (kept p accepts)) (kept p accepts)
 
+  moved-is-near
+      : (items ds : List ℕ)
+      → Moved (stated p) (streamOf p items) ds
+      → Near (marginOf p) ds (byteStream p (written items))
+  unfolding streamOf
+  moved-is-near items ds moved =
+      rw (stated-is-the-margin p accepts) at
+      (near-of-each (stated p) ds (streamOf p items) (moved .as-many) (λ k h.
+      let here : k < length ds = rw (moved .as-many) h in
+      (moved .no-longer k here, moved .no-shorter k here)))
+
+  -- a search from any start reads its classes behind the first that it does not take for class 2
+  pub moved-is-behind
+      : (items ds : List ℕ)
+      → Moved (stated p) (streamOf p items) ds
+      → (start : ℕ)
+      → Behind (classesOf p (drop start ds)) (drop start (map classOfUnits (writtenCells (written items))))
+  moved-is-behind items ds moved =
+      search-is-behind (margin-leaves-room (kept p accepts)) (kept p accepts) (written items) ds
+      (moved-is-near items ds moved)
+
   -- so has the stream of any items, moved by at most the margin
   pub moved-has-classes
       : (items ds : List ℕ)
       → Moved (stated p) (streamOf p items) ds
       → classesOf p ds ≡ map classOfUnits (writtenCells (written items))
-  unfolding streamOf
-  moved-has-classes items ds moved =
-      near-has-classes (written items) ds
-      (rw (stated-is-the-margin p accepts) at
-      (near-of-each (stated p) ds (streamOf p items) (moved .as-many) (λ k h.
-      let here : k < length ds = rw (moved .as-many) h in
-      (moved .no-longer k here, moved .no-shorter k here))))
+  moved-has-classes items ds moved = near-has-classes (written items) ds (moved-is-near items ds moved)
 
   moved-has-cells
       : (ws ds : List ℕ) → AcceptedList ws → Moved (stated p) (streamOf p ws) ds → CellsAreClasses p ws ds
@@ -129,7 +146,8 @@ demand-3 p accepts =
             room = length (itemsOfStream p (brokenStream x));
             enough = λ output room. room-for-its-list-is-enough p (brokenStream x) (length output) room;
             misread = λ output enough.
-                misread p accepts (x .byte) (brokenStream x) output (broken-stream-has-other-classes x) _ refl;
+                misread p accepts (x .byte) (brokenStream x) output
+                (broken-stream-has-other-classes x (kept p accepts)) _ refl;
           };
       papers-margin = rw (stated-is-the-margin p accepts) (margin-is-the-papers p accepts);
     }

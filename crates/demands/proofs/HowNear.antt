@@ -3,11 +3,13 @@
 -- Rests on no axiom.
 use Prim.Native.Nat.{ℕ, suc, _-_, _≤_, _<_}
 use mathlib.Core.Path.{_≡_, refl, ap}
+use mathlib.Core.Bool.{Bool}
 use mathlib.Core.List.{List, [], _∷_}
 use native.Mathlib.Omega.{arith}
 use native.Mathlib.Nat.{le-refl}
 use lib.ListN.{length, getD}
 use Rattle.refusal.specs.Answer.{Answer}
+use Rattle.timing.specs.Class.{atStart}
 use Rattle.timing.specs.declared.Profile.{Profile}
 use Rattle.timing.proofs.ProfileLaws.{kept}
 use Rattle.items.specs.Rule.{listRule}
@@ -15,12 +17,17 @@ use Rattle.items.specs.Written.{written}
 use Rattle.symbols.specs.Cells.{writtenCells}
 use Rattle.lengths.specs.Stream.{byteStream, streamOf}
 use Rattle.lengths.specs.Units.{classOfUnits}
-use Rattle.lengths.proofs.StreamLaws.{Window, two, three, four, window-at, stream-has-windows, length-fits}
-use Rattle.lengths.proofs.WindowLaws.{near-length-has-class}
+use Rattle.lengths.proofs.KindLaws.{Window, two-short, two-long, three-short, three-long, four-short, four-long}
+use Rattle.lengths.proofs.KindLaws.{window-at, stream-has-windows, length-fits}
+use Rattle.lengths.specs.Margin.{afterTwo}
+use Rattle.lengths.proofs.NearLaws.{Near, near-of-each, near-itself}
+use Rattle.lengths.proofs.WindowLaws.{near-length-has-class, near-stream-is-passed}
 use Rattle.lengths.proofs.MarginLaws.{Broken, margin-leaves-room, above-margin-is-broken}
 use Rattle.lengths.proofs.PapersMargin.{one-byte-is-written}
-use Rattle.clearance.specs.Clearance.{clearanceOf, leastClearance}
-use Rattle.clearance.proofs.AloneLaws.{Inner, least-is-no-more-than-each, least-is-what-each-has, kept-is-cleared}
+use Rattle.clearance.specs.Clearance.{clearanceIn, clearanceOf, leastClearance}
+use Rattle.clearance.specs.Claims.{cursorAt}
+use Rattle.clearance.proofs.LeastLaws.{least-is-no-more, least-is-at-least}
+use Rattle.clearance.proofs.AloneLaws.{Inner, kept-is-cleared}
 use Rattle.clearance.proofs.AloneLaws.{broken-is-not-cleared}
 use Rattle.demands.specs.Streams.{AcceptedProfile, Moved}
 use Rattle.demands.specs.Demand3.{stated}
@@ -30,29 +37,41 @@ use Rattle.demands.proofs.Demand3.{stated-is-the-margin, demand-3}
 use Rattle.demands.proofs.UsedLaws.{strip-has-intervals, field-has-intervals}
 
 -- the class that a window's cell has is one with edges
-inner-of-window : {p : Profile} {l u : ℕ} → Window p l u → Inner (classOfUnits u)
+inner-of-window : {p : Profile} {l u : ℕ} {two : Bool} → Window p l two u → Inner (classOfUnits u)
 unfolding classOfUnits
-inner-of-window (two low high) = tt
-inner-of-window (three low high) = tt
-inner-of-window (four low high) = tt
+inner-of-window (two-short low high) = tt
+inner-of-window (two-long low high) = tt
+inner-of-window (three-short low high) = tt
+inner-of-window (three-long low high) = tt
+inner-of-window (four-short low high) = tt
+inner-of-window (four-long low high) = tt
 
 module _ (p : Profile) (accepts : AcceptedProfile p) where
   module _
       (items : List ℕ) (c : ℕ) (few : c ≤ stated p) (changed : List ℕ) (moved : Moved c (streamOf p items) changed)
     where
       -- each interval of a changed stream: no more than c from a length, it has the margin's room less c
-      pub each-is-clear : (k : ℕ) → k < length changed → stated p - c ≤ clearanceOf p (getD changed k 0)
-      unfolding streamOf
+      pub each-is-clear
+          : (k : ℕ) → k < length changed → stated p - c ≤ clearanceIn (cursorAt p changed k) (getD changed k 0)
+      unfolding streamOf clearanceOf
       each-is-clear k h =
+          let two = afterTwo (writtenCells (written items)) k in
           let room = rw (← stated-is-the-margin p accepts) at (margin-leaves-room (kept p accepts)) in
           let there : k < length (streamOf p items) = rw (← moved .as-many) h in
           let window =
-          window-at (writtenCells (written items)) _ (stream-has-windows (kept p accepts) (written items)) k there in
+          window-at 2 (writtenCells (written items)) _ (stream-has-windows (kept p accepts) (written items)) k there in
+          let near : Near (stated p) changed (streamOf p items) =
+          near-of-each (stated p) changed (streamOf p items) (moved .as-many) (λ j inside.
+          let there : j < length changed = rw (moved .as-many) inside in
+          let longer = moved .no-longer j there in
+          let shorter = moved .no-shorter j there in
+          (omega arith, omega arith)) in
           let longer = moved .no-longer k h in
           let shorter = moved .no-shorter k h in
           let here = near-length-has-class room (getD changed k 0) window (omega arith) (omega arith) in
-          kept-is-cleared p accepts (getD changed k 0) (stated p - c) (rw here (inner-of-window window))
-          (λ d up down. cc (near-length-has-class room d window (omega arith) (omega arith)))
+          rw (near-stream-is-passed room (kept p accepts) (written items) changed near k (omega arith))
+          (kept-is-cleared p two accepts (getD changed k 0) (stated p - c) (rw here (inner-of-window window))
+          (λ d up down. cc (near-length-has-class room d window (omega arith) (omega arith))))
 
       pub within-the-margin : Moved (stated p) (streamOf p items) changed
       within-the-margin =
@@ -64,6 +83,7 @@ module _ (p : Profile) (accepts : AcceptedProfile p) where
           }
 
       changed-strip : listRule items .number ≡ 0 → ReadsClear p changed (written items) (stated p - c)
+      unfolding leastClearance
       changed-strip lists =
           let read =
           demand-3 p accepts .reads-back (written items) (written-is-listed items lists) changed
@@ -71,7 +91,7 @@ module _ (p : Profile) (accepts : AcceptedProfile p) where
           -- there is an interval, since it is read
           let answer = read (written items) (le-refl _) .answer in
           let some = strip-has-intervals p changed _ (ap (λ (a : Answer). a .number) answer) in
-          record { reads = read; clear = least-is-what-each-has p changed (stated p - c) some each-is-clear }
+          record { reads = read; clear = least-is-at-least (atStart p) changed (stated p - c) some each-is-clear }
 
   -- a stream is itself, moved by nothing
   pub unmoved : (items : List ℕ) → Moved 0 (streamOf p items) (streamOf p items)
@@ -86,13 +106,19 @@ module _ (p : Profile) (accepts : AcceptedProfile p) where
 
   -- the one-byte list that margin + 1 breaks
   broken-strip : Broken p (suc (stated p)) → ExactlyClear p (stated p)
+  unfolding clearanceOf leastClearance
   broken-strip x =
       let one = x .byte ∷ [] in
       let listed = one-byte-is-listed (x .byte) (x .is-byte) in
+      let two = afterTwo (writtenCells one) (x .place) in
+      let k = kept p accepts in
+      let inside = x .in-stream in
       let broken =
-      broken-is-not-cleared p accepts (getD (byteStream p one) (x .place) 0) (suc (stated p)) (x .moved) (x .not-longer)
-      (x .not-shorter) (x .other-class) in
-      let among = least-is-no-more-than-each p (byteStream p one) (x .place) (x .in-stream) in
+      broken-is-not-cleared p two accepts (getD (byteStream p one) (x .place) 0) (suc (stated p)) (x .moved)
+      (x .not-longer) (x .not-shorter) (x .other-class) in
+      let among =
+      rw (near-stream-is-passed (margin-leaves-room k) k one (byteStream p one) (near-itself _ (byteStream p one))
+      (x .place) (omega arith)) at (least-is-no-more (atStart p) (byteStream p one) (x .place) (x .in-stream)) in
       let most : leastClearance p (streamOf p one) ≤ stated p =
       rw (one-byte-is-written p (x .byte) (x .is-byte)) (omega arith) in
       let least = changed-strip one 0 (omega arith) _ (unmoved one) (listed .passes) .clear in

@@ -23,7 +23,7 @@ use Rattle.fields.specs.Field.{bitsWanted, fieldStray, fieldStrayPlace}
 use Rattle.sectors.specs.Sector.{isMisfit, sectorItems}
 use Rattle.demands.specs.Order.{Order, accept, turn, at0}
 
--- 1, unset: a profile number is out of range; which, 1 to 9, the lowest
+-- 1, unset: a profile number is out of range; which, 1 to 11, the lowest
 abbrev pub Unset : Profile → ℕ → Type 0
 Unset p place = (anywhere passed (unset p) ≡ true) × (place ≡ suc (lowest passed (unset p)))
 

@@ -2,6 +2,7 @@
 -- accepted then, every other input. That no duty is laid on the caller is in the contracts: no entry has a `requires`.
 -- No lemmas here.
 use Prim.Native.Nat.{ℕ}
+use mathlib.Core.Bool.{Bool}
 use mathlib.Core.List.{List}
 use lib.ListN.{length}
 use Rattle.timing.specs.Class.{classesOf, classRule}
@@ -32,7 +33,7 @@ use Rattle.demands.specs.MergeCauses.{mergeOrder, countedInBytes}
 pub record Demand1 : Type 0 where
   -- refused first, and accepted then: every operation by its order
   pub margin : (p : Profile) → Answers (profileOrder p accept) (marginRule p)
-  pub class : (p : Profile) (d : ℕ) → Answers (profileOrder p accept) (classRule p d)
+  pub class : (p : Profile) (two : Bool) (d : ℕ) → Answers (profileOrder p accept) (classRule p two d)
   pub writer : (p : Profile) (items : List ℕ) (room : ℕ) → Answers (writerOrder p items room) (writeRule p items room)
   pub strip-reader : (p : Profile) (ds : List ℕ) (room : ℕ) → Answers (stripOrder p ds room) (readRule p ds room)
   pub finder : (p : Profile) (ds : List ℕ) (start : ℕ) → Answers (finderOrder p ds start) (findRule p ds start)

@@ -1,7 +1,7 @@
 -- Document 01, "Settled by this profile": the starred cases, gathered under one claim. No lemmas here.
 use Prim.Native.Nat.{ℕ, _+_, _≤_}
 use mathlib.Core.Path.{_≡_}
-use mathlib.Core.Bool.{true, false}
+use mathlib.Core.Bool.{Bool, true, false}
 use mathlib.Core.List.{List, [], _∷_, map}
 use lib.ListN.{replicate}
 use Rattle.refusal.specs.Answer.{accepted}
@@ -23,12 +23,12 @@ profileWith t0 =
       normal = record { 0 = 10 };
       late = record { 0 = 12 };
       min = record { 0 = 36 };
-      b23 = record { 0 = 73 };
-      b34 = record { 0 = 106 };
+      short = record { b23 = record { 0 = 73 }; b34 = record { 0 = 106 } };
+      long = record { b23 = record { 0 = 73 }; b34 = record { 0 = 106 } };
       rpt = record { 0 = 139 };
     }
 
--- profile 58 29 8 10 12 36 73 106 139
+-- profile 58 29 8 10 12 36 73 73 106 106 139
 abbrev pub worked : Profile
 worked = profileWith 29
 
@@ -49,14 +49,14 @@ pub record SettledCases : Type 0 where
   -- the number that the operation answers, and the margin defined under "Profile"
   pub margin-10 : marginRule worked ≡ accepted 10
   pub papers-margin-10 : IsMargin worked 10
-  pub narrow-35 : classOf worked 35 ≡ Narrow
-  pub two-36 : classOf worked 36 ≡ Two
-  pub two-72 : classOf worked 72 ≡ Two
-  pub three-73 : classOf worked 73 ≡ Three
-  pub three-105 : classOf worked 105 ≡ Three
-  pub four-106 : classOf worked 106 ≡ Four
-  pub four-138 : classOf worked 138 ≡ Four
-  pub wide-139 : classOf worked 139 ≡ Wide
+  pub narrow-35 : (two : Bool) → classOf worked two 35 ≡ Narrow
+  pub two-36 : (two : Bool) → classOf worked two 36 ≡ Two
+  pub two-72 : (two : Bool) → classOf worked two 72 ≡ Two
+  pub three-73 : (two : Bool) → classOf worked two 73 ≡ Three
+  pub three-105 : (two : Bool) → classOf worked two 105 ≡ Three
+  pub four-106 : (two : Bool) → classOf worked two 106 ≡ Four
+  pub four-138 : (two : Bool) → classOf worked two 138 ≡ Four
+  pub wide-139 : (two : Bool) → classOf worked two 139 ≡ Wide
   -- T0 = 28, symbols 1 1 0 0 1 1
   pub source-3-5
       : lengthsOf (profileWith 28) (true ∷ true ∷ false ∷ false ∷ true ∷ true ∷ []) ≡ 58 ∷ 54 ∷ 122 ∷ 54 ∷ []

@@ -14,3 +14,4 @@ pub mod MarksLaws
 pub mod FirstLockLaws
 pub mod FillerLaws
 pub mod WrittenFieldLaws
+pub mod StartLaws

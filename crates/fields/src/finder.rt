@@ -1,14 +1,14 @@
 // Document 01, "Finding and reading a field": the lock finder.
-ghost use Prim.Native.Nat.{_<_, _≤_};
+ghost use Prim.Native.Nat.{_≤_, max};
 ghost use mathlib.Core.Path.{_≡_};
-ghost use mathlib.Core.Bool.{cond};
 ghost use lib.ListN.{length, drop};
 ghost use Rattle.refusal.specs.Answer.{countedAnswer};
 ghost use Rattle.timing.specs.Profile.{profileRule};
-ghost use Rattle.timing.specs.Class.{classesOf, classesFrom, Ascending};
+ghost use Rattle.timing.specs.Class.{classesOf, classesFrom};
 ghost use Rattle.fields.specs.Lock.{beginsWith, markAhead, lockFrom, searchRule, findRule};
-ghost use Rattle.fields.specs.machine.Scan.{PassesRun};
 ghost use Rattle.fields.specs.machine.Marks.{threeMarks};
+use crate::runs::next_two;
+use crate::runs::pass_run;
 use refusal::Counted;
 use refusal::Refusal;
 use refusal::Verdict;
@@ -59,72 +59,55 @@ fn mark_ahead(cursor: Cursor, intervals: &[u16], at: usize) -> bool
     begins_with(cursor, intervals, at, &c2)
 }
 
-// Up to where a run of class 2 was passed over, and where the classing stands there.
-struct Run {
-    end: usize,
-    cursor: Cursor,
-}
-
-// Passes over a run. The last interval of the list may be left.
-fn pass_run(start: Cursor, intervals: &[u16], from: usize) -> Run
-    requires { ⌜ Ascending start ⌝ }
-    requires { ⌜ from < length (now intervals) ⌝ }
-    ensures { λ r. ⌜ PassesRun start (now (intervals .entry)) from (r .cursor) (r .end) ⌝ }
+// The later of two places.
+fn later(a: usize, b: usize) -> usize
+    ensures { λ r. ⌜ r ≡ max a b ⌝ }
 {
-    let last = intervals.len() - 1;
-    let mut cursor = start;
-    let mut k = from;
-    while k < last {
-        let interval = intervals[k];
-        if cursor.meets_two(interval) {
-            cursor = cursor.past(interval);
-            k += 1;
-        } else {
-            return Run { end: k, cursor };
-        }
+    if a < b {
+        return b;
     }
-    Run { end: k, cursor }
+    a
 }
 
-// Where the present run of class 2 begins after one interval more: a choice of two numbers, and no jump for a class.
-fn run_first(two: bool, first: usize, next: usize) -> usize
-    ensures { λ r. ⌜ r ≡ cond two first next ⌝ }
+// Invariant: no lock stands before k, and those after `first` up to `seen` are of class 2 if the one before them is.
+// The 64 before k are looked at from the last one back, but for the first of them; `seen` only grows, so that none is
+// looked at twice. One that is not of class 2 after class 2 can only be the first of a run, and rules out every place
+// that has it and the one before it among its 64. Where none is ruled out, the 64 are a run if their first is of class
+// 2. Then the mark is looked for at the run's end, since no mark begins with class 2.
+fn scan(p: Profile, intervals: &[u16]) -> Counted
+    requires { ⌜ profileRule p .number ≡ 0 ⌝ }
+    ensures { λ r. ⌜ countedAnswer r ≡ lockFrom (classesOf p (now (intervals .entry))) 0 ⌝ }
 {
-    if two { first } else { next }
-}
-
-// Invariant: the intervals from `first` up to `next` are of class 2, and no lock stands before k, 64 after `first`. Those
-// up to k are looked at in their order, each once. One of another class rules out every place that has it among its 64,
-// so the run begins anew after it. Where all 64 are of class 2, `next` goes on to the end of their run, since no mark
-// begins with class 2; with no mark there, the interval at the run's end is the first of the next 64.
-fn scan(start: Cursor, intervals: &[u16]) -> Counted
-    requires { ⌜ Ascending start ⌝ }
-    ensures { λ r. ⌜ countedAnswer r ≡ lockFrom (classesFrom start (now (intervals .entry))) 0 ⌝ }
-{
-    let mut cursor = start;
+    let short = Cursor::after(p, true);
     let mut first: usize = 0;
-    let mut next: usize = 0;
+    let mut seen: usize = 1;
     let place = 'scan: loop {
         let k = first + 64;
         if intervals.len() <= k {
             break 'scan Counted::Refused(Refusal::NoLock);
         }
-        while next < k {
-            let interval = intervals[next];
-            next += 1;
-            first = run_first(cursor.meets_two(interval), first, next);
-            cursor = cursor.past(interval);
-        }
-        if k < first + 64 {
+        let mut i = k;
+        while seen < i {
+            i -= 1;
+            if short.meets_two(intervals[i]) {
+                continue;
+            }
+            first = i;
+            seen = k;
             continue 'scan;
         }
-        let run = pass_run(cursor, intervals, next);
-        cursor = run.cursor;
-        next = run.end;
-        if mark_ahead(cursor, intervals, next) {
-            break 'scan Counted::Count(next);
+        let begin = next_two(p, intervals, first);
+        if first < begin {
+            first = begin;
+            seen = later(k, begin + 1);
+            continue 'scan;
         }
-        first = next;
+        let end = pass_run(short, intervals, k);
+        if mark_ahead(short, intervals, end) {
+            break 'scan Counted::Count(end);
+        }
+        first = end + 1;
+        seen = end + 2;
     };
     place
 }
@@ -137,7 +120,7 @@ pub fn search(p: Profile, intervals: &[u16], start: usize) -> Counted
     if intervals.len() <= start {
         return Counted::Refused(Refusal::NoLock);
     }
-    match scan(Cursor::start(p), &intervals[start..]) {
+    match scan(p, &intervals[start..]) {
         Counted::Refused(refusal) => Counted::Refused(refusal),
         Counted::Count(k) => Counted::Count(start + k),
     }

@@ -2,3 +2,4 @@
 pub mod finder;
 mod gather;
 pub mod reader;
+mod runs;

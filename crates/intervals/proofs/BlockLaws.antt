@@ -13,7 +13,8 @@ use Rattle.lists.proofs.BoolLaws.{both, second-fails}
 use Rattle.timing.specs.Class.{atStart, cursorAfter}
 use Rattle.timing.specs.machine.Edges.{unitsFrom}
 use Rattle.timing.specs.declared.Profile.{Profile}
-use Rattle.timing.proofs.UnitsLaws.{units-none, units-count, units-append, cursor-after-append}
+use Rattle.timing.proofs.ClassLaws.{cursor-after-append}
+use Rattle.timing.proofs.UnitsLaws.{units-none, units-count, units-append}
 use Rattle.symbols.specs.machine.Step.{freshReading}
 use Rattle.intervals.specs.machine.Pass.{Passed, ended, after, passFrom, passed}
 use Rattle.intervals.specs.machine.Blocks.{atFirst, passOn, restFrom, nextOf, wordsOf, Reaches}

@@ -1,5 +1,6 @@
 pub mod CellLaws
 pub mod ClassCellLaws
+pub mod EitherLaws
 pub mod NearLaws
 pub mod PassLaws
 pub mod FoursLaws

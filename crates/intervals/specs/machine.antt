@@ -1,6 +1,8 @@
 -- Machines, not meaning.
 -- The pass that both readers share
 pub mod Pass
+-- The units of a block, after either kind
+pub mod Either
 -- Block after block of it
 pub mod Blocks
 -- The same pass, four cells at a time

@@ -14,6 +14,7 @@ use crate::Pass;
 use crate::fours::all_fit;
 use crate::fours::shift_fours;
 use crate::fours::store;
+use crate::units::units_of;
 use lists::at_most;
 use lists::put;
 use symbols::Reading;
@@ -30,23 +31,6 @@ const FOURS: usize = 16;
 pub struct Progress {
     pub pass: Pass,
     pub cursor: Cursor,
-}
-
-// The units of intervals, each as a cell.
-fn units_of(start: Cursor, intervals: &[u16], units: &mut [u8]) -> Cursor
-    requires { ⌜ length (now units) ≡ length (now intervals) ⌝ }
-    ensures cursor { λ r. ⌜ r ≡ cursorAfter start (now (intervals .entry)) ⌝ }
-    ensures units { λ _. ⌜ now (units .exit) ≡ unitsFrom start (now (intervals .entry)) ⌝ }
-{
-    let mut cursor = start;
-    let mut k: usize = 0;
-    while k < intervals.len() {
-        let interval = intervals[k];
-        units[k] = cursor.units(interval);
-        cursor = cursor.past(interval);
-        k += 1;
-    }
-    cursor
 }
 
 // Cells of so many units, the first at place `from`, until so many bytes are whole or no cell is left. Bytes are counted

@@ -12,6 +12,9 @@ use timing::Profile;
 pub mod block;
 pub mod edges;
 mod fours;
+mod units;
+
+pub use units::all_sure;
 
 // How far a pass came, and how many intervals it used.
 pub struct Pass {

@@ -11,10 +11,11 @@ use Rattle.timing.specs.declared.Profile.{Profile}
 use Rattle.ism.specs.declared.IsmProfile.{IsmProfile}
 use Rattle.ism.specs.declared.IsmAnswer.{IsmAnswer}
 
--- its numbers, in document 01's order
+-- its numbers, in document 02's order
 abbrev pub profileNumbersOf : IsmProfile → List ℕ
 profileNumbersOf p =
-    p .t1 ∷ p .t0 ∷ p .early ∷ p .normal ∷ p .late ∷ p .min ∷ p .b23 ∷ p .b34 ∷ p .rpt ∷ []
+    p .t1 ∷ p .t0 ∷ p .early ∷ p .normal ∷ p .late ∷ p .min ∷ p .«b23_short» ∷ p .«b23_long»
+    ∷ p .«b34_short» ∷ p .«b34_long» ∷ p .rpt ∷ []
 
 abbrev pub profileOf : IsmProfile → Profile
 profileOf p = fromNumbers (profileNumbersOf p)

@@ -1,5 +1,6 @@
 -- The C interface, document 02, (vi): the answers that come with a clearance. No lemmas here.
 use Prim.Native.Nat.{ℕ}
+use mathlib.Core.Bool.{Bool}
 use mathlib.Core.List.{List}
 use lib.ListN.{take}
 use Rattle.timing.specs.Class.{classRule}
@@ -10,9 +11,9 @@ use Rattle.fields.specs.FieldRule.{FieldAnswer, fieldReading}
 use Rattle.ism.specs.Answers.{answerOf, fieldAnswerOf, withClearance}
 use Rattle.ism.specs.declared.IsmAnswer.{IsmAnswer}
 
--- the class of an interval, with its own
-abbrev pub classAnswerOf : Profile → ℕ → IsmAnswer
-classAnswerOf p d = withClearance (clearanceOf p d) (answerOf (classRule p d))
+-- the class of an interval, told whether the one before was of class 2, with its own
+abbrev pub classAnswerOf : Profile → Bool → ℕ → IsmAnswer
+classAnswerOf p two d = withClearance (clearanceOf p two d) (answerOf (classRule p two d))
 
 -- a strip, with the least over its intervals, all of which it uses
 abbrev pub stripAnswerOf : Profile → List ℕ → ℕ → IsmAnswer

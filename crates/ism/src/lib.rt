@@ -2,6 +2,7 @@
 // back: nothing is computed here. An answer that was accepted gets its clearance after that. The index alone is
 // gathered here, one search at a time, since its entries are kept as they are handed back.
 ghost use mathlib.Core.Path.{_≡_};
+ghost use lib.Dec.{ltb};
 ghost use lib.ListN.{length};
 ghost use Rattle.refusal.specs.Answer.{countedAnswer};
 ghost use Rattle.lengths.specs.Margin.{marginRule};
@@ -27,8 +28,10 @@ pub struct IsmProfile {
     pub normal: u16,
     pub late: u16,
     pub min: u16,
-    pub b23: u16,
-    pub b34: u16,
+    pub b23_short: u16,
+    pub b23_long: u16,
+    pub b34_short: u16,
+    pub b34_long: u16,
     pub rpt: u16,
 }
 
@@ -53,8 +56,10 @@ fn profile(p: IsmProfile) -> Profile
         p.normal,
         p.late,
         p.min,
-        p.b23,
-        p.b34,
+        p.b23_short,
+        p.b23_long,
+        p.b34_short,
+        p.b34_long,
         p.rpt,
     ];
     Profile::from_numbers(&numbers)
@@ -106,15 +111,15 @@ pub extern "C" fn ism_margin(p: IsmProfile) -> IsmAnswer
 }
 
 #[no_mangle]
-pub extern "C" fn ism_class(p: IsmProfile, interval: u16) -> IsmAnswer
-    ensures { λ r. ⌜ r ≡ classAnswerOf (profileOf p) interval ⌝ }
+pub extern "C" fn ism_class(p: IsmProfile, interval: u16, two: u32) -> IsmAnswer
+    ensures { λ r. ⌜ r ≡ classAnswerOf (profileOf p) (ltb 0 two) interval ⌝ }
 {
     let q = profile(p);
-    let class = answer(timing::class_number(q, interval));
+    let class = answer(timing::class_number(q, interval, 0 < two));
     if class.number != 0 {
         return class;
     }
-    with_clearance(class, clearance::of_interval(q, interval))
+    with_clearance(class, clearance::of_interval(q, interval, 0 < two))
 }
 
 #[no_mangle]

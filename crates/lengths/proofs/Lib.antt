@@ -2,12 +2,16 @@ pub mod LetterLaws
 pub mod RunLaws
 pub mod StreamLaws
 pub mod NearLaws
+pub mod KindLaws
 pub mod WindowLaws
+pub mod MiddleLaws
 pub mod MarginLaws
 pub mod ShiftLaws
 pub mod PointLaws
 pub mod BrokenLaws
 pub mod PapersMargin
+pub mod EqualMargin
+pub mod TrueLaws
 pub mod PositiveLengths
 pub mod SumLaws
 pub mod NeighbourLaws

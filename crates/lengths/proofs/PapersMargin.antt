@@ -19,7 +19,7 @@ use Rattle.symbols.specs.Cells.{writtenCells}
 use Rattle.lengths.specs.Stream.{byteStream, streamOf}
 use Rattle.lengths.specs.Margin.{Keeps, marginOf}
 use Rattle.lengths.specs.Claims.{MarginIsThePapers}
-use Rattle.lengths.proofs.StreamLaws.{window-at, stream-has-windows}
+use Rattle.lengths.proofs.KindLaws.{window-at, stream-has-windows}
 use Rattle.lengths.proofs.WindowLaws.{near-length-has-class}
 use Rattle.lengths.proofs.MarginLaws.{margin-leaves-room, Broken, above-margin-is-broken}
 
@@ -29,16 +29,20 @@ pub one-byte-is-accepted : (b : ℕ) → b < 256 → listRule (b ∷ []) .number
 unfolding listRule anywhere isForeign isByte isItem writtenBytes bytesOf isCheck
 one-byte-is-accepted b h = rw (lt-ltb b 256 h, ne-eqb b 512 (omega arith))
 
+pub written-one : (b : ℕ) → b < 256 → written (b ∷ []) ≡ b ∷ []
+unfolding anywhere
+written-one b h = written-of-no-check (b ∷ []) (rw (byte-is-no-check b (data-is-byte b h)))
+
 pub one-byte-is-written : (p : Profile) (b : ℕ) → b < 256 → streamOf p (b ∷ []) ≡ byteStream p (b ∷ [])
 unfolding streamOf anywhere
-one-byte-is-written p b h = cc (written-of-no-check (b ∷ []) (rw (byte-is-no-check b (data-is-byte b h))))
+one-byte-is-written p b h = cc (written-one b h)
 
 -- ---- the margin keeps every class, and nothing larger does
 
 broken-is-not-kept : {p : Profile} (n : ℕ) → Broken p n → Keeps p n → ⊥
 broken-is-not-kept {p} n x keeps =
     let accepted = keeps (x .byte ∷ []) (one-byte-is-accepted (x .byte) (x .is-byte)) in
-    let kept = rw (one-byte-is-written p (x .byte) (x .is-byte)) at accepted in
+    let kept = rw (one-byte-is-written p (x .byte) (x .is-byte), written-one (x .byte) (x .is-byte)) at accepted in
     x .other-class (kept (x .place) (x .in-stream) (x .moved) (x .not-longer) (x .not-shorter))
 
 pub margin-is-the-papers : MarginIsThePapers
@@ -49,7 +53,7 @@ margin-is-the-papers p ok =
     record {
       keeps =
           λ items listed i h d above below.
-          let w = window-at (writtenCells (written items)) _ (stream-has-windows k (written items)) i h in
+          let w = window-at 2 (writtenCells (written items)) _ (stream-has-windows k (written items)) i h in
           near-length-has-class s d w above below ∙ sym (near-length-has-class s _ w (omega arith) (omega arith));
       largest =
           λ n keeps. elim (decLe n (marginOf p)) [

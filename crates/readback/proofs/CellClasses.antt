@@ -5,14 +5,16 @@ use mathlib.Core.Path.{_≡_, refl, sym, ap, _∙_}
 use mathlib.Core.Bool.{true, false}
 use mathlib.Core.List.{List, _∷_, _++_, map, map-append, append-assoc, []}
 use native.Mathlib.Omega.{arith}
+use borrow.Author.Tests.{lt-ltb}
 use lib.ListN.{length, getD, drop, replicate, length-append, length-map, length-replicate, getD-replicate}
 use lib.ListN.{List·getD-append, length-drop}
-use lib.Seq.{drop-at, getD-append-add}
+use lib.Seq.{drop-at, drop-drop, getD-append-add}
 use Rattle.timing.specs.Class.{classesOf}
 use Rattle.timing.specs.declared.Profile.{Profile}
 use Rattle.timing.specs.declared.Class.{Class}
-use Rattle.timing.specs.declared.Class.the-variants.{Narrow, Two}
-use Rattle.timing.proofs.ClassLaws.{classes-length, classes-of-drop, classes-after-two}
+use Rattle.timing.specs.declared.Class.the-variants.{Narrow, Two, Three, Four}
+use Rattle.timing.proofs.ClassLaws.{classes-length, classes-after-two}
+use Rattle.timing.proofs.MiddleLaws.{Behind, in-step, missed, misread, in-step-behind-other}
 use Rattle.symbols.specs.Bits.{Bit, O, I, G, allBits}
 use Rattle.symbols.specs.Cells.{writtenCells}
 use Rattle.symbols.specs.Reading.{units, readFrom, readBits}
@@ -92,16 +94,99 @@ filler-classes b n ws xs no-gap h =
     ∙ map-append classOfUnits (fillerAfter b n) _
     ∙ ap (λ (cs : List Class). fillerClasses b n ++ cs) (classes-after (replicate 95 2) ws)
 
--- ---- places
+-- ---- a list that is read from its middle on
 
--- the classes from any place on: that a search from the middle of a list has the classes of the whole rests on edges
--- that are the same for each interval, and on nothing else here
-pub classes-from
-    : (p : Profile) (ds : List ℕ) (before rest : List Class) (k : ℕ)
-    → classesOf p ds ≡ before ++ rest
-    → length before ≡ k
-    → classesOf p (drop k ds) ≡ rest
-classes-from p ds before rest k h long = cc (classes-of-drop p k ds, drop-at before rest k long)
+-- a search from any start is behind the whole list
+abbrev pub ReadBehind : Profile → List ℕ → Type 0
+ReadBehind p ds = (start : ℕ) → Behind (classesOf p (drop start ds)) (drop start (classesOf p ds))
+
+-- so many intervals behind one that is not of class 2, the two are in step
+pub in-step-later
+    : {cs ws : List Class}
+    → Behind cs ws
+    → (k : ℕ)
+    → (getD cs k Two ≡ Two → ⊥)
+    → (u : ℕ)
+    → 0 < u
+    → drop u (drop k ws) ≡ drop u (drop k cs)
+in-step-later b k other zero some = absurd (omega arith)
+in-step-later {cs} {ws} b k other (suc v) some =
+    let same : k + suc v ≡ suc k + v = omega arith in
+    drop-drop (suc v) k ws
+    ∙ ap (λ (n : ℕ). drop n ws) same
+    ∙ sym (drop-drop v (suc k) ws)
+    ∙ ap (drop v) (sym (in-step-behind-other b k other))
+    ∙ drop-drop v (suc k) cs
+    ∙ ap (λ (n : ℕ). drop n cs) (sym same)
+    ∙ sym (drop-drop (suc v) k cs)
+
+-- ---- a gap that is read from its first interval on
+
+-- what is left of a gap of n + 1 bytes, after its first two ones
+abbrev gapClasses : ℕ → List Class
+gapClasses n = map classOfUnits (fillerCells n)
+
+-- its first cell is of class 3
+run-ends-in-gap : (n run : ℕ) → passes run (gapClasses n) ≡ true
+unfolding passes classOfUnits fillerCells
+run-ends-in-gap zero run = refl
+run-ends-in-gap (suc n) run = no-run-between n
+
+-- classes without a run of 64, and what follows them
+pub record Gap (cs tail : List Class) (run : ℕ) : Type 0 where
+  pub filler : List Class
+  pub no-run : passes run filler ≡ true
+  pub classes : cs ≡ filler ++ tail
+
+gap-more : {cs tail : List Class} {run : ℕ} → run < 63 → Gap cs tail (suc run) → Gap (Two ∷ cs) tail run
+unfolding passes
+gap-more {run = run} few g =
+    record {
+      filler = Two ∷ g .filler;
+      no-run = rw (lt-ltb run 63 few) (g .no-run);
+      classes = ap (λ (cs : List Class). Two ∷ cs) (g .classes);
+    }
+
+module _ (n : ℕ) (tail : List Class) where
+  -- at the two ones the reading is in step
+  at-ones : (run : ℕ) {cs : List Class} → run < 60 → Behind cs (Two ∷ Two ∷ gapClasses n ++ tail) → Gap cs tail run
+  unfolding passes
+  at-ones run few (in-step e) =
+      record {
+        filler = Two ∷ Two ∷ gapClasses n;
+        no-run = rw (lt-ltb run 63 (omega arith), lt-ltb (suc run) 63 (omega arith)) (run-ends-in-gap n (suc (suc run)));
+        classes = e;
+      }
+  at-ones run few (missed other rest) = absurd (other refl)
+
+  before-ones
+      : (run : ℕ) {cs : List Class} → run < 50 → Behind cs (Three ∷ Two ∷ Two ∷ gapClasses n ++ tail)
+      → Gap cs tail run
+  unfolding passes
+  before-ones run few (in-step e) =
+      record { filler = Three ∷ Two ∷ Two ∷ gapClasses n; no-run = run-ends-in-gap n 2; classes = e }
+  before-ones run few (missed other rest) = gap-more (omega arith) (at-ones (suc run) (omega arith) rest)
+
+  two-before
+      : (run : ℕ) {cs : List Class} → run < 40 → Behind cs (Three ∷ Three ∷ Two ∷ Two ∷ gapClasses n ++ tail)
+      → Gap cs tail run
+  unfolding passes
+  two-before run few (in-step e) =
+      record { filler = Three ∷ Three ∷ Two ∷ Two ∷ gapClasses n; no-run = run-ends-in-gap n 2; classes = e }
+  two-before run few (missed other rest) = gap-more (omega arith) (before-ones (suc run) (omega arith) rest)
+
+  pub gap-is-passed : (b : Bit) {cs : List Class} → Behind cs (fillerClasses b n ++ tail) → Gap cs tail 0
+  unfolding passes classOfUnits fillerAfter
+  gap-is-passed O (in-step e) = record { filler = fillerClasses O n; no-run = no-run-in-filler O n; classes = e }
+  gap-is-passed O (missed other rest) = gap-more (omega arith) (two-before 1 (omega arith) rest)
+  gap-is-passed G (in-step e) = record { filler = fillerClasses G n; no-run = no-run-in-filler G n; classes = e }
+  gap-is-passed G (missed other rest) = gap-more (omega arith) (two-before 1 (omega arith) rest)
+  gap-is-passed I (in-step e) = record { filler = fillerClasses I n; no-run = no-run-in-filler I n; classes = e }
+  gap-is-passed I (missed other rest) = gap-more (omega arith) (two-before 1 (omega arith) rest)
+  gap-is-passed I misread =
+      record { filler = Three ∷ Three ∷ Three ∷ Two ∷ Two ∷ gapClasses n; no-run = run-ends-in-gap n 2; classes = refl }
+
+-- ---- places
 
 -- the classes after a run of class 2, where a list is classed as from its start on
 pub classes-after-run

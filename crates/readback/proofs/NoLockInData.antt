@@ -12,7 +12,6 @@ use Rattle.lists.specs.Place.{anywhere}
 use Rattle.lists.proofs.PlaceLaws.{anywhere-of-none, anywhere-of-append, nowhere-fails-at-first, nowhere-in-rest}
 use Rattle.timing.specs.Class.{classesOf}
 use Rattle.timing.specs.declared.Profile.{Profile}
-use Rattle.timing.proofs.ClassLaws.{classes-of-drop}
 use Rattle.register.specs.Register.{highByte, lowByte}
 use Rattle.items.specs.Item.{isMark}
 use Rattle.items.specs.Written.{freshCheck, itemBytes, afterItem, writtenFrom, written}
@@ -25,14 +24,14 @@ use Rattle.symbols.specs.Bytes.{isGap}
 use Rattle.symbols.specs.Reading.{readBits}
 use Rattle.lengths.specs.Stream.{streamOf}
 use Rattle.fields.specs.Lock.{lockAt}
-use Rattle.fields.proofs.MarkLaws.{no-lock-without-gap}
+use Rattle.fields.proofs.MarkLaws.{no-lock-behind}
 use Rattle.fields.proofs.FirstLockLaws.{none-is-found}
 use Rattle.demands.specs.Streams.{AcceptedProfile, Moved}
 use Rattle.demands.specs.Demand3.{stated}
-use Rattle.demands.proofs.Demand3.{moved-has-classes}
+use Rattle.demands.proofs.Demand3.{moved-has-classes, moved-is-behind}
 use Rattle.demands.proofs.HowNear.{unmoved, within-the-margin}
 use Rattle.readback.specs.NoLockInData.{NoLock, DataAlone, NoLockInData}
-use Rattle.readback.proofs.CellClasses.{cells, cells-bits, cells-classes}
+use Rattle.readback.proofs.CellClasses.{ReadBehind, cells, cells-bits, cells-classes}
 
 -- ---- the letters of data bytes
 
@@ -91,19 +90,24 @@ written-has-no-mark ns e = no-mark-from freshCheck ns fresh-bound e
 
 -- ---- their intervals
 
+-- a search from any start of a moved stream is behind the whole
+pub moved-reads-behind
+    : (p : Profile) (accepts : AcceptedProfile p) (items changed : List ℕ)
+    → Moved (stated p) (streamOf p items) changed
+    → ReadBehind p changed
+moved-reads-behind p accepts items changed moved start =
+    rw (moved-has-classes p accepts items changed moved) (moved-is-behind p accepts items changed moved start)
+
 module _ (p : Profile) (accepts : AcceptedProfile p) (items : List ℕ) (data-alone : DataAlone items) where
   module _ (changed : List ℕ) (moved : Moved (stated p) (streamOf p items) changed) where
-    -- that a search from the middle has the classes of the whole rests on edges that are the same for each interval
+    -- a search from the middle is in step behind the first interval that it does not take for class 2, as a mark's first
     none-stands : (start k : ℕ) → lockAt (classesOf p (drop start changed)) k ≡ false
     unfolding readBits
-    none-stands start k =
-        rw (
-          classes-of-drop p start changed,
-          moved-has-classes p accepts items changed moved,
-          cells-classes (written items),
-        )
-        (no-lock-without-gap O (cells (written items))
-        (data-is-read-without-gap (written items) (written-has-no-mark items (data-alone .no-marks))) start k)
+    none-stands start =
+        no-lock-behind O (cells (written items))
+        (data-is-read-without-gap (written items) (written-has-no-mark items (data-alone .no-marks))) start
+        (classesOf p (drop start changed))
+        (rw (cells-classes (written items)) at (moved-is-behind p accepts items changed moved start))
 
     moved-has-no-lock : NoLock p changed
     moved-has-no-lock =

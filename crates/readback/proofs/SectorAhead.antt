@@ -17,7 +17,7 @@ use Rattle.readback.specs.SectorReads.{placeAfter}
 use Rattle.readback.specs.TrackIndexed.{Sector}
 use Rattle.readback.proofs.WrittenSector.{A1, idBytes, dataBytes, id-bytes, data-bytes, MadeOf, datas, fromData}
 use Rattle.readback.proofs.WrittenSector.{fromId, ids, afterId}
-use Rattle.readback.proofs.CellClasses.{classesFor, sync-classes, no-run-of-none, place-is}
+use Rattle.readback.proofs.CellClasses.{ReadBehind, classesFor, sync-classes, no-run-of-none, place-is}
 use Rattle.readback.proofs.CheckedField.{checked-length}
 use Rattle.readback.proofs.FieldAhead.{SyncAhead, BytesAhead, FieldFound, gap-and-sync, field-found}
 use Rattle.readback.proofs.FieldIndexed.{lock-within}
@@ -41,11 +41,12 @@ pub record FieldsFound (p : Profile) (changed : List ℕ) (start : ℕ) (s : Sec
   pub behind : BytesAhead p changed (endOf p changed (contents .place) (length (datas s))) (replicate 54 0x4e ++ rest)
 
 module _
-    (p : Profile) (accepts : AcceptedProfile p) (changed : List ℕ) (start : ℕ) (s : Sector) (made : MadeOf s)
-    (rest : List ℕ) (ahead : SyncAhead p changed start (fromId s rest))
+    (p : Profile) (accepts : AcceptedProfile p) (changed : List ℕ) (middle : ReadBehind p changed) (start : ℕ)
+    (s : Sector) (made : MadeOf s) (rest : List ℕ) (ahead : SyncAhead p changed start (fromId s rest))
   where
     id-found : FieldFound p changed start (ids s) (afterId s rest)
-    id-found = field-found p accepts changed start (idBytes s) (afterId s rest) (id-bytes s made) (omega arith) ahead
+    id-found =
+        field-found p accepts changed middle start (idBytes s) (afterId s rest) (id-bytes s made) (omega arith) ahead
 
     abbrev id-end : ℕ
     id-end = endOf p changed (id-found .place) 10
@@ -55,8 +56,8 @@ module _
     data-found =
         let size = size-is s made in
         let most = size-at-most-1024 (s .code) in
-        field-found p accepts changed id-end (dataBytes s) (replicate 54 0x4e ++ rest) (data-bytes s made) (omega arith)
-        (gap-and-sync p changed id-end 21 (fromData s rest) (id-found .behind _ refl))
+        field-found p accepts changed middle id-end (dataBytes s) (replicate 54 0x4e ++ rest) (data-bytes s made)
+        (omega arith) (gap-and-sync p changed id-end 21 (fromData s rest) (id-found .behind _ refl))
 
     pub fields-found : FieldsFound p changed start s rest
     unfolding allBits writtenBits byteBits isMark
@@ -68,7 +69,13 @@ pub sync-at-front
     → classesOf p changed ≡ classesFor (replicate 12 0x00 ++ ws)
     → SyncAhead p changed 0 ws
 sync-at-front p changed ws whole =
-    record { filler = []; more = 32; no-run = no-run-of-none; classes = whole ∙ sync-classes ws }
+    record {
+      filler = [];
+      more = 32;
+      no-run = no-run-of-none;
+      classes = whole ∙ sync-classes ws;
+      sync = whole ∙ sync-classes ws;
+    }
 
 -- ---- the places of a sector behind other bytes
 

@@ -3,8 +3,8 @@
 use Prim.Native.Nat.{ℕ}
 use mathlib.Core.Path.{_≡_}
 use mathlib.Core.List.{List, _++_, []}
-use lib.ListN.{replicate}
-use Rattle.timing.specs.Class.{classesOf}
+use lib.ListN.{take, replicate}
+use Rattle.timing.specs.Class.{atStart, cursorAfter, classesOf}
 use Rattle.timing.specs.declared.Profile.{Profile}
 use Rattle.items.specs.Written.{written}
 use Rattle.lengths.specs.Stream.{streamOf}
@@ -19,6 +19,7 @@ use Rattle.readback.proofs.WrittenSector.{sector-written, sector-is-lis
 use Rattle.readback.proofs.CellClasses.{classesFor}
 use Rattle.readback.proofs.SectorAhead.{data-count, FieldsFound, fields-found, sync-at-front, data-place}
 use Rattle.readback.proofs.SectorAhead.{id-place}
+use Rattle.readback.proofs.NoLockInData.{moved-reads-behind}
 
 module _
     (track side sector code : ℕ) (bytes : List ℕ) (made : Made track side sector code bytes) (p : Profile)
@@ -32,7 +33,9 @@ module _
     classes-are = cc (moved-has-classes p accepts _ changed moved, sector-written s made)
 
     found : FieldsFound p changed 0 s []
-    found = fields-found p accepts changed 0 s made [] (sync-at-front p changed (fromId s []) classes-are)
+    found =
+        fields-found p accepts changed (moved-reads-behind p accepts _ changed moved) 0 s made []
+        (sync-at-front p changed (fromId s []) classes-are)
 
     id-there : idPlace ≡ found .id .place
     unfolding idPlace
@@ -41,6 +44,12 @@ module _
     data-there : dataPlace track side sector code bytes ≡ found .contents .place
     unfolding dataPlace idField
     data-there = data-place [] classes-are found
+
+    pub id-stands : cursorAfter (atStart p) (take idPlace changed) ≡ atStart p
+    id-stands = rw id-there (found .id .stands)
+
+    pub data-stands : cursorAfter (atStart p) (take (dataPlace track side sector code bytes) changed) ≡ atStart p
+    data-stands = rw data-there (found .contents .stands)
 
     pub sector-reads : SectorReads track side sector code bytes p changed
     unfolding idField dataField

@@ -20,7 +20,7 @@ use Rattle.items.proofs.WrittenLaws.{written-from-none}
 use Rattle.symbols.specs.Bits.{O, byteBits, writtenBits, allBits}
 use Rattle.symbols.specs.Bytes.{isGap}
 use Rattle.fields.specs.Lock.{lockAt}
-use Rattle.fields.proofs.MarkLaws.{no-lock-without-gap}
+use Rattle.fields.proofs.MarkLaws.{no-lock-behind}
 use Rattle.fields.proofs.FirstLockLaws.{none-is-found}
 use Rattle.fields.proofs.FillerLaws.{passes}
 use Rattle.track.specs.Index.{entriesFrom, entriesOf, crowdRule, indexRule, handedBack, indexEntries}
@@ -33,11 +33,11 @@ use Rattle.readback.specs.SectorReads.{idField}
 use Rattle.readback.specs.TrackIndexed.{Sector, itemsOfSector, Makes, AllMade, trackItems, entryBehind}
 use Rattle.readback.specs.TrackIndexed.{entriesBehind, TrackIndexed, MadeTracksAreIndexed}
 use Rattle.readback.proofs.WrittenSector.{sector-written, sector-written-before, fromId}
-use Rattle.readback.proofs.CellClasses.{classesFor}
+use Rattle.readback.proofs.CellClasses.{ReadBehind, classesFor}
 use Rattle.readback.proofs.FieldAhead.{SyncAhead, BytesAhead, gap-and-sync}
 use Rattle.readback.proofs.SectorAhead.{sync-at-front, FieldsFound, fields-found, data-place, id-place}
 use Rattle.readback.proofs.SectorIndexed.{made-of, dataEnd, sector-listed}
-use Rattle.readback.proofs.NoLockInData.{no-lock-in-data}
+use Rattle.readback.proofs.NoLockInData.{no-lock-in-data, moved-reads-behind}
 
 -- ---- the written bytes
 
@@ -58,7 +58,7 @@ sector-then
     → before ++ (replicate 12 0x00 ++ fromId s rest) ≡ (before ++ written (itemsOfSector s)) ++ rest
 sector-then s makes before rest = rw (sector-written s (made-of s makes)) (simp append-assoc)
 
-module _ (p : Profile) (accepts : AcceptedProfile p) (changed : List ℕ) where
+module _ (p : Profile) (accepts : AcceptedProfile p) (changed : List ℕ) (middle : ReadBehind p changed) where
   abbrev Whole : List ℕ → Sector → List ℕ → Type 0
   Whole before s rest = classesOf p changed ≡ classesFor (before ++ (replicate 12 0x00 ++ fromId s rest))
 
@@ -82,7 +82,8 @@ module _ (p : Profile) (accepts : AcceptedProfile p) (changed : List ℕ) where
   nothing-behind : (start : ℕ) → BytesAhead p changed start (replicate 54 0x4e) → entriesFrom p changed start ≡ []
   nothing-behind start ahead =
       let none : (k : ℕ) → lockAt (classesOf p (drop start changed)) k ≡ false =
-      λ k. cc (no-lock-without-gap (ahead .last) (ahead .left) (rw (ahead .bits) no-gap-in-filler) 0 k) in
+      no-lock-behind (ahead .last) (ahead .left) (rw (ahead .bits) no-gap-in-filler) 0 (classesOf p (drop start changed))
+      (ahead .classes) in
       search-ends p changed start
       (refused-is-no-lock p changed start NoLock (sym (none-is-found p changed start accepts none)))
 
@@ -97,11 +98,11 @@ module _ (p : Profile) (accepts : AcceptedProfile p) (changed : List ℕ) where
       → entriesFrom p changed start ≡ entriesBehind before (s ∷ ss)
   unfolding bytesOf entriesBehind
   sectors-listed s [] (makes, made) before start ahead whole =
-      let f = fields-found p accepts changed start s (made-of s makes) [] ahead in
+      let f = fields-found p accepts changed middle start s (made-of s makes) [] ahead in
       sector-first before s makes whole f (nothing-behind _ (f .behind))
   sectors-listed s (next ∷ ss) (makes, made) before start ahead whole =
       let rest : List ℕ = replicate 12 0x00 ++ fromId next (bytesOf ss) in
-      let f = fields-found p accepts changed start s (made-of s makes) rest ahead in
+      let f = fields-found p accepts changed middle start s (made-of s makes) rest ahead in
       sector-first before s makes whole f
       (sectors-listed next ss made (before ++ written (itemsOfSector s)) (dataEnd makes f)
       (gap-and-sync p changed _ 53 (fromId next (bytesOf ss)) (f .behind))
@@ -138,8 +139,9 @@ made-tracks-are-indexed [] few made p accepts changed moved =
     indexed-by-entries [] p changed few accepts
     (search-ends p changed 0 (refused-is-no-lock p changed 0 NoLock (sym (none .adrift 0))))
 made-tracks-are-indexed (s ∷ ss) few made p accepts changed moved =
-    let whole : Whole p accepts changed [] s (bytesOf ss) =
+    let middle = moved-reads-behind p accepts (trackItems (s ∷ ss)) changed moved in
+    let whole : Whole p accepts changed middle [] s (bytesOf ss) =
     moved-has-classes p accepts (trackItems (s ∷ ss)) changed moved
     ∙ ap classesFor (track-written freshCheck (s ∷ ss) made) in
     indexed-by-entries (s ∷ ss) p changed few accepts
-    (sectors-listed p accepts changed s ss made [] 0 (sync-at-front p changed (fromId s (bytesOf ss)) whole) whole)
+    (sectors-listed p accepts changed middle s ss made [] 0 (sync-at-front p changed (fromId s (bytesOf ss)) whole) whole)

@@ -47,7 +47,7 @@ raisedDots = (0x01 ∷ replicate 8 0xff) ++ (0x14 ∷ [])
 abbrev pub raisedClasses : List Class
 raisedClasses = classesOf worked (streamOf worked raisedDots)
 
--- under profile 58 29 8 10 12 36 73 106 139
+-- under profile 58 29 8 10 12 36 73 73 106 106 139
 pub record EveryDotRaised : Type 0 where
   -- the 64 intervals between the ones are of class 2, and those after them read 3 2 3 4 3
   pub ones : beginsWith (replicate 64 2) (drop 8 raisedClasses) ≡ true

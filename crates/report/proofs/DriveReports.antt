@@ -2,32 +2,69 @@
 -- interval is of one class. That the second list may be classed as a list of its own is the one place that needs the
 -- classing to stand as it began. Rests on no axiom.
 use Prim.Native.Nat.{ℕ}
-use mathlib.Core.Path.{_≡_, refl, sym, _∙_}
-use mathlib.Core.List.{List, [], _∷_, _++_}
-use Rattle.timing.specs.Class.{atStart, classesOf}
+use native.Mathlib.Omega.{arith}
+use mathlib.Core.Path.{_≡_, refl, sym, ap, ap₂, _∙_}
+use mathlib.Core.Bool.{true}
+use mathlib.Core.List.{List, [], _∷_, _++_, append-nil}
+use Rattle.lists.specs.Place.{anywhere, lowest}
+use Rattle.refusal.specs.Answer.{accepted}
+use Rattle.timing.specs.Profile.{unset, swing, advance, delay, isTrueShort, isTrueLong, isTrue, profileRule}
+use Rattle.timing.specs.Class.{cursorOf, atStart, classIn, behind, cursorPast, classesFrom, endsInTwo, classesOf}
 use Rattle.timing.specs.declared.Profile.{Profile}
-use Rattle.timing.proofs.ClassLaws.{classes-from-start, classes-none, classes-length, cursor-stays}
-use Rattle.report.specs.Report.{Report, rowAt, reportOf, addReports, addRule, added}
-use Rattle.report.specs.Claims.{allJoined, allAdded, Regrouped, DriveReports}
+use Rattle.timing.specs.declared.cursor.Cursor.{Cursor}
+use Rattle.timing.proofs.ClassLaws.{classes-from-start, classes-none, classes-length, cursor-starts-anew}
+use Rattle.report.specs.Row.{countIn, least, greatest, total, rowOf, addRow}
+use Rattle.report.specs.Report.{Report, rowAt, ofClass, reportBy, reportOf, reportFrom, addReports, addRule}
+use Rattle.report.specs.Report.{added}
+use Rattle.report.specs.Claims.{allJoined, allAdded, AllEndInTwo, apart, Regrouped, DriveReports}
 use Rattle.report.proofs.AddLaws.{add-reports-comm, add-reports-assoc, later-rows-fit}
 use Rattle.report.proofs.SumLaws.{row-of-sum, row-of-sum-fits, sum-is-accepted, added-if-accepted}
 use Rattle.report.proofs.ReportLaws.{report-by-append, report-from-append, report-from-start, report-of-none}
 use Rattle.report.proofs.WholeLaws.{counts-add-up, sums-add-up}
 use Rattle.report.proofs.SpanLaws.{spanned}
 
-joined : (p : Profile) (ds es : List ℕ) → reportOf p (ds ++ es) ≡ addReports (reportOf p ds) (reportOf p es)
-joined p ds es = simp (report-from-start, report-from-append, cursor-stays)
-
-all-joined : (p : Profile) (lists : List (List ℕ)) → reportOf p (allJoined lists) ≡ allAdded p lists
-unfolding allJoined allAdded
-all-joined p [] = report-from-start p [] ∙ report-of-none (atStart p)
-all-joined p (ds ∷ lists) = cc (joined p ds (allJoined lists), all-joined p lists)
-
 -- ---- no interval
 
 neutral-first : (p : Profile) (ds : List ℕ) → addReports (reportOf p []) (reportOf p ds) ≡ reportOf p ds
 unfolding reportOf
 neutral-first p ds = rw (classes-from-start p [], classes-none) (sym (report-by-append [] (classesOf p ds) [] ds refl))
+
+-- ---- lists joined
+
+joined
+    : (p : Profile) (ds es : List ℕ)
+    → endsInTwo true (classesOf p ds) ≡ true
+    → reportOf p (ds ++ es) ≡ addReports (reportOf p ds) (reportOf p es)
+joined p ds es two =
+    report-from-start p (ds ++ es)
+    ∙ report-from-append (atStart p) ds es
+    ∙ ap₂ addReports (sym (report-from-start p ds))
+    (ap (λ (c : Cursor). reportFrom c es) (cursor-starts-anew p ds two) ∙ sym (report-from-start p es))
+
+-- one more of class 2 in the second list than in the lists joined
+not-joined
+    : reportOf apart (120 ∷ 90 ∷ []) ≡ addReports (reportOf apart (120 ∷ [])) (reportOf apart (90 ∷ [])) → ⊥
+unfolding reportOf reportBy ofClass rowOf least greatest total addReports addRow
+    cursorOf atStart classIn behind cursorPast classesFrom classesOf
+not-joined same =
+    let counts : _≡_ {A = ℕ} 0 1 = ap (λ (r : Report). countIn (rowAt r 1)) same in
+    omega arith
+
+none-joined : (p : Profile) → reportOf p [] ≡ allAdded p []
+unfolding allAdded
+none-joined p = report-from-start p [] ∙ report-of-none (atStart p)
+
+all-joined
+    : (p : Profile) (lists : List (List ℕ)) → AllEndInTwo p lists → reportOf p (allJoined lists) ≡ allAdded p lists
+unfolding allJoined allAdded
+all-joined p [] ends = none-joined p
+all-joined p (ds ∷ []) ends =
+    ap (reportOf p) (append-nil ds)
+    ∙ sym (add-reports-comm (reportOf p ds) (allAdded p [])
+    ∙ ap (λ (r : Report). addReports r (reportOf p ds)) (sym (none-joined p)) ∙ neutral-first p ds)
+all-joined p (ds ∷ es ∷ lists) ends =
+    joined p ds (allJoined (es ∷ lists)) (ends .0)
+    ∙ ap (addReports (reportOf p ds)) (all-joined p (es ∷ lists) (ends .1))
 
 -- ---- the operation
 
@@ -56,12 +93,17 @@ module _ (a b c : Report) (first : addRule a b .number ≡ 0) (whole : addRule (
             ) (add-reports-assoc a b c);
       }
 
+apart-is-accepted : profileRule apart ≡ accepted 0
+unfolding anywhere lowest unset swing advance delay isTrueShort isTrueLong isTrue profileRule
+apart-is-accepted = refl
+
 pub drive-reports : DriveReports
 unfolding reportOf addRule added
 drive-reports =
     record {
       joined-there = report-from-append;
       joined = joined;
+      not-joined = (apart-is-accepted, not-joined);
       all-joined = all-joined;
       neutral-first = neutral-first;
       neutral-second = λ p ds. add-reports-comm (reportOf p ds) (reportOf p []) ∙ neutral-first p ds;

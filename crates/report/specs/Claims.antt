@@ -1,9 +1,12 @@
 -- Document 02, (i): what holds of reports, for lists of any length. No lemmas here.
 use Prim.Native.Nat.{ℕ, _<_, _≤_}
 use mathlib.Core.Path.{_≡_}
+use mathlib.Core.Bool.{true}
 use mathlib.Core.List.{List, [], _∷_, _++_, map}
 use lib.ListN.{length, getD}
-use Rattle.timing.specs.Class.{cursorAfter}
+use Rattle.refusal.specs.Answer.{accepted}
+use Rattle.timing.specs.Profile.{profileRule}
+use Rattle.timing.specs.Class.{cursorAfter, endsInTwo, classesOf}
 use Rattle.timing.specs.declared.Profile.{Profile}
 use Rattle.timing.specs.declared.cursor.Cursor.{Cursor}
 use Rattle.report.specs.Row.{countIn, sumIn, least, greatest, total}
@@ -17,6 +20,27 @@ allJoined (ds ∷ lists) = ds ++ allJoined lists
 unfoldable pub allAdded : Profile → List (List ℕ) → Report
 allAdded p [] = noReport
 allAdded p (ds ∷ lists) = addReports (reportOf p ds) (allAdded p lists)
+
+-- each but the last is empty or ends in class 2
+abbrev pub AllEndInTwo : Profile → List (List ℕ) → Type 0
+AllEndInTwo p [] = Unit {0}
+AllEndInTwo p (ds ∷ []) = Unit {0}
+AllEndInTwo p (ds ∷ es ∷ lists) = (endsInTwo true (classesOf p ds) ≡ true) × AllEndInTwo p (es ∷ lists)
+
+-- profile 58 29 0 5 5 36 95 73 120 106 139, whose bounds are far apart
+abbrev pub apart : Profile
+apart =
+    record {
+      t1 = record { 0 = 58 };
+      t0 = record { 0 = 29 };
+      early = record { 0 = 0 };
+      normal = record { 0 = 5 };
+      late = record { 0 = 5 };
+      min = record { 0 = 36 };
+      short = record { b23 = record { 0 = 95 }; b34 = record { 0 = 120 } };
+      long = record { b23 = record { 0 = 73 }; b34 = record { 0 = 106 } };
+      rpt = record { 0 = 139 };
+    }
 
 -- two numbers are the least and the greatest of some intervals
 pub record Spanned (ds : List ℕ) (low high : ℕ) : Type 0 where
@@ -37,10 +61,18 @@ pub record DriveReports : Type 0 where
   pub joined-there
       : (cursor : Cursor) (ds es : List ℕ)
       → reportFrom cursor (ds ++ es) ≡ addReports (reportFrom cursor ds) (reportFrom (cursorAfter cursor ds) es)
-  -- and classed as a list of its own
-  pub joined : (p : Profile) (ds es : List ℕ) → reportOf p (ds ++ es) ≡ addReports (reportOf p ds) (reportOf p es)
+  -- and classed as a list of its own, where the first list is empty or ends in class 2
+  pub joined
+      : (p : Profile) (ds es : List ℕ)
+      → endsInTwo true (classesOf p ds) ≡ true
+      → reportOf p (ds ++ es) ≡ addReports (reportOf p ds) (reportOf p es)
+  -- and not elsewhere: behind 120, of class 4, the interval 90 is of class 3, and as a list of its own of class 2
+  pub not-joined
+      : (profileRule apart ≡ accepted 0)
+      × (reportOf apart (120 ∷ 90 ∷ []) ≡ addReports (reportOf apart (120 ∷ [])) (reportOf apart (90 ∷ [])) → ⊥)
   -- any number of lists
-  pub all-joined : (p : Profile) (lists : List (List ℕ)) → reportOf p (allJoined lists) ≡ allAdded p lists
+  pub all-joined
+      : (p : Profile) (lists : List (List ℕ)) → AllEndInTwo p lists → reportOf p (allJoined lists) ≡ allAdded p lists
   -- the report of no interval adds nothing
   pub neutral-first : (p : Profile) (ds : List ℕ) → addReports (reportOf p []) (reportOf p ds) ≡ reportOf p ds
   pub neutral-second : (p : Profile) (ds : List ℕ) → addReports (reportOf p ds) (reportOf p []) ≡ reportOf p ds

@@ -23,7 +23,7 @@ wordOf line = upTo tab line
 unfoldable pub argumentsOf : List ℕ → List (List ℕ)
 argumentsOf line = drop 1 (piecesOf tab line)
 
--- first `profile` and nine decimals, in the order of the profile
+-- first `profile` and eleven decimals, in the order of the profile
 unfoldable pub isProfileLine : List ℕ → Bool
 isProfileLine line =
     sameText (wordOf line) (ascii "profile") &&

@@ -1,4 +1,4 @@
-// The first line: `profile` and nine decimals.
+// The first line: `profile` and eleven decimals.
 use crate::ProfileLine;
 use text::Decimal;
 use timing::PROFILE_NUMBERS;

@@ -2,14 +2,17 @@
 -- a list: each step of the cursor gives one, so that lists and their classes are joined and cut alike. Rests on no
 -- axiom.
 use Prim.Native.Nat.{ℕ, zero, suc, _≤_, _<_}
-use mathlib.Core.Path.{_≡_, refl, sym, ap}
+use mathlib.Core.Path.{_≡_, refl, sym, ap, _∙_}
+use mathlib.Core.Bool.{Bool, true, cond}
 use mathlib.Core.List.{List, [], _∷_, _++_}
 use native.Mathlib.Omega.{arith}
 use lib.ListN.{length, take, drop, getD}
 use lib.Seq.{drop-cons}
 use borrow.Author.Tests.{lt-ltb, le-ltb}
-use Rattle.timing.specs.Class.{atStart, classIn, cursorPast, classesFrom, cursorAfter, classesOf, classOf}
+use Rattle.timing.specs.Class.{cursorOf, atStart, classIn, isTwo, behind, cursorPast, classesFrom}
+use Rattle.timing.specs.Class.{cursorAfter, endsInTwo, classesOf, classOf}
 use Rattle.timing.specs.declared.Profile.{Profile}
+use Rattle.timing.specs.declared.Bounds.{Bounds}
 use Rattle.timing.specs.declared.cursor.Cursor.{Cursor}
 use Rattle.timing.specs.declared.Class.{Class}
 use Rattle.timing.specs.declared.Class.the-variants.{Narrow, Two, Three, Four, Wide}
@@ -19,46 +22,60 @@ module _ (c : Cursor) (d : ℕ) where
   unfolding classIn
   below-min-is-narrow h = rw lt-ltb
 
-  pub below-b23-is-two : c .min .0 ≤ d → d < c .b23 .0 → classIn c d ≡ Two
+  pub below-b23-is-two : c .min .0 ≤ d → d < c .bounds .b23 .0 → classIn c d ≡ Two
   unfolding classIn
   below-b23-is-two h₁ h₂ = rw (le-ltb, lt-ltb)
 
-  pub below-b34-is-three : c .min .0 ≤ d → c .b23 .0 ≤ d → d < c .b34 .0 → classIn c d ≡ Three
+  pub below-b34-is-three : c .min .0 ≤ d → c .bounds .b23 .0 ≤ d → d < c .bounds .b34 .0 → classIn c d ≡ Three
   unfolding classIn
   below-b34-is-three h₁ h₂ h₃ = rw (le-ltb, le-ltb, lt-ltb)
 
-  pub below-rpt-is-four : c .min .0 ≤ d → c .b23 .0 ≤ d → c .b34 .0 ≤ d → d < c .rpt .0 → classIn c d ≡ Four
+  pub below-rpt-is-four
+      : c .min .0 ≤ d → c .bounds .b23 .0 ≤ d → c .bounds .b34 .0 ≤ d → d < c .rpt .0 → classIn c d ≡ Four
   unfolding classIn
   below-rpt-is-four h₁ h₂ h₃ h₄ = rw (le-ltb, le-ltb, le-ltb, lt-ltb)
 
-  pub from-rpt-is-wide : c .min .0 ≤ d → c .b23 .0 ≤ d → c .b34 .0 ≤ d → c .rpt .0 ≤ d → classIn c d ≡ Wide
+  pub from-rpt-is-wide
+      : c .min .0 ≤ d → c .bounds .b23 .0 ≤ d → c .bounds .b34 .0 ≤ d → c .rpt .0 ≤ d → classIn c d ≡ Wide
   unfolding classIn
   from-rpt-is-wide h₁ h₂ h₃ h₄ = rw (le-ltb, le-ltb, le-ltb, le-ltb)
 
--- ---- one interval by itself, by the profile's numbers
+-- ---- one interval by itself, by the profile's numbers for the kind before
 
-module _ (p : Profile) (d : ℕ) where
-  pub class-below-min-is-narrow : d < p .min .0 → classOf p d ≡ Narrow
-  unfolding classOf atStart
-  class-below-min-is-narrow = below-min-is-narrow (atStart p) d
+abbrev pub boundsOf : Profile → Bool → Bounds
+boundsOf p two = cond two (p .short) (p .long)
 
-  pub class-below-b23-is-two : p .min .0 ≤ d → d < p .b23 .0 → classOf p d ≡ Two
-  unfolding classOf atStart
-  class-below-b23-is-two = below-b23-is-two (atStart p) d
+module _ (p : Profile) (two : Bool) (d : ℕ) where
+  pub class-below-min-is-narrow : d < p .min .0 → classOf p two d ≡ Narrow
+  unfolding classOf cursorOf
+  class-below-min-is-narrow = below-min-is-narrow (cursorOf p two) d
 
-  pub class-below-b34-is-three : p .min .0 ≤ d → p .b23 .0 ≤ d → d < p .b34 .0 → classOf p d ≡ Three
-  unfolding classOf atStart
-  class-below-b34-is-three = below-b34-is-three (atStart p) d
+  pub class-below-b23-is-two : p .min .0 ≤ d → d < boundsOf p two .b23 .0 → classOf p two d ≡ Two
+  unfolding classOf cursorOf
+  class-below-b23-is-two = below-b23-is-two (cursorOf p two) d
+
+  pub class-below-b34-is-three
+      : p .min .0 ≤ d → boundsOf p two .b23 .0 ≤ d → d < boundsOf p two .b34 .0 → classOf p two d ≡ Three
+  unfolding classOf cursorOf
+  class-below-b34-is-three = below-b34-is-three (cursorOf p two) d
 
   pub class-below-rpt-is-four
-      : p .min .0 ≤ d → p .b23 .0 ≤ d → p .b34 .0 ≤ d → d < p .rpt .0 → classOf p d ≡ Four
-  unfolding classOf atStart
-  class-below-rpt-is-four = below-rpt-is-four (atStart p) d
+      : p .min .0 ≤ d
+      → boundsOf p two .b23 .0 ≤ d
+      → boundsOf p two .b34 .0 ≤ d
+      → d < p .rpt .0
+      → classOf p two d ≡ Four
+  unfolding classOf cursorOf
+  class-below-rpt-is-four = below-rpt-is-four (cursorOf p two) d
 
   pub class-from-rpt-is-wide
-      : p .min .0 ≤ d → p .b23 .0 ≤ d → p .b34 .0 ≤ d → p .rpt .0 ≤ d → classOf p d ≡ Wide
-  unfolding classOf atStart
-  class-from-rpt-is-wide = from-rpt-is-wide (atStart p) d
+      : p .min .0 ≤ d
+      → boundsOf p two .b23 .0 ≤ d
+      → boundsOf p two .b34 .0 ≤ d
+      → p .rpt .0 ≤ d
+      → classOf p two d ≡ Wide
+  unfolding classOf cursorOf
+  class-from-rpt-is-wide = from-rpt-is-wide (cursorOf p two) d
 
 -- ---- the classes of a list, from where the classing stands on
 
@@ -121,36 +138,81 @@ classes-of-take p k ds = classes-take (atStart p) k ds
 
 -- ---- where the classing stands after some intervals
 
--- the edges are the same for each interval: this law and the next are the only ones that hold because of it
-pub cursor-stays : (c : Cursor) (ds : List ℕ) → cursorAfter c ds ≡ c
-unfolding cursorAfter cursorPast
-cursor-stays c [] = refl
-cursor-stays c (d ∷ ds) = cursor-stays c ds
+pub cursor-after-none : (c : Cursor) → cursorAfter c [] ≡ c
+unfolding cursorAfter
+cursor-after-none c = refl
 
-pub classes-of-drop : (p : Profile) (k : ℕ) (ds : List ℕ) → classesOf p (drop k ds) ≡ drop k (classesOf p ds)
-unfolding classesOf
-classes-of-drop p k ds = sym (simp (classes-drop, cursor-stays))
+pub cursor-after-cons : (c : Cursor) (d : ℕ) (ds : List ℕ) → cursorAfter c (d ∷ ds) ≡ cursorAfter (cursorPast c d) ds
+unfolding cursorAfter
+cursor-after-cons c d ds = refl
 
--- after an interval of class 2 the classing stands as at the start of a list
-pub classes-after-two
-    : (p : Profile) (ds : List ℕ) (k : ℕ)
+pub cursor-after-append
+    : (c : Cursor) (ds es : List ℕ) → cursorAfter c (ds ++ es) ≡ cursorAfter (cursorAfter c ds) es
+unfolding cursorAfter
+cursor-after-append c [] es = refl
+cursor-after-append c (d ∷ ds) es = cursor-after-append (cursorPast c d) ds es
+
+-- the class of the interval at a place, by where the classing stands before it
+pub class-at
+    : (c : Cursor) (ds : List ℕ) (k : ℕ)
     → k < length ds
-    → getD (classesOf p ds) k Narrow ≡ Two
-    → classesOf p (drop (suc k) ds) ≡ drop (suc k) (classesOf p ds)
-classes-after-two p ds k h two = classes-of-drop p (suc k) ds
+    → getD (classesFrom c ds) k Narrow ≡ classIn (cursorAfter c (take k ds)) (getD ds k 0)
+unfolding classesFrom cursorAfter
+class-at c [] k h = absurd (omega arith)
+class-at c (d ∷ ds) zero h = refl
+class-at c (d ∷ ds) (suc k) h = class-at (cursorPast c d) ds k (omega arith)
 
--- ---- each interval by itself, as the margin asks for it
+-- behind an interval it goes by whether that is of class 2, and by nothing before it
+module _ (p : Profile) where
+  pub cursor-past : (two : Bool) (d : ℕ) → cursorPast (cursorOf p two) d ≡ cursorOf p (isTwo (classOf p two d))
+  unfolding cursorPast behind cursorOf classOf
+  cursor-past two d = refl
 
-pub classes-of-cons : (p : Profile) (d : ℕ) (ds : List ℕ) → classesOf p (d ∷ ds) ≡ classOf p d ∷ classesOf p ds
-unfolding classesOf classesFrom classOf cursorPast
-classes-of-cons p d ds = refl
+  pub cursor-behind
+      : (two : Bool) (ds : List ℕ) (k : ℕ)
+      → k < length ds
+      → cursorAfter (cursorOf p two) (take (suc k) ds)
+      ≡ cursorOf p (isTwo (getD (classesFrom (cursorOf p two) ds) k Narrow))
+  unfolding cursorAfter classesFrom classOf
+  cursor-behind two [] k h = absurd (omega arith)
+  cursor-behind two (d ∷ ds) zero h = cursor-past two d
+  cursor-behind two (d ∷ ds) (suc k) h =
+      cc (cursor-past two d, cursor-behind (isTwo (classOf p two d)) ds k (omega arith))
+
+  pub cursor-after-list
+      : (two : Bool) (ds : List ℕ)
+      → cursorAfter (cursorOf p two) ds ≡ cursorOf p (endsInTwo two (classesFrom (cursorOf p two) ds))
+  unfolding cursorAfter classesFrom endsInTwo classOf
+  cursor-after-list two [] = refl
+  cursor-after-list two (d ∷ ds) = cc (cursor-past two d, cursor-after-list (isTwo (classOf p two d)) ds)
+
+  -- behind a list that is empty or ends in class 2 the classing stands as at the start
+  pub cursor-starts-anew
+      : (ds : List ℕ) → endsInTwo true (classesOf p ds) ≡ true → cursorAfter (atStart p) ds ≡ atStart p
+  unfolding classesOf atStart
+  cursor-starts-anew ds two = cursor-after-list true ds ∙ ap (cursorOf p) two
+
+  -- the classes of a list, of which the first follows one of class 2, or one of another
+  pub classes-of-cons
+      : (two : Bool) (d : ℕ) (ds : List ℕ)
+      → classesFrom (cursorOf p two) (d ∷ ds)
+      ≡ classOf p two d ∷ classesFrom (cursorOf p (isTwo (classOf p two d))) ds
+  unfolding classOf
+  classes-of-cons two d ds = classes-cons (cursorOf p two) d ds
+      ∙ ap (λ (c : Cursor). classOf p two d ∷ classesFrom c ds) (cursor-past two d)
+
+  -- after an interval of class 2 the classing stands as at the start of a list
+  pub classes-after-two
+      : (ds : List ℕ) (k : ℕ)
+      → k < length ds
+      → getD (classesOf p ds) k Narrow ≡ Two
+      → classesOf p (drop (suc k) ds) ≡ drop (suc k) (classesOf p ds)
+  unfolding classesOf atStart
+  classes-after-two ds k h two =
+      sym (classes-drop (cursorOf p true) (suc k) ds
+      ∙ ap (λ (c : Cursor). classesFrom c (drop (suc k) ds))
+      (cursor-behind true ds k h ∙ ap (λ (x : Class). cursorOf p (isTwo x)) two))
 
 pub classes-of-none : (p : Profile) → classesOf p [] ≡ []
 unfolding classesOf classesFrom
 classes-of-none p = refl
-
-pub class-at
-    : (p : Profile) (ds : List ℕ) (k : ℕ) → k < length ds → getD (classesOf p ds) k Narrow ≡ classOf p (getD ds k 0)
-class-at p [] k h = absurd (omega arith)
-class-at p (d ∷ ds) zero h = rw classes-of-cons
-class-at p (d ∷ ds) (suc k) h = rw classes-of-cons (class-at p ds k (omega arith))

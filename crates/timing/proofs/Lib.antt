@@ -1,5 +1,9 @@
 pub mod ClassLaws
 pub mod RangeLaws
 pub mod ProfileLaws
+pub mod StandLaws
 pub mod EdgeLaws
 pub mod UnitsLaws
+pub mod SteadyLaws
+pub mod MiddleLaws
+pub mod EqualPairs

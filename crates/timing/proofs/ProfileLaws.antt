@@ -10,26 +10,34 @@ use Rattle.lists.specs.Place.{anywhere, lowest, passed}
 use Rattle.lists.proofs.BoolLaws.{both}
 use Rattle.refusal.specs.Answer.{accepted, refused, refuseIf}
 use Rattle.timing.specs.Numbers.{ranges, numbersOf}
-use Rattle.timing.specs.Profile.{unset, swing, isTrue, profileRule, lowestUnset, InRange}
+use Rattle.timing.specs.Profile.{unset, swing, advance, delay, isTrueShort, isTrueLong, isTrue, profileRule}
+use Rattle.timing.specs.Profile.{lowestUnset, InRange}
 use Rattle.timing.specs.declared.Profile.{Profile}
 use Rattle.timing.proofs.RangeLaws.{none-outside-all-inside, unsetFrom}
 
--- all that an accepted profile means
+-- all that an accepted profile means: for each side of an edge, that the lengths there stand on that side
 pub record Kept (p : Profile) : Type 0 where
   pub ranges : InRange p
   pub early-first : p .early .0 ≤ p .normal .0
   pub late-last : p .normal .0 ≤ p .late .0
-  pub two-from : p .min .0 + swing p ≤ p .t1 .0
-  pub two-below : p .t1 .0 < p .b23 .0
-  pub three-from : p .b23 .0 ≤ p .t1 .0 + p .t0 .0
-  pub three-below : p .t1 .0 + p .t0 .0 + swing p < p .b34 .0
-  pub four-from : p .b34 .0 ≤ p .t1 .0 + 2 * p .t0 .0
-  pub four-below : p .t1 .0 + 2 * p .t0 .0 + swing p < p .rpt .0
+  pub early-point : 2 * p .early .0 + advance p ≡ 2 * p .normal .0
+  pub late-point : 2 * p .normal .0 + delay p ≡ 2 * p .late .0
+  pub parts : swing p ≡ advance p + delay p
+  pub above-min : p .min .0 + swing p ≤ p .t1 .0
+  pub below-b23-short : p .t1 .0 < p .short .b23 .0
+  pub above-b23-short : p .short .b23 .0 ≤ p .t1 .0 + p .t0 .0 + advance p
+  pub below-b23-long : p .t1 .0 < p .long .b23 .0 + delay p
+  pub above-b23-long : p .long .b23 .0 ≤ p .t1 .0 + p .t0 .0
+  pub below-b34-short : p .t1 .0 + p .t0 .0 + swing p < p .short .b34 .0
+  pub above-b34-short : p .short .b34 .0 ≤ p .t1 .0 + 2 * p .t0 .0 + advance p
+  pub below-b34-long : p .t1 .0 + p .t0 .0 + delay p < p .long .b34 .0
+  pub above-b34-long : p .long .b34 .0 ≤ p .t1 .0 + 2 * p .t0 .0
+  pub below-rpt : p .t1 .0 + 2 * p .t0 .0 + swing p < p .rpt .0
 
-first-holds : (a b : Bool) → (a && b) ≡ true → a ≡ true
+pub first-holds : (a b : Bool) → (a && b) ≡ true → a ≡ true
 first-holds a b e = both a b e .0
 
-second-holds : (a b : Bool) → (a && b) ≡ true → b ≡ true
+pub second-holds : (a b : Bool) → (a && b) ≡ true → b ≡ true
 second-holds a b e = both a b e .1
 
 -- ---- ranges
@@ -49,11 +57,30 @@ accepts-tests true true-one place e = absurd (omega arith)
 accepts-tests false true place e = (refl, refl)
 accepts-tests false false place e = absurd (omega arith)
 
+-- the distances between points that are in order
+pub early-part : (p : Profile) → p .early .0 ≤ p .normal .0 → 2 * p .early .0 + advance p ≡ 2 * p .normal .0
+unfolding advance
+early-part p h = omega arith
+
+pub late-part : (p : Profile) → p .normal .0 ≤ p .late .0 → 2 * p .normal .0 + delay p ≡ 2 * p .late .0
+unfolding delay
+late-part p h = omega arith
+
+pub both-parts : (p : Profile) → p .early .0 ≤ p .normal .0 → p .normal .0 ≤ p .late .0 → swing p ≡ advance p + delay p
+unfolding swing advance delay
+both-parts p h g = omega arith
+
+-- what a profile means that is in range and true
+pub kept-if-true : (p : Profile) → InRange p → isTrue p ≡ true → Kept p
+unfolding isTrue isTrueShort isTrueLong
+kept-if-true p within true-one =
+    search (within, true-one, early-part, late-part, both-parts, leb-true, ltb-true, first-holds, second-holds) depth 14
+
 pub kept : (p : Profile) → profileRule p .number ≡ 0 → Kept p
-unfolding profileRule isTrue
+unfolding profileRule
 kept p e =
     let (in-ranges, windows) = accepts-tests (anywhere passed (unset p)) (isTrue p) (lowest passed (unset p)) e in
-    search (none-unset-in-range p in-ranges, leb-true, ltb-true, first-holds, second-holds) depth 9
+    kept-if-true p (none-unset-in-range p in-ranges) windows
 
 -- a number that is out of range decides the rule; where none is, the windows do
 rule-by-place

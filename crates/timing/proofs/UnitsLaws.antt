@@ -9,7 +9,8 @@ use lib.Dec.{leb}
 use lib.ListN.{length, drop, getD}
 use lib.Seq.{drop-cons}
 use Rattle.lists.proofs.BoolLaws.{one-at-most}
-use Rattle.timing.specs.Class.{classIn, isCell, classNumber, cursorPast, cursorAfter, Ascending}
+use Rattle.timing.specs.Class.{classIn, isCell, classNumber, cursorPast, cursorAfter}
+use Rattle.timing.specs.Class.{Ascending}
 use Rattle.timing.specs.machine.Edges.{unitsIn, unitsFrom}
 use Rattle.timing.specs.declared.cursor.Cursor.{Cursor}
 use Rattle.timing.proofs.EdgeLaws.{by-edges}
@@ -18,7 +19,7 @@ module _ (c : Cursor) (d : ℕ) where
   pub units-in-range : (2 ≤ unitsIn c d) × (unitsIn c d ≤ 4)
   unfolding unitsIn
   units-in-range =
-      (omega arith, omega (arith, one-at-most (leb (c .b23 .0) d), one-at-most (leb (c .b34 .0) d)))
+      (omega arith, omega (arith, one-at-most (leb (c .bounds .b23 .0) d), one-at-most (leb (c .bounds .b34 .0) d)))
 
   pub units-of-cell : Ascending c → isCell (classIn c d) ≡ true → unitsIn c d ≡ classNumber (classIn c d)
   unfolding unitsIn
@@ -44,12 +45,6 @@ unfolding unitsFrom cursorAfter
 units-append c [] es = refl
 units-append c (d ∷ ds) es = ap (λ (us : List ℕ). unitsIn c d ∷ us) (units-append (cursorPast c d) ds es)
 
-pub cursor-after-append
-    : (c : Cursor) (ds es : List ℕ) → cursorAfter c (ds ++ es) ≡ cursorAfter (cursorAfter c ds) es
-unfolding cursorAfter
-cursor-after-append c [] es = refl
-cursor-after-append c (d ∷ ds) es = cursor-after-append (cursorPast c d) ds es
-
 -- what is left from a place on
 module _ (c : Cursor) (ds : List ℕ) (k : ℕ) (inside : k < length ds) where
   abbrev d : ℕ
@@ -62,7 +57,3 @@ module _ (c : Cursor) (ds : List ℕ) (k : ℕ) (inside : k < length ds) where
   pub cursor-here : cursorAfter c (drop k ds) ≡ cursorAfter (cursorPast c d) (drop (suc k) ds)
   unfolding cursorAfter
   cursor-here = rw (drop-cons ds k 0 inside)
-
-pub cursor-after-none : (c : Cursor) → cursorAfter c [] ≡ c
-unfolding cursorAfter
-cursor-after-none c = refl

@@ -1,4 +1,5 @@
 pub mod Numbers
 pub mod Profile
 pub mod Class
+pub mod EqualPairs
 pub mod machine

@@ -1,7 +1,9 @@
-// Document 01, "Profile": the nine numbers, when they are true, and the class of an interval.
+// Document 01, "Profile", with document 02, (ix): the eleven numbers, when they are true, and the class of an interval.
 mod rule;
 
+pub use rule::advance;
 pub use rule::check;
+pub use rule::delay;
 pub use rule::swing;
 ghost use mathlib.Core.Path.{_≡_};
 ghost use Prim.Native.Nat.{_*_, _<_};
@@ -33,7 +35,7 @@ impl Clocks {
 }
 
 // How many numbers a profile has.
-pub const PROFILE_NUMBERS: usize = 9;
+pub const PROFILE_NUMBERS: usize = 11;
 
 // The least and the greatest that a number may be.
 pub struct Range {
@@ -41,8 +43,13 @@ pub struct Range {
     pub high: u16,
 }
 
-// A drive's timing, in document 01's order. Any 16-bit number can stand in each place; `check` says whether it may be
-// used.
+// The bounds between the windows of classes 2, 3 and 4, after one kind of interval.
+pub struct Bounds {
+    pub b23: HalfClocks,
+    pub b34: HalfClocks,
+}
+
+// A drive's timing. Any 16-bit number can stand in each place; `check` says whether it may be used.
 pub struct Profile {
     pub t1: HalfClocks,
     pub t0: HalfClocks,
@@ -50,13 +57,15 @@ pub struct Profile {
     pub normal: Clocks,
     pub late: Clocks,
     pub min: HalfClocks,
-    pub b23: HalfClocks,
-    pub b34: HalfClocks,
+    // after an interval of class 2
+    pub short: Bounds,
+    // after any other
+    pub long: Bounds,
     pub rpt: HalfClocks,
 }
 
 impl Profile {
-    // The profile of nine numbers in document 01's order.
+    // The profile of eleven numbers in document 02's order.
     pub fn from_numbers(numbers: &[u16; PROFILE_NUMBERS]) -> Profile
         ensures { λ r. ⌜ r ≡ fromNumbers (now (numbers .entry)) ⌝ }
     {
@@ -67,9 +76,15 @@ impl Profile {
             normal: Clocks(numbers[3]),
             late: Clocks(numbers[4]),
             min: HalfClocks(numbers[5]),
-            b23: HalfClocks(numbers[6]),
-            b34: HalfClocks(numbers[7]),
-            rpt: HalfClocks(numbers[8]),
+            short: Bounds {
+                b23: HalfClocks(numbers[6]),
+                b34: HalfClocks(numbers[8]),
+            },
+            long: Bounds {
+                b23: HalfClocks(numbers[7]),
+                b34: HalfClocks(numbers[9]),
+            },
+            rpt: HalfClocks(numbers[10]),
         }
     }
 
@@ -84,8 +99,10 @@ impl Profile {
             self.normal.0,
             self.late.0,
             self.min.0,
-            self.b23.0,
-            self.b34.0,
+            self.short.b23.0,
+            self.long.b23.0,
+            self.short.b34.0,
+            self.long.b34.0,
             self.rpt.0,
         ]
     }
@@ -115,14 +132,14 @@ impl Class {
     }
 }
 
-// The class operation: the class's number, after 1 and 2.
-pub fn class_number(p: Profile, interval: u16) -> Counted
-    ensures { λ r. ⌜ countedAnswer r ≡ classRule p interval ⌝ }
+// The class operation, told whether the interval before was of class 2: the class's number, after 1 and 2.
+pub fn class_number(p: Profile, interval: u16, two: bool) -> Counted
+    ensures { λ r. ⌜ countedAnswer r ≡ classRule p two interval ⌝ }
 {
     match check(p) {
         Verdict::Refused(refusal) => Counted::Refused(refusal),
         Verdict::Accepted => {
-            let class = Cursor::start(p).step(interval).class;
+            let class = Cursor::after(p, two).step(interval).class;
             Counted::Count(class.number())
         }
     }

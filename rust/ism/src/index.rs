@@ -55,10 +55,14 @@ fn entry(e: &sys::IndexEntry) -> IndexEntry {
     }
 }
 
-/// The sectors of a track: each ID whose sum holds, with the data behind it.
+/// The sectors of a track: each ID whose sum holds, with the data behind it. Each search for a lock is one of
+/// [`find_lock`](crate::find_lock).
 ///
 /// ```no_run
-/// # let profile = ism::Profile { t1: 58, t0: 29, early: 8, normal: 10, late: 12, min: 36, b23: 73, b34: 106, rpt: 139 };
+/// # let profile = ism::Profile {
+/// #     t1: 58, t0: 29, early: 8, normal: 10, late: 12, min: 36,
+/// #     b23_short: 73, b23_long: 73, b34_short: 106, b34_long: 106, rpt: 139,
+/// # };
 /// # let intervals = [0; 64];
 /// for entry in ism::index_track(profile, &intervals)?.entries() {
 ///     let good = entry.data.is_some_and(|data| data.holds);

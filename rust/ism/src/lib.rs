@@ -5,7 +5,10 @@
 //! front of the output and leaves the rest as it was.
 //!
 //! ```no_run
-//! let profile = ism::Profile { t1: 58, t0: 29, early: 8, normal: 10, late: 12, min: 36, b23: 73, b34: 106, rpt: 139 };
+//! let profile = ism::Profile {
+//!     t1: 58, t0: 29, early: 8, normal: 10, late: 12, min: 36,
+//!     b23_short: 73, b23_long: 73, b34_short: 106, b34_long: 106, rpt: 139,
+//! };
 //! let mut intervals = [0; 64];
 //! let count = ism::write(profile, &[ism::MARK_A1, 0xFE, ism::CHECK], &mut intervals)?;
 //! let mut items = [0; 16];
@@ -47,7 +50,8 @@ pub const MAX_FIELD_BYTES: u64 = 1_030;
 /// Items that [`make_sector`] adds to the data.
 pub const SECTOR_OVERHEAD: usize = 114;
 
-/// The class of an interval.
+/// The class of an interval. Its edges depend on whether the interval before it is of class 2; the first interval of a
+/// strip, of a field, of a report's list and of a search counts as coming after class 2.
 #[derive(Clone, Copy, Debug, PartialEq, Eq, PartialOrd, Ord)]
 pub enum Class {
     Narrow,
@@ -104,10 +108,11 @@ pub fn margin(profile: Profile) -> Result<u64, Refusal> {
     Ok(accepted(answer)?.count)
 }
 
-/// The class of one interval, and how far it is inside its window.
-pub fn classify(profile: Profile, interval: u16) -> Result<Classed, Refusal> {
+/// The class of one interval, and how far it is inside its window. `after_short` tells whether the interval before it
+/// was of class 2; it is `true` for the first.
+pub fn classify(profile: Profile, interval: u16, after_short: bool) -> Result<Classed, Refusal> {
     // SAFETY: numbers in, numbers out
-    let answer = accepted(unsafe { sys::ism_class(profile, interval) })?;
+    let answer = accepted(unsafe { sys::ism_class(profile, interval, u32::from(after_short)) })?;
     let class = match answer.count {
         1 => Class::Narrow,
         2 => Class::Two,
@@ -140,6 +145,9 @@ pub fn read(profile: Profile, intervals: &[u16], out: &mut [u16]) -> Result<Stri
 }
 
 /// The first place at which a mark stands behind 64 intervals of class 2, all of them at or after `start`.
+///
+/// The interval at `start` counts as coming after class 2, whatever stands before it: the place found is that in the
+/// list from there on, and `start` added.
 pub fn find_lock(profile: Profile, intervals: &[u16], start: u64) -> Result<usize, Refusal> {
     // SAFETY: the pointer comes with the length of its slice
     let answer = unsafe { sys::ism_find(profile, intervals.as_ptr(), intervals.len(), start) };

@@ -7,7 +7,7 @@ use crate::sys::Answer;
 /// A refusal with its number and place. A refused call has changed no buffer.
 #[derive(Clone, Copy, Debug, PartialEq, Eq, Hash)]
 pub enum Refusal {
-    /// 1, unset: a profile number is out of range; `field` is which of the nine, 1 to 9, the lowest
+    /// 1, unset: a profile number is out of range; `field` is which of the eleven, 1 to 11, the lowest
     ProfileOutOfRange { field: u32 },
     /// 2, crossed: the windows of the profile miss its own cell lengths
     ProfileInconsistent,
@@ -111,7 +111,7 @@ impl Refusal {
 impl fmt::Display for Refusal {
     fn fmt(&self, f: &mut fmt::Formatter<'_>) -> fmt::Result {
         match self {
-            Refusal::ProfileOutOfRange { field } => write!(f, "profile number {field} of 9 is out of range"),
+            Refusal::ProfileOutOfRange { field } => write!(f, "profile number {field} of 11 is out of range"),
             Refusal::ProfileInconsistent => write!(f, "the profile's windows miss its own cell lengths"),
             Refusal::NotAnItem { place } => {
                 write!(f, "number {place} of the list is no data byte, mark A1 or C2, or check order")

@@ -17,7 +17,9 @@ impl Report {
         self.rows[class as usize]
     }
 
-    /// Two reports added: the report of their lists joined. A row whose count is 0 is passed over.
+    /// Two reports added: the figures of both lists, each classed from its own beginning. That is the report of the
+    /// lists joined where the first is empty or ends in class 2, or where the profile's pairs are equal; elsewhere it
+    /// need not be. A row whose count is 0 is passed over.
     ///
     /// Refused: too long, where a count or a sum does not fit in 64 bits.
     pub fn add(self, other: Report) -> Result<Report, Refusal> {
@@ -30,7 +32,7 @@ impl Report {
     }
 }
 
-/// The report of one list of intervals.
+/// The report of one list of intervals, the first of them classed as after class 2.
 ///
 /// Refusals in order: profile, too many intervals.
 pub fn drive_report(profile: Profile, intervals: &[u16]) -> Result<Report, Refusal> {

@@ -1,7 +1,7 @@
 //! The C interface as `include/ism.h` declares it. The header says what each function gives; prefer the safe functions
 //! of this crate.
 
-/// `ism_profile`
+/// `ism_profile`: the timing of one drive type. The header gives the ranges and says when a profile is true.
 #[repr(C)]
 #[derive(Clone, Copy, Debug, PartialEq, Eq)]
 pub struct Profile {
@@ -11,8 +11,14 @@ pub struct Profile {
     pub normal: u16,
     pub late: u16,
     pub min: u16,
-    pub b23: u16,
-    pub b34: u16,
+    /// lower edge of class 3 after an interval of class 2
+    pub b23_short: u16,
+    /// lower edge of class 3 after an interval of any other class
+    pub b23_long: u16,
+    /// lower edge of class 4 after an interval of class 2
+    pub b34_short: u16,
+    /// lower edge of class 4 after an interval of any other class
+    pub b34_long: u16,
     pub rpt: u16,
 }
 
@@ -94,7 +100,7 @@ pub struct FifoAnswer {
 
 extern "C" {
     pub fn ism_margin(profile: Profile) -> Answer;
-    pub fn ism_class(profile: Profile, interval: u16) -> Answer;
+    pub fn ism_class(profile: Profile, interval: u16, after_short: u32) -> Answer;
     pub fn ism_write(profile: Profile, items: *const u16, n: usize, out: *mut u16, room: usize) -> Answer;
     pub fn ism_read(profile: Profile, intervals: *const u16, n: usize, out: *mut u16, room: usize) -> Answer;
     pub fn ism_find(profile: Profile, intervals: *const u16, n: usize, start: u64) -> Answer;

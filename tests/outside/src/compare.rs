@@ -9,12 +9,11 @@ use ism::sys::{self, Answer};
 use ism::{Classed, Field, Profile, Refusal, SectorId, Strip};
 
 use crate::call::{Call, Cell, Expected, Reply, ACCEPTED};
-use crate::paper::{self, CellShape, Nine};
+use crate::paper::{self, Eleven};
 use crate::random::Random;
 
 /// Runs cases and counts them by group, and the refusals by function.
 pub struct Compare {
-    pub shapes: Vec<CellShape>,
     groups: Vec<u64>,
     seen: BTreeMap<(&'static str, u32), u64>,
 }
@@ -31,14 +30,14 @@ pub fn count_answer(count: usize) -> Answer {
     Answer { count: count as u64, ..ACCEPTED }
 }
 
-pub fn profile(nine: &Nine) -> Profile {
-    let [t1, t0, early, normal, late, min, b23, b34, rpt] = *nine;
-    Profile { t1, t0, early, normal, late, min, b23, b34, rpt }
+pub fn profile(eleven: &Eleven) -> Profile {
+    let [t1, t0, early, normal, late, min, b23_short, b23_long, b34_short, b34_long, rpt] = *eleven;
+    Profile { t1, t0, early, normal, late, min, b23_short, b23_long, b34_short, b34_long, rpt }
 }
 
 impl Compare {
     pub fn new() -> Self {
-        Compare { shapes: paper::cell_shapes(), groups: Vec::new(), seen: BTreeMap::new() }
+        Compare { groups: Vec::new(), seen: BTreeMap::new() }
     }
 
     /// Runs a group of cases with random numbers of its own. The name comes first, in case a call does not return.
@@ -82,14 +81,13 @@ impl Compare {
         self.count(call.name, number);
     }
 
-    pub fn margin(&mut self, nine: &Nine) {
-        let p = profile(nine);
-        let shapes = self.shapes.clone();
+    pub fn margin(&mut self, eleven: &Eleven) {
+        let p = profile(eleven);
         let call = Call::<u16> {
             name: "ism_margin",
-            arguments: format!("profile {nine:?}"),
+            arguments: format!("profile {eleven:?}"),
             room: 0,
-            paper: &|_| Expected::new(paper::margin(nine, &shapes).map(Expected::count)),
+            paper: &|_| Expected::new(paper::margin(eleven).map(Expected::count)),
             // SAFETY: numbers in, numbers out
             interface: &|_, _| unsafe { sys::ism_margin(p) },
             wrapper: Some(&|_, _| from_wrapper(ism::margin(p), |count| count_answer(count as usize))),
@@ -97,32 +95,40 @@ impl Compare {
         self.run(&[], call);
     }
 
-    pub fn class(&mut self, nine: &Nine, interval: u16) {
-        let p = profile(nine);
+    /// After an interval of class 2 and after another.
+    pub fn class(&mut self, eleven: &Eleven, interval: u16) {
+        self.class_after(eleven, interval, 1);
+        self.class_after(eleven, interval, 0);
+    }
+
+    /// Told by this number whether the interval before was of class 2.
+    pub fn class_after(&mut self, eleven: &Eleven, interval: u16, number: u32) {
+        let p = profile(eleven);
+        let after_short = number != 0;
         let answer =
             |classed: Classed| Answer { clearance: classed.clearance, ..count_answer(1 + classed.class as usize) };
         let call = Call::<u16> {
             name: "ism_class",
-            arguments: format!("profile {nine:?}, interval {interval}"),
+            arguments: format!("profile {eleven:?}, interval {interval}, after_short {number}"),
             room: 0,
             paper: &|_| {
-                let given = |number| Expected::count(number).cleared(paper::clearance(nine, interval));
-                Expected::new(paper::class(nine, interval).map(given))
+                let given = |class| Expected::count(class).cleared(paper::clearance(eleven, after_short, interval));
+                Expected::new(paper::class(eleven, after_short, interval).map(given))
             },
             // SAFETY: numbers in, numbers out
-            interface: &|_, _| unsafe { sys::ism_class(p, interval) },
-            wrapper: Some(&|_, _| from_wrapper(ism::classify(p, interval), answer)),
+            interface: &|_, _| unsafe { sys::ism_class(p, interval, number) },
+            wrapper: Some(&|_, _| from_wrapper(ism::classify(p, interval, after_short), answer)),
         };
         self.run(&[], call);
     }
 
-    pub fn write(&mut self, nine: &Nine, items: &[u16], room: usize) {
-        let p = profile(nine);
+    pub fn write(&mut self, eleven: &Eleven, items: &[u16], room: usize) {
+        let p = profile(eleven);
         let call = Call {
             name: "ism_write",
-            arguments: format!("profile {nine:?}"),
+            arguments: format!("profile {eleven:?}"),
             room,
-            paper: &|items| Expected::new(paper::write(nine, items, room).map(Expected::list)),
+            paper: &|items| Expected::new(paper::write(eleven, items, room).map(Expected::list)),
             // SAFETY: each pointer comes with the length of its slice
             interface: &|items: &[u16], out| unsafe {
                 sys::ism_write(p, items.as_ptr(), items.len(), out.as_mut_ptr(), out.len())
@@ -132,16 +138,16 @@ impl Compare {
         self.run(items, call);
     }
 
-    pub fn read(&mut self, nine: &Nine, intervals: &[u16], room: usize) {
-        let p = profile(nine);
+    pub fn read(&mut self, eleven: &Eleven, intervals: &[u16], room: usize) {
+        let p = profile(eleven);
         let answer = |strip: Strip| Answer { clearance: strip.clearance, ..count_answer(strip.items) };
         let call = Call {
             name: "ism_read",
-            arguments: format!("profile {nine:?}"),
+            arguments: format!("profile {eleven:?}"),
             room,
             paper: &|intervals| {
-                let given = |items| Expected::list(items).cleared(paper::least_clearance(nine, intervals));
-                Expected::new(paper::read(nine, intervals, room).map(given))
+                let given = |items| Expected::list(items).cleared(paper::least_clearance(eleven, intervals));
+                Expected::new(paper::read(eleven, intervals, room).map(given))
             },
             // SAFETY: each pointer comes with the length of its slice
             interface: &|intervals: &[u16], out| unsafe {
@@ -152,13 +158,13 @@ impl Compare {
         self.run(intervals, call);
     }
 
-    pub fn find(&mut self, nine: &Nine, intervals: &[u16], start: u64) {
-        let p = profile(nine);
+    pub fn find(&mut self, eleven: &Eleven, intervals: &[u16], start: u64) {
+        let p = profile(eleven);
         let call = Call::<u16> {
             name: "ism_find",
-            arguments: format!("profile {nine:?}, start {start}"),
+            arguments: format!("profile {eleven:?}, start {start}"),
             room: 0,
-            paper: &|intervals| Expected::new(paper::find(nine, intervals, start).map(Expected::count)),
+            paper: &|intervals| Expected::new(paper::find(eleven, intervals, start).map(Expected::count)),
             // SAFETY: the pointer comes with the length of its slice
             interface: &|intervals: &[u16], _| unsafe { sys::ism_find(p, intervals.as_ptr(), intervals.len(), start) },
             wrapper: Some(&|intervals, _| from_wrapper(ism::find_lock(p, intervals, start), count_answer)),
@@ -166,8 +172,8 @@ impl Compare {
         self.run(intervals, call);
     }
 
-    pub fn field(&mut self, nine: &Nine, intervals: &[u16], bytes: u64, room: usize) {
-        let p = profile(nine);
+    pub fn field(&mut self, eleven: &Eleven, intervals: &[u16], bytes: u64, room: usize) {
+        let p = profile(eleven);
         let answer = |field: Field| Answer {
             used: field.used as u64,
             holds: u32::from(field.holds),
@@ -176,9 +182,9 @@ impl Compare {
         };
         let call = Call {
             name: "ism_read_field",
-            arguments: format!("profile {nine:?}, bytes {bytes}"),
+            arguments: format!("profile {eleven:?}, bytes {bytes}"),
             room,
-            paper: &|intervals| Expected::new(paper::read_field(nine, intervals, bytes, room).map(Expected::field)),
+            paper: &|intervals| Expected::new(paper::read_field(eleven, intervals, bytes, room).map(Expected::field)),
             // SAFETY: each pointer comes with the length of its slice
             interface: &|intervals: &[u16], out| unsafe {
                 sys::ism_read_field(p, intervals.as_ptr(), intervals.len(), bytes, out.as_mut_ptr(), out.len())

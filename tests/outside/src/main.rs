@@ -47,6 +47,13 @@ fn library() {
     compare.group("profile ranges", 0x10, profiles::ranges);
     compare.group("random profiles", 0x11, profiles::random_profiles);
     compare.group("classes", 0x12, profiles::classes);
+    compare.group("cells written", 0x13, profiles::cells_written);
+    compare.group("pairs: every side of an edge", 0x14, cases::pairs::every_side);
+    compare.group("pairs: numbers out of range", 0x15, cases::pairs::out_of_range);
+    compare.group("pairs: equal, by the old rules", 0x16, cases::pairs::equal_pairs);
+    compare.group("pairs: what they are for", 0x17, cases::pairs::larger_margin);
+    compare.group("pairs: search from every start", 0x18, cases::pairs::every_start);
+    compare.group("pairs: searches by hand", 0x19, cases::pairs::searches_by_hand);
     compare.group("every list up to two items", 0x20, strips::every_short_list);
     compare.group("every number as an item", 0x21, strips::every_number);
     compare.group("random lists", 0x22, strips::random_lists);
@@ -77,6 +84,7 @@ fn library() {
     compare.group("locks: sector of raised dots", 0x54, cases::locks::full_sector);
     compare.group("locks: every end of a run", 0x55, cases::locks::every_tail);
     compare.group("locks: data alone", 0x56, cases::locks::data_alone);
+    compare.group("locks: data from every start", 0x58, cases::locks::data_from_every_start);
     compare.group("locks: marks", 0x57, cases::locks::marks);
     compare.group("every length code", 0x60, sectors::every_code);
     compare.group("sectors there and back", 0x61, sectors::there_and_back);
@@ -115,6 +123,7 @@ fn library() {
     compare.group("index: sizes told", 0xC2, cases::indexes::told::sizes);
     compare.group("index: search after the ID", 0xC3, cases::indexes::told::search_after_id);
     compare.group("index: search after a lock", 0xCE, cases::indexes::told::search_after_lock);
+    compare.group("index: searches begun anew", 0xCF, cases::indexes::told::searches_anew);
     compare.group("index: every interval", 0xC4, cases::indexes::every_interval);
     compare.group("index: counts", 0xC5, cases::indexes::counts);
     compare.group("index: the 33rd entry", 0xC6, cases::indexes::thirty_third);

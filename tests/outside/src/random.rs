@@ -1,6 +1,10 @@
 //! Random numbers from a fixed seed (SplitMix64), and the random inputs that several groups of cases share.
 
-use crate::paper::{Nine, CHECK_ORDER};
+mod profiles;
+
+pub use profiles::{last_on_side, EDGE_SIDES};
+
+use crate::paper::{Eleven, CHECK_ORDER};
 
 pub struct Random {
     state: u64,
@@ -57,79 +61,6 @@ impl Random {
         (0..count).map(|_| self.byte()).collect()
     }
 
-    /// A true profile; windows and precompensation reach their ends often.
-    pub fn true_profile(&mut self) -> Nine {
-        let points = self.points();
-        let least = 2 * (points[2] - points[0]) + 1;
-        let t1 = self.between_with_edges(least, 1023);
-        let t0 = self.between_with_edges(least, 1023);
-        self.windows(t1, t0, points)
-    }
-
-    /// As `true_profile`, with T1 twice T0.
-    pub fn even_profile(&mut self) -> Nine {
-        let points = self.points();
-        let t0 = self.between_with_edges(2 * (points[2] - points[0]) + 1, 511);
-        self.windows(2 * t0, t0, points)
-    }
-
-    /// Early, Normal, Late.
-    fn points(&mut self) -> [u64; 3] {
-        let early = self.between_with_edges(0, 15);
-        let late = self.between_with_edges(early, 15);
-        [early, self.between_with_edges(early, late), late]
-    }
-
-    /// The profile with windows for these lengths.
-    fn windows(&mut self, t1: u64, t0: u64, [early, normal, late]: [u64; 3]) -> Nine {
-        let d = 2 * (late - early);
-        let min = self.between_with_edges(1, t1 - d);
-        let b23 = self.between_with_edges(t1 + 1, t1 + t0);
-        let b34 = self.between_with_edges(t1 + t0 + d + 1, t1 + 2 * t0);
-        let rpt = self.between_with_edges(t1 + 2 * t0 + d + 1, 4095);
-        [t1, t0, early, normal, late, min, b23, b34, rpt].map(|number| number as u16)
-    }
-
-    /// A profile in range of which one condition fails by a little, or the points are out of order.
-    pub fn crossed_profile(&mut self) -> Nine {
-        let mut nine = self.true_profile();
-        let [t1, t0, early, _, late, ..] = nine;
-        let d = 2 * (late - early);
-        let more = self.between(0, 2) as u16;
-        match self.between(0, 8) {
-            0 => nine[5] = t1 - d + 1 + more,
-            1 => nine[6] = t1 - more.min(t1 - 1),
-            2 => nine[6] = t1 + t0 + 1 + more,
-            3 => nine[7] = t1 + t0 + d - more.min(t1),
-            4 => nine[7] = t1 + 2 * t0 + 1 + more,
-            5 => nine[8] = t1 + 2 * t0 + d - more.min(t1),
-            6 => nine.swap(2, 4),
-            7 => nine[3] = self.between(0, 15) as u16,
-            _ => nine.swap(3, 4),
-        }
-        nine
-    }
-
-    /// Some of the nine numbers out of range, at the edges or far off.
-    pub fn unset_profile(&mut self) -> Nine {
-        let mut nine = if self.one_in(2) { self.true_profile() } else { self.crossed_profile() };
-        for _ in 0..self.between(1, 3) {
-            let which = self.index(9);
-            nine[which] = match which {
-                2..=4 => self.pick(&[16, 17, 255, 256, 65535]),
-                0 | 1 => self.pick(&[0, 1024, 1025, 65535]),
-                _ => self.pick(&[0, 4096, 4097, 65535]),
-            };
-        }
-        nine
-    }
-
-    /// Nine numbers with no plan, in range or nearly so.
-    pub fn any_profile(&mut self) -> Nine {
-        let most = [1024, 1024, 16, 16, 16, 4096, 4096, 4096, 4096];
-        most.map(|m| self.between_with_edges(0, m) as u16)
-    }
-
     /// A data byte, a mark or a check order.
     pub fn item(&mut self) -> u16 {
         match self.between(0, 15) {
@@ -163,9 +94,11 @@ impl Random {
         self.between_with_edges(0, most) as usize
     }
 
-    /// An interval of a class, often at the edge of its window.
-    pub fn interval(&mut self, nine: &Nine, letter: char) -> u16 {
-        let [min, b23, b34, rpt] = [nine[5], nine[6], nine[7], nine[8]].map(u64::from);
+    /// An interval of a class after class 2 or after another, often at the edge of its window.
+    pub fn interval_after(&mut self, eleven: &Eleven, after_short: bool, letter: char) -> u16 {
+        let [min, b23_short, b23_long, b34_short, b34_long, rpt] =
+            [5, 6, 7, 8, 9, 10].map(|which| u64::from(eleven[which]));
+        let (b23, b34) = if after_short { (b23_short, b34_short) } else { (b23_long, b34_long) };
         let (least, most) = match letter {
             'n' => (0, min - 1),
             '2' => (min, b23 - 1),
@@ -176,8 +109,21 @@ impl Random {
         self.between_with_edges(least, most) as u16
     }
 
-    pub fn intervals(&mut self, nine: &Nine, letters: &str) -> Vec<u16> {
-        letters.chars().map(|letter| self.interval(nine, letter)).collect()
+    /// As `interval_after`, after either.
+    pub fn interval(&mut self, eleven: &Eleven, letter: char) -> u16 {
+        let after_short = self.one_in(2);
+        self.interval_after(eleven, after_short, letter)
+    }
+
+    /// An interval at or between the two numbers of a pair, whose class the interval before decides if they differ.
+    pub fn interval_between(&mut self, [short, long]: [u16; 2]) -> u16 {
+        self.between_with_edges(u64::from(short.min(long)) - 1, u64::from(short.max(long))) as u16
+    }
+
+    /// Intervals that have these classes one after the other, the first after class 2.
+    pub fn intervals(&mut self, eleven: &Eleven, letters: &str) -> Vec<u16> {
+        let before = "2".chars().chain(letters.chars());
+        letters.chars().zip(before).map(|(letter, b)| self.interval_after(eleven, b == '2', letter)).collect()
     }
 
     /// A room for a result of so many elements: exact, one short, none, larger, or any.

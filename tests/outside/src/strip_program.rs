@@ -5,20 +5,19 @@ use std::process::{exit, Command, ExitStatus, Output, Stdio};
 use std::time::Duration;
 
 use crate::cases::strip_texts as texts;
-use crate::paper::{self, strip, CellShape};
+use crate::paper::strip;
 use crate::random::Random;
 
 const SEED: u64 = 0xA0;
 
 pub struct Program {
     path: String,
-    shapes: Vec<CellShape>,
     cases: u64,
 }
 
 /// Compares the program at `path` on many inputs.
 pub fn compare(path: &str) {
-    let mut program = Program { path: path.to_string(), shapes: paper::cell_shapes(), cases: 0 };
+    let mut program = Program { path: path.to_string(), cases: 0 };
     let random = &mut Random::new(SEED);
     for (name, group) in texts::GROUPS {
         let before = program.cases;
@@ -48,7 +47,7 @@ impl Program {
     }
 
     fn check(&mut self, input: &[u8], feed: impl Fn(&mut dyn Write) -> std::io::Result<()>) {
-        let expected = strip::output(input, &self.shapes);
+        let expected = strip::output(input);
         let output = self.output_of(feed);
         let ended = ended_by_itself(output.status);
         if output.stdout != expected.as_bytes() || !output.stderr.is_empty() || !ended {

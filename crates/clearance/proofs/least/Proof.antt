@@ -3,16 +3,18 @@
 use mathlib.Core.Path.{sym}
 use native.Mathlib.Omega.{arith}
 use borrow.Author.Needs.{needs}
+use mathlib.Core.Bool.{true}
 use Rattle.clearance.specs.Clearance.{leastClearance}
-use Rattle.clearance.proofs.CursorLaws.{ascending-at-start}
+use Rattle.timing.specs.Class.{atStart}
+use Rattle.clearance.proofs.CursorLaws.{reachable}
 use Rattle.clearance.proofs.LeastLaws.{least-from-none}
 use Rattle.clearance.proofs.least.Statement.{statement}
 use Rattle.clearance.proofs.least.Tie as tie
 
 pub least-spec : {M : Type 1} → statement M
-unfolding leastClearance
+unfolding leastClearance atStart
 least-spec =
     tie.close
     (tie.spec (λ c. sym (least-from-none _ _ (c .if1 .taken))) (λ c. search needs)
-    (λ c κs. (rw (c .start .ensures) (ascending-at-start _ (c .before .before .before .pre)), omega arith))
+    (λ c κs. (rw (c .start .ensures) (reachable _ true (c .before .before .before .pre)), omega arith))
     (λ c. rw (c .least-from .ensures, c .before .start .ensures)))

@@ -3,7 +3,7 @@
 use native.Mathlib.Omega.{arith}
 use borrow.Author.Needs.{needs}
 use Rattle.clearance.specs.Clearance.{clearanceOf}
-use Rattle.clearance.proofs.CursorLaws.{ascending-at-start}
+use Rattle.clearance.proofs.CursorLaws.{reachable}
 use Rattle.clearance.proofs.LeastLaws.{least-from-one}
 use Rattle.clearance.proofs.of_interval.Statement.{statement}
 use Rattle.clearance.proofs.of_interval.Tie as tie
@@ -13,5 +13,5 @@ unfolding clearanceOf
 of-interval-spec =
     tie.close
     (tie.spec (λ c. search needs) (λ c. search needs)
-    (λ c κs. (rw (c .before .start .ensures) (ascending-at-start _ (c .before .before .pre)), omega arith))
-    (λ c. rw (c .least-from .ensures, c .before .before .start .ensures, least-from-one)))
+    (λ c κs. (rw (c .before .after .ensures) (reachable _ _ (c .before .before .pre)), omega arith))
+    (λ c. rw (c .least-from .ensures, c .before .before .after .ensures, least-from-one)))

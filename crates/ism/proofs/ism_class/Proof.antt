@@ -1,6 +1,7 @@
 -- Why `ism::ism_class` answers as the library does: it hands the arguments over and the answer back, with the clearance
 -- where the class was given. Rests on no axiom.
 use mathlib.Core.Path.{_≡_, refl}
+use lib.Dec.{ltb}
 use borrow.Author.Needs.{needs}
 use Rattle.refusal.proofs.AnswerLaws.{first-refusal-accepts}
 use Rattle.timing.specs.Class.{classRule}
@@ -13,7 +14,7 @@ use Rattle.ism.proofs.ism_class.Tie as tie
 answered
     : (c : tie.After-answer)
     → let start = c .before .before .before .args in
-    c .answer .result ≡ answerOf (classRule (profileOf (start .p)) (start .interval))
+    c .answer .result ≡ answerOf (classRule (profileOf (start .p)) (ltb 0 (start .two)) (start .interval))
 answered c = rw (c .answer .ensures, c .before .class-number .ensures, c .before .before .profile .ensures)
 
 returns : tie.Need-returns

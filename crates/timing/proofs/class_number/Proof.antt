@@ -14,7 +14,7 @@ returns-2 : tie.Need-returns-2
 unfolding classRule classOf
 returns-2 c =
     let checked = c .before .before .before in
-    rw (c .number .ensures, c .before .step .ensures, c .before .before .start .ensures)
+    rw (c .number .ensures, c .before .step .ensures, c .before .before .after .ensures)
     (verdict-passes _ _ _ (checked .before .before .check .ensures) (checked .enum-told .given .1))
 
 pub class-number-spec : {M : Type 1} → statement M

@@ -1,7 +1,7 @@
 //! Inputs with every combination of faults at once: the paper's order says which is answered.
 
 use crate::compare::Compare;
-use crate::paper::{classes, stream_of, written_count, Nine, CHECK_ORDER, LOCK_ENDS, MOST_BYTES, MOST_INTERVALS};
+use crate::paper::{classes, stream_of, written_count, Eleven, CHECK_ORDER, LOCK_ENDS, MOST_BYTES, MOST_INTERVALS};
 use crate::random::Random;
 
 /// A choice among the faults of a function, one bit for each.
@@ -17,23 +17,23 @@ impl Faults {
 pub const UNSET: u32 = 0;
 pub const CROSSED: u32 = 1;
 
-pub fn profile_with(faults: Faults, random: &mut Random) -> Nine {
+pub fn profile_with(faults: Faults, random: &mut Random) -> Eleven {
     match (faults.has(UNSET), faults.has(CROSSED)) {
         (true, false) => random.unset_profile(),
         (false, false) => random.true_profile(),
         (false, true) => random.crossed_profile(),
         (true, true) => {
-            let mut nine = random.crossed_profile();
-            nine[random.index(9)] = 5000;
-            nine
+            let mut eleven = random.crossed_profile();
+            eleven[random.index(11)] = 5000;
+            eleven
         }
     }
 }
 
 /// A true profile to build intervals with, whatever profile the call gets.
-pub fn building_profile(nine: &Nine, random: &mut Random) -> Nine {
-    if crate::paper::check_profile(nine).is_ok() {
-        *nine
+pub fn building_profile(eleven: &Eleven, random: &mut Random) -> Eleven {
+    if crate::paper::check_profile(eleven).is_ok() {
+        *eleven
     } else {
         random.true_profile()
     }
@@ -54,7 +54,7 @@ pub fn writer(compare: &mut Compare, random: &mut Random) {
     const FULL: u32 = 4;
     for faults in (0..1 << 5).map(Faults) {
         for _ in 0..40 {
-            let nine = profile_with(faults, random);
+            let eleven = profile_with(faults, random);
             let length = random.between(1, 30) as usize;
             let mut items = random.items(length);
             if faults.has(OVERLONG) {
@@ -67,7 +67,7 @@ pub fn writer(compare: &mut Compare, random: &mut Random) {
                 *items.last_mut().expect("at least one item") = random.foreign();
             }
             let room = if faults.has(FULL) { room_with(true, exact / 3, random) } else { exact };
-            compare.write(&nine, &items, room);
+            compare.write(&eleven, &items, room);
         }
     }
 }
@@ -83,8 +83,8 @@ pub fn reader(compare: &mut Compare, random: &mut Random) {
     for faults in (0..1 << 9).map(Faults) {
         let long = faults.has(MANY_INTERVALS) || faults.has(MANY_BYTES);
         for _ in 0..if long { 2 } else { 30 } {
-            let nine = profile_with(faults, random);
-            let building = building_profile(&nine, random);
+            let eleven = profile_with(faults, random);
+            let building = building_profile(&eleven, random);
             let mut items = vec![0x00];
             let length = random.between(0, 8) as usize;
             items.extend(random.items(length));
@@ -103,7 +103,7 @@ pub fn reader(compare: &mut Compare, random: &mut Random) {
             }
             let intervals = with_faulty_intervals(&building, &letters, faults.has(NARROW), faults.has(WIDE), random);
             let room = room_with(faults.has(FULL), written_count(&items).min(MOST_BYTES), random);
-            compare.read(&nine, &intervals, room);
+            compare.read(&eleven, &intervals, room);
         }
     }
 }
@@ -125,15 +125,15 @@ fn make_ragged(letters: &mut String, random: &mut Random) {
     }
 }
 
-fn with_faulty_intervals(nine: &Nine, letters: &str, narrow: bool, wide: bool, random: &mut Random) -> Vec<u16> {
-    let mut intervals = random.intervals(nine, letters);
+fn with_faulty_intervals(eleven: &Eleven, letters: &str, narrow: bool, wide: bool, random: &mut Random) -> Vec<u16> {
+    let mut intervals = random.intervals(eleven, letters);
     let first = random.index(intervals.len());
     let second = (first + 1 + random.index(intervals.len() - 1)) % intervals.len();
     if narrow {
-        intervals[first] = random.interval(nine, 'n');
+        intervals[first] = random.interval(eleven, 'n');
     }
     if wide {
-        intervals[second] = random.interval(nine, 'w');
+        intervals[second] = random.interval(eleven, 'w');
     }
     intervals
 }
@@ -142,12 +142,12 @@ pub fn finder(compare: &mut Compare, random: &mut Random) {
     const ADRIFT: u32 = 2;
     for faults in (0..1 << 3).map(Faults) {
         for _ in 0..60 {
-            let nine = profile_with(faults, random);
-            let building = building_profile(&nine, random);
+            let eleven = profile_with(faults, random);
+            let building = building_profile(&eleven, random);
             let sync = if faults.has(ADRIFT) { 63 } else { 64 };
             let letters = "4".to_string() + &"2".repeat(sync) + random.pick(&LOCK_ENDS);
             let intervals = random.intervals(&building, &letters);
-            compare.find(&nine, &intervals, random.between(0, 1));
+            compare.find(&eleven, &intervals, random.between(0, 1));
         }
     }
 }
@@ -161,8 +161,8 @@ pub fn field(compare: &mut Compare, random: &mut Random) {
     const FULL: u32 = 7;
     for faults in (0..1 << 8).map(Faults) {
         for _ in 0..40 {
-            let nine = profile_with(faults, random);
-            let building = building_profile(&nine, random);
+            let eleven = profile_with(faults, random);
+            let building = building_profile(&eleven, random);
             let mut items = vec![0x00];
             let length = random.between(0, 8) as usize;
             items.extend(random.items(length));
@@ -177,7 +177,7 @@ pub fn field(compare: &mut Compare, random: &mut Random) {
             let bytes = written_count(&items) as u64;
             let room = room_with(faults.has(FULL), bytes as usize, random);
             let bytes = if faults.has(MISCOUNT) { random.pick(&[0, 1031, (1 << 32) + 1, u64::MAX]) } else { bytes };
-            compare.field(&nine, &intervals, bytes, room);
+            compare.field(&eleven, &intervals, bytes, room);
         }
     }
 }
@@ -201,23 +201,23 @@ pub fn maker(compare: &mut Compare, random: &mut Random) {
 /// reader and for fields that end about it: what comes after a field's intervals is not looked at.
 pub fn at_each_place(compare: &mut Compare, random: &mut Random) {
     for _ in 0..6 {
-        let nine = random.true_profile();
+        let eleven = random.true_profile();
         let items = random.items(40);
-        let stream = stream_of(&nine, &items);
+        let stream = stream_of(&eleven, &items);
         let written = written_count(&items);
         for place in 0..stream.len() {
             let mut changed = stream.clone();
             let letter = random.pick(&['n', 'w']);
-            changed[place] = random.interval(&nine, letter);
+            changed[place] = random.interval(&eleven, letter);
             if random.one_in(3) {
                 let later = place + random.index(stream.len() - place);
                 let letter = random.pick(&['n', 'w', '4']);
-                changed[later] = random.interval(&nine, letter);
+                changed[later] = random.interval(&eleven, letter);
             }
-            compare.read(&nine, &changed, written);
+            compare.read(&eleven, &changed, written);
             let before = (place as u64 * written as u64 / stream.len() as u64).max(1);
             for bytes in [before.saturating_sub(1).max(1), before, before + 1, before + 2] {
-                compare.field(&nine, &changed, bytes, written + 2);
+                compare.field(&eleven, &changed, bytes, written + 2);
             }
         }
     }

@@ -2,24 +2,24 @@
 
 use super::strips::damage;
 use crate::compare::Compare;
-use crate::paper::{stream_of, written_count, Nine, CHECK_ORDER, LOCK_ENDS};
+use crate::paper::{stream_of, written_count, Eleven, CHECK_ORDER, LOCK_ENDS};
 use crate::random::Random;
 
 /// Tracks with sync runs about 64 long, locks whole and broken, and starts about them.
 pub fn finder(compare: &mut Compare, random: &mut Random) {
     for _ in 0..8_000 {
-        let nine = random.true_profile();
+        let eleven = random.true_profile();
         let letters = track_letters(random);
-        let mut intervals = random.intervals(&nine, &letters);
+        let mut intervals = random.intervals(&eleven, &letters);
         if random.one_in(3) {
-            damage(&nine, &mut intervals, random);
+            damage(&eleven, &mut intervals, random);
         }
         let start = start_about(&letters, random);
-        compare.find(&nine, &intervals, start);
+        compare.find(&eleven, &intervals, start);
     }
 }
 
-fn track_letters(random: &mut Random) -> String {
+pub fn track_letters(random: &mut Random) -> String {
     let a1 = ["34343", "34343", "3434", "34342", "34323", "43434", "3n343", "3434w", "33343", ""];
     let c2 = ["3234342343", "3234342343", "323434234", "32343423", "3234342342", "3234342333", "3234342443"];
     let half = ["32343", "3234", "32342", "3234332343", "3234343434", "3234332", "323434234w", "n234342343"];
@@ -51,41 +51,41 @@ fn start_about(letters: &str, random: &mut Random) -> u64 {
 /// Real tracks: sectors one after the other, found one after the other and read field by field.
 pub fn tracks(compare: &mut Compare, random: &mut Random) {
     for _ in 0..6 {
-        let nine = random.true_profile();
+        let eleven = random.true_profile();
         let mut items = Vec::new();
         for sector in 1..=3 {
             let data = random.bytes(128);
             items.extend(crate::paper::make_sector([7, 0, sector, 0], &data, 242).expect("128 bytes"));
         }
-        let track = stream_of(&nine, &items);
+        let track = stream_of(&eleven, &items);
         let mut start = 0;
-        while let Ok(place) = crate::paper::find(&nine, &track, start) {
-            compare.find(&nine, &track, start);
+        while let Ok(place) = crate::paper::find(&eleven, &track, start) {
+            compare.find(&eleven, &track, start);
             for bytes in [3, 4, 10, 11, 134, 135] {
-                compare.field(&nine, &track[place as usize..], bytes, 135);
+                compare.field(&eleven, &track[place as usize..], bytes, 135);
             }
             start = place;
         }
-        compare.find(&nine, &track, start);
+        compare.find(&eleven, &track, start);
     }
 }
 
 /// Random fields: whole, cut short, damaged, with and without marks and check bytes; counts about the true one.
 pub fn fields(compare: &mut Compare, random: &mut Random) {
     for _ in 0..30_000 {
-        let nine = random.true_profile();
-        let (mut stream, bytes) = field_stream(&nine, random);
+        let eleven = random.true_profile();
+        let (mut stream, bytes) = field_stream(&eleven, random);
         if random.one_in(2) {
-            damage(&nine, &mut stream, random);
+            damage(&eleven, &mut stream, random);
         }
         let bytes = count_about(bytes, random);
         let room = random.room(bytes.min(2_000) as usize);
-        compare.field(&nine, &stream, bytes, room);
+        compare.field(&eleven, &stream, bytes, room);
     }
 }
 
 /// The stream of a list, perhaps with marks in front and a check order behind, and its written bytes.
-fn field_stream(nine: &Nine, random: &mut Random) -> (Vec<u16>, u64) {
+fn field_stream(eleven: &Eleven, random: &mut Random) -> (Vec<u16>, u64) {
     let mark = random.pick(&[0x1A1, 0x1C2]);
     let mut items = vec![mark; random.between(0, 3) as usize];
     let length = random.length(40);
@@ -93,7 +93,7 @@ fn field_stream(nine: &Nine, random: &mut Random) -> (Vec<u16>, u64) {
     if random.one_in(2) {
         items.push(CHECK_ORDER);
     }
-    (stream_of(nine, &items), written_count(&items) as u64)
+    (stream_of(eleven, &items), written_count(&items) as u64)
 }
 
 fn count_about(bytes: u64, random: &mut Random) -> u64 {

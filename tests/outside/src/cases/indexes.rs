@@ -7,7 +7,7 @@ pub mod told;
 use super::faults::{building_profile, profile_with, Faults};
 use super::margins::shifted;
 use super::strips::damage;
-use super::WORKED;
+use super::{APART, WORKED};
 use crate::compare::Compare;
 use crate::paper::index::{index_track, MOST_ENTRIES};
 use crate::paper::{make_sector, stream_of, LOCK_ENDS};
@@ -18,12 +18,14 @@ use pieces::{id, items_of, random_piece, small_data, Piece, A1};
 /// A track of a sector and an ID, ended and begun at every interval, and every interval of its fields changed.
 pub fn every_interval(compare: &mut Compare, random: &mut Random) {
     let short = |piece: Piece| Piece { gap: vec![0x4E; 3], ..piece };
-    let track = stream_of(&WORKED, &items_of(&[short(id(1, 0)), short(small_data()), short(id(2, 0))]));
+    let items = items_of(&[short(id(1, 0)), short(small_data()), short(id(2, 0))]);
+    let track = stream_of(&WORKED, &items);
     for place in 0..=track.len() {
         compare.index(&WORKED, &track[..place]);
     }
-    for place in 0..300 {
-        compare.index(&WORKED, &track[place..]);
+    for eleven in [WORKED, APART] {
+        let track = stream_of(&eleven, &items);
+        (0..300).for_each(|place| compare.index(&eleven, &track[place..]));
     }
     let middle = 330..track.len() - 300;
     for place in (0..track.len()).filter(|place| !middle.contains(place)) {
@@ -107,9 +109,9 @@ pub fn faults(compare: &mut Compare, random: &mut Random) {
     let tracks = [entries(1, true), entries(MOST_ENTRIES + 1, false)].map(|pieces| items_of(&pieces));
     for faults in (0..1 << 3).map(Faults) {
         for _ in 0..20 {
-            let nine = profile_with(faults, random);
-            let building = building_profile(&nine, random);
-            compare.index(&nine, &stream_of(&building, &tracks[usize::from(faults.has(CROWDED))]));
+            let eleven = profile_with(faults, random);
+            let building = building_profile(&eleven, random);
+            compare.index(&eleven, &stream_of(&building, &tracks[usize::from(faults.has(CROWDED))]));
         }
     }
 }
@@ -118,16 +120,16 @@ pub fn faults(compare: &mut Compare, random: &mut Random) {
 pub fn random_fields(compare: &mut Compare, random: &mut Random) {
     let mut kinds = [0; 3];
     for _ in 0..500 {
-        let nine = random.true_profile();
+        let eleven = random.true_profile();
         let pieces: Vec<Piece> = (0..random.between(1, 8)).map(|which| random_piece(which % 2 == 0, random)).collect();
-        let stream = stream_of(&nine, &items_of(&pieces));
-        compare.index(&nine, &shifted(&nine, &stream, random));
+        let stream = stream_of(&eleven, &items_of(&pieces));
+        compare.index(&eleven, &shifted(&eleven, &stream, random));
         let mut damaged = stream;
         for _ in 0..random.between(1, 4) {
-            damage(&nine, &mut damaged, random);
+            damage(&eleven, &mut damaged, random);
         }
-        compare.index(&nine, &damaged);
-        for entry in index_track(&nine, &damaged).expect("at most four IDs") {
+        compare.index(&eleven, &damaged);
+        for entry in index_track(&eleven, &damaged).expect("at most four IDs") {
             kinds[entry.data.map_or(0, |data| 1 + usize::from(data.holds))] += 1;
         }
     }
@@ -154,15 +156,15 @@ fn random_ids(count: usize, most_code: u64, random: &mut Random) -> Vec<[u8; 4]>
 /// Tracks of made sectors with some damage.
 pub fn damaged_sectors(compare: &mut Compare, random: &mut Random) {
     for _ in 0..60 {
-        let nine = random.true_profile();
+        let eleven = random.true_profile();
         let ids = random_ids(3, 1, random);
-        let track = stream_of(&nine, &made_sectors(&ids, random));
+        let track = stream_of(&eleven, &made_sectors(&ids, random));
         for _ in 0..6 {
             let mut damaged = track.clone();
             for _ in 0..random.between(1, 5) {
-                damage(&nine, &mut damaged, random);
+                damage(&eleven, &mut damaged, random);
             }
-            compare.index(&nine, &damaged);
+            compare.index(&eleven, &damaged);
         }
     }
 }
@@ -170,11 +172,11 @@ pub fn damaged_sectors(compare: &mut Compare, random: &mut Random) {
 /// A track of made sectors, every interval moved by at most the margin, has exactly these, with their data and sums.
 pub fn made_tracks(compare: &mut Compare, random: &mut Random) {
     for count in (1..=8).chain([9, 16, 26, 31, 32]) {
-        let nine = random.true_profile();
+        let eleven = random.true_profile();
         let ids = random_ids(count, if count <= 9 { 3 } else { 0 }, random);
-        let track = shifted(&nine, &stream_of(&nine, &made_sectors(&ids, random)), random);
-        compare.index(&nine, &track);
-        let index = library_index(&nine, &track);
+        let track = shifted(&eleven, &stream_of(&eleven, &made_sectors(&ids, random)), random);
+        compare.index(&eleven, &track);
+        let index = library_index(&eleven, &track);
         let entry = |which: usize| index.entries[which];
         let same = |(which, id): (usize, &[u8; 4])| {
             let e = entry(which);
@@ -217,7 +219,7 @@ pub fn long_tracks(compare: &mut Compare, random: &mut Random) {
 /// Intervals without a plan but for the runs that make locks.
 pub fn random_classes(compare: &mut Compare, random: &mut Random) {
     for _ in 0..1_000 {
-        let nine = random.true_profile();
+        let eleven = random.true_profile();
         let mut letters = String::new();
         for _ in 0..random.between(1, 5) {
             letters += &"2".repeat(random.pick(&[63, 64, 64, 65, 80]));
@@ -226,7 +228,7 @@ pub fn random_classes(compare: &mut Compare, random: &mut Random) {
             let more = random.between(0, 60);
             letters.extend((0..more).map(|_| random.pick(&among)));
         }
-        let intervals = random.intervals(&nine, &letters);
-        compare.index(&nine, &intervals);
+        let intervals = random.intervals(&eleven, &letters);
+        compare.index(&eleven, &intervals);
     }
 }

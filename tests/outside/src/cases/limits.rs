@@ -1,8 +1,8 @@
 //! Every limit of the paper from both sides, and outputs exact, one short and empty.
 
-use super::WORKED;
+use super::{APART, HALFWAY, REVERSED, WORKED};
 use crate::compare::Compare;
-use crate::paper::{stream_of, written_count, CHECK_ORDER, LOCK_ENDS, MOST_BYTES, MOST_INTERVALS};
+use crate::paper::{stream_of, written_count, Eleven, CHECK_ORDER, LOCK_ENDS, MOST_BYTES, MOST_INTERVALS};
 use crate::random::Random;
 
 /// Lists about 6,400 items and written bytes.
@@ -41,28 +41,33 @@ pub fn read(compare: &mut Compare, random: &mut Random) {
     let shortest = WORKED[0];
     for count in [MOST_INTERVALS - 8, MOST_INTERVALS - 1, MOST_INTERVALS, MOST_INTERVALS + 1, 65_536, 65_538, 131_074] {
         let mut stream = vec![shortest; count];
-        read_in_rooms(compare, &stream);
+        read_in_rooms(compare, &WORKED, &stream);
         for interval in [0, 65535] {
             stream[random.index(count)] = interval;
-            read_in_rooms(compare, &stream);
+            read_in_rooms(compare, &HALFWAY, &stream);
         }
     }
     for count in [MOST_BYTES - 1, MOST_BYTES, MOST_BYTES + 1, MOST_BYTES + 300] {
-        for item in [0x00, 0xFF, 0xAA, 0x55, 0x1A1, 0x1C2, 0xEE] {
-            read_in_rooms(compare, &stream_of(&WORKED, &vec![item; count]));
+        for (item, eleven) in [0x00, 0xFF, 0xAA, 0x55, 0x1A1, 0x1C2, 0xEE].into_iter().zip(profiles()) {
+            read_in_rooms(compare, &eleven, &stream_of(&eleven, &vec![item; count]));
         }
         let mut stream = stream_of(&WORKED, &vec![0xAA; count]);
         stream.pop();
-        read_in_rooms(compare, &stream);
-        stream.push(WORKED[7]);
-        read_in_rooms(compare, &stream);
+        read_in_rooms(compare, &WORKED, &stream);
+        stream.push(WORKED[8]);
+        read_in_rooms(compare, &WORKED, &stream);
     }
 }
 
-fn read_in_rooms(compare: &mut Compare, stream: &[u16]) {
+fn read_in_rooms(compare: &mut Compare, eleven: &Eleven, stream: &[u16]) {
     for room in [MOST_BYTES, MOST_BYTES - 1, MOST_BYTES + 1, 0] {
-        compare.read(&WORKED, stream, room);
+        compare.read(eleven, stream, room);
     }
+}
+
+/// Equal and unequal pairs in turn.
+fn profiles() -> impl Iterator<Item = Eleven> {
+    [WORKED, HALFWAY, APART, REVERSED].into_iter().cycle()
 }
 
 /// Field counts about 0, 1,030 and the largest numbers, on lists long enough, one short, and empty.
@@ -72,12 +77,13 @@ pub fn field(compare: &mut Compare, random: &mut Random) {
     let huge = [1 << 16, 1 << 32, 1 << 61, u64::MAX / 8, u64::MAX / 8 + 1, u64::MAX];
     for bytes in [0, 1, 2, 1029, 1030, 1031, 1032, 2000].into_iter().chain(wrapping).chain(huge) {
         let length = bytes.min(2_000) as usize;
-        for items in [vec![0; length], vec![0xFF; length], vec![0x1A1; length], random.items(length)] {
+        let lists = [vec![0; length], vec![0xFF; length], vec![0x1A1; length], random.items(length)];
+        for (items, eleven) in lists.into_iter().zip(profiles()) {
             let items = if written_count(&items) > length { vec![0x55; length] } else { items };
-            let stream = stream_of(&WORKED, &items);
+            let stream = stream_of(&eleven, &items);
             for end in [stream.len(), stream.len() - 1, stream.len() - 2, stream.len() / 2, 0] {
                 for room in [length, length.saturating_sub(1), length + 1, 0] {
-                    compare.field(&WORKED, &stream[..end], bytes, room);
+                    compare.field(&eleven, &stream[..end], bytes, room);
                 }
             }
         }
@@ -91,15 +97,16 @@ pub fn finder(compare: &mut Compare, random: &mut Random) {
         let cut = &lock[..lock.len() - 1];
         let gap = "3".repeat(100_000);
         let huge = [100_000, 100_001, 99_999, 100_069, 100_070, 1 << 32, (1 << 32) + 100_000, u64::MAX - 63, u64::MAX];
-        for letters in [lock.clone(), lock.clone() + &gap, gap.clone() + &lock, gap.clone(), gap.clone() + cut] {
-            let intervals = random.intervals(&WORKED, &letters);
+        let tracks = [lock.clone(), lock.clone() + &gap, gap.clone() + &lock, gap.clone(), gap.clone() + cut];
+        for (letters, eleven) in tracks.iter().zip(profiles()) {
+            let intervals = random.intervals(&eleven, letters);
             for start in [0, 1, 2].into_iter().chain(huge) {
-                compare.find(&WORKED, &intervals, start);
+                compare.find(&eleven, &intervals, start);
             }
         }
-        for length in 60..80 {
-            let intervals = random.intervals(&WORKED, &(lock.clone() + &lock)[..length]);
-            compare.find(&WORKED, &intervals, 0);
+        for (length, eleven) in (60..80).zip(profiles()) {
+            let intervals = random.intervals(&eleven, &(lock.clone() + &lock)[..length]);
+            compare.find(&eleven, &intervals, 0);
         }
     }
 }

@@ -5,7 +5,7 @@ use ism::Refusal;
 use super::margins::shifted;
 use super::WORKED;
 use crate::compare::{profile, Compare};
-use crate::paper::{classes, make_sector, stream_of, Nine, CHECK_ORDER};
+use crate::paper::{classes, make_sector, stream_of, Eleven, CHECK_ORDER};
 use crate::random::Random;
 
 /// Bits as data bytes, 0s behind them up to a whole byte.
@@ -20,9 +20,9 @@ fn items_of(bits: &str) -> Vec<u16> {
 }
 
 /// No lock stands from `start` on.
-fn unlocked(compare: &mut Compare, nine: &Nine, stream: &[u16], start: u64) {
-    compare.find(nine, stream, start);
-    let found = ism::find_lock(profile(nine), stream, start);
+fn unlocked(compare: &mut Compare, eleven: &Eleven, stream: &[u16], start: u64) {
+    compare.find(eleven, stream, start);
+    let found = ism::find_lock(profile(eleven), stream, start);
     compare.claim(&format!("no lock from {start} on in {stream:?}"), found == Err(Refusal::NoLock));
 }
 
@@ -83,19 +83,29 @@ pub fn every_tail(compare: &mut Compare, _: &mut Random) {
 /// Data bytes and check orders with long runs, their streams as written and moved within the margin.
 pub fn data_alone(compare: &mut Compare, random: &mut Random) {
     for _ in 0..3_000 {
-        let nine = random.true_profile();
-        let mut items = Vec::new();
-        for _ in 0..random.between(1, 5) {
-            items.extend(data_piece(random));
-        }
-        let stream = stream_of(&nine, &items);
-        let moved = shifted(&nine, &stream, random);
+        let eleven = random.true_profile();
+        let stream = stream_of(&eleven, &data_items(5, random));
+        let moved = shifted(&eleven, &stream, random);
         let start = random.between(0, stream.len() as u64);
         for stream in [&stream, &moved] {
-            unlocked(compare, &nine, stream, 0);
-            unlocked(compare, &nine, stream, start);
+            unlocked(compare, &eleven, stream, 0);
+            unlocked(compare, &eleven, stream, start);
         }
     }
+}
+
+/// The same searched from every start: it counts as coming after class 2, whatever was written before it.
+pub fn data_from_every_start(compare: &mut Compare, random: &mut Random) {
+    for _ in 0..150 {
+        let eleven = random.true_profile();
+        let stream = shifted(&eleven, &stream_of(&eleven, &data_items(2, random)), random);
+        (0..=stream.len() as u64).for_each(|start| unlocked(compare, &eleven, &stream, start));
+    }
+}
+
+/// Some pieces of data.
+fn data_items(most: u64, random: &mut Random) -> Vec<u16> {
+    (0..random.between(1, most)).flat_map(|_| data_piece(random)).collect()
 }
 
 /// A run of equal bits with some other bits behind it, bytes of any kind, or check orders.
@@ -139,10 +149,10 @@ pub fn marks(compare: &mut Compare, random: &mut Random) {
         unlocked(compare, &WORKED, &list(&[0x1C2]), 0);
     }
     for _ in 0..2_000 {
-        let nine = random.true_profile();
+        let eleven = random.true_profile();
         let behind = [(); 4].map(|_| random.pick(&[0x1C2, 0x1C2, 0x1A1, 0xC2, 0xA1, 0xFF, 0x00]));
         let items = [vec![random.pick(&[0x00, 0xFF]); 9], behind.to_vec()].concat();
-        let moved = shifted(&nine, &stream_of(&nine, &items), random);
-        compare.find(&nine, &moved, random.between(0, 9));
+        let moved = shifted(&eleven, &stream_of(&eleven, &items), random);
+        compare.find(&eleven, &moved, random.between(0, 9));
     }
 }

@@ -3,10 +3,10 @@
 mod call;
 
 use super::faults::{building_profile, profile_with, Faults};
-use super::WORKED;
+use super::{APART, HALFWAY, WORKED};
 use crate::compare::Compare;
 use crate::paper::report::{rows_of, Row, Rows};
-use crate::paper::{stream_of, MOST_INTERVALS};
+use crate::paper::{classes, ends_short, stream_of, Eleven, MOST_INTERVALS};
 use crate::random::Random;
 use call::{ism_drive_report, library_report, library_sum, Report};
 
@@ -24,13 +24,25 @@ pub fn by_hand(compare: &mut Compare, _: &mut Random) {
         (&[91, 116, 87, 116, 87, 91], [ZEROS, ZEROS, [4, 87, 91, 356], [2, 116, 116, 232], ZEROS]),
     ];
     for (intervals, rows) in lists {
-        compare.drive_report(&WORKED, intervals);
-        let answer = library_report(&WORKED, intervals);
-        compare.claim(&format!("{intervals:?} has the rows {rows:?}"), answer == Report::under(0, 0, &rows));
+        has_rows(compare, &WORKED, intervals, rows);
     }
+    // 80 is class 2 at the beginning and after class 2, and class 3 after narrow, 3, 4 and wide
+    let rows = |two: Row, three: Row| [ZEROS, two, three, ZEROS, ZEROS];
+    has_rows(compare, &APART, &[80, 80, 80], rows([3, 80, 80, 240], ZEROS));
+    has_rows(compare, &APART, &[95, 80, 80], rows(ZEROS, [3, 80, 95, 255]));
+    has_rows(compare, &APART, &[95, 72, 80], rows([2, 72, 80, 152], [1, 95, 95, 95]));
+    has_rows(compare, &APART, &[30, 80], [[1, 30, 30, 30], ZEROS, [1, 80, 80, 80], ZEROS, ZEROS]);
+    has_rows(compare, &APART, &[200, 80], [ZEROS, ZEROS, [1, 80, 80, 80], ZEROS, [1, 200, 200, 200]]);
+    has_rows(compare, &APART, &[120, 80], [ZEROS, ZEROS, [1, 80, 80, 80], [1, 120, 120, 120], ZEROS]);
     // SAFETY: the length of the null pointer is 0
     let answer = unsafe { ism_drive_report(crate::compare::profile(&WORKED), std::ptr::null(), 0) };
     compare.claim("a null pointer of length 0 is an empty list", answer == Report::under(0, 0, &[ZEROS; 5]));
+}
+
+fn has_rows(compare: &mut Compare, eleven: &Eleven, intervals: &[u16], rows: Rows) {
+    compare.drive_report(eleven, intervals);
+    let answer = library_report(eleven, intervals);
+    compare.claim(&format!("{intervals:?} has the rows {rows:?}"), answer == Report::under(0, 0, &rows));
 }
 
 /// Lists about 51,202 intervals, of one length each and of any lengths.
@@ -40,7 +52,7 @@ pub fn limits(compare: &mut Compare, random: &mut Random) {
             compare.drive_report(&WORKED, &vec![interval; count]);
         }
         let any: Vec<u16> = (0..count).map(|_| random.between(0, 200) as u16).collect();
-        compare.drive_report(&WORKED, &any);
+        compare.drive_report(&HALFWAY, &any);
     }
 }
 
@@ -49,13 +61,13 @@ pub fn faults(compare: &mut Compare, random: &mut Random) {
     const OVERLONG: u32 = 2;
     for faults in (0..1 << 3).map(Faults) {
         for _ in 0..20 {
-            let nine = profile_with(faults, random);
-            let building = building_profile(&nine, random);
+            let eleven = profile_with(faults, random);
+            let building = building_profile(&eleven, random);
             let mut intervals = random.intervals(&building, "n234w");
             if faults.has(OVERLONG) {
                 intervals.resize(MOST_INTERVALS + 1 + random.index(3), building[0]);
             }
-            compare.drive_report(&nine, &intervals);
+            compare.drive_report(&eleven, &intervals);
         }
     }
 }
@@ -63,43 +75,64 @@ pub fn faults(compare: &mut Compare, random: &mut Random) {
 /// Random lists of every choice of classes, so that every row is empty beside every other; streams of written lists.
 pub fn random_lists(compare: &mut Compare, random: &mut Random) {
     for round in 0..8_000 {
-        let nine = random.true_profile();
+        let eleven = random.true_profile();
         let length = random.length(400);
-        let intervals = random_list(&nine, round % 32, length, random);
-        compare.drive_report(&nine, &intervals);
+        let intervals = random_list(&eleven, round % 32, length, random);
+        compare.drive_report(&eleven, &intervals);
         let length = random.length(40);
         let items = random.items(length);
-        compare.drive_report(&nine, &stream_of(&nine, &items));
+        compare.drive_report(&eleven, &stream_of(&eleven, &items));
     }
 }
 
 /// Intervals of the classes whose bits are set; none if no bit is.
-fn random_list(nine: &[u16; 9], choice: usize, length: usize, random: &mut Random) -> Vec<u16> {
+fn random_list(eleven: &Eleven, choice: usize, length: usize, random: &mut Random) -> Vec<u16> {
     let chosen: Vec<char> = (0..5).filter(|bit| choice & (1 << bit) != 0).map(|bit| CLASSES[bit]).collect();
     let length = if chosen.is_empty() { 0 } else { length };
     let letters: String = (0..length).map(|_| random.pick(&chosen)).collect();
-    random.intervals(nine, &letters)
+    random.intervals(eleven, &letters)
 }
 
-/// The reports of two lists, added, are the report of the lists joined.
+/// The reports of two lists, added, are the report of the lists joined where the first is empty or ends in class 2, or
+/// where the pairs are equal. Elsewhere they need not be.
 pub fn joined(compare: &mut Compare, random: &mut Random) {
+    let apart = [&[120][..], &[90]].map(|list| library_report(&APART, list));
+    let whole = library_report(&APART, &[120, 90]);
+    compare.claim("a list that ends in class 4 before another", library_sum(apart[0], apart[1]) != whole);
+    let [mut alike, mut unlike] = [0, 0];
     for round in 0..6_000 {
-        let nine = random.true_profile();
+        let eleven = random.true_profile();
         let lengths = [random.length(200), random.length(200)];
-        let first = random_list(&nine, round % 32, lengths[0], random);
-        let second = random_list(&nine, round / 32 % 32, lengths[1], random);
-        let [a, b] = [&first, &second].map(|list| library_report(&nine, list));
+        let first = random_list(&eleven, round % 32, lengths[0], random);
+        let second = random_list(&eleven, round / 32 % 32, lengths[1], random);
+        let [a, b] = [&first, &second].map(|list| library_report(&eleven, list));
         compare.add_reports(a, b);
-        let whole = library_report(&nine, &[first, second].concat());
-        compare.claim("reports added and lists joined", library_sum(a, b) == whole);
+        let same = library_sum(a, b) == library_report(&eleven, &[&first[..], &second].concat());
+        let equal_pairs = eleven[6] == eleven[7] && eleven[8] == eleven[9];
+        if equal_pairs || ends_short(&classes(&eleven, &first)) {
+            compare.claim("reports added and lists joined", same);
+            alike += 1;
+        } else {
+            compare.drive_report(&eleven, &[first, second].concat());
+            unlike += u32::from(!same);
+        }
     }
+    compare.claim(&format!("the rule holds {alike} times, and {unlike} times it would not"), alike.min(unlike) > 100);
 }
 
 /// An afternoon: lists that are longer together than any list may be, in every order of adding.
 pub fn afternoon(compare: &mut Compare, random: &mut Random) {
-    let lists: Vec<Vec<u16>> = (0..4).map(|_| random_list(&WORKED, 31, MOST_INTERVALS, random)).collect();
-    let reports: Vec<Report> = lists.iter().map(|list| library_report(&WORKED, list)).collect();
-    let whole = Report::under(0, 0, &rows_of(&WORKED, &lists.concat()));
+    for eleven in [WORKED, HALFWAY] {
+        let mut lists: Vec<Vec<u16>> = (0..4).map(|_| random_list(&eleven, 31, MOST_INTERVALS, random)).collect();
+        // class 2 after either kind
+        lists.iter_mut().for_each(|list| *list.last_mut().expect("a long list") = eleven[5]);
+        added_in_every_order(compare, &eleven, &lists);
+    }
+}
+
+fn added_in_every_order(compare: &mut Compare, eleven: &Eleven, lists: &[Vec<u16>]) {
+    let reports: Vec<Report> = lists.iter().map(|list| library_report(eleven, list)).collect();
+    let whole = Report::under(0, 0, &rows_of(eleven, &lists.concat()));
     let in_turn = reports.iter().copied().reduce(library_sum);
     compare.claim("four lists added in turn", in_turn == Some(whole));
     let in_turn = reports.iter().rev().copied().reduce(library_sum);

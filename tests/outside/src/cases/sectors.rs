@@ -3,7 +3,7 @@
 use super::margins::shifted;
 use super::WORKED;
 use crate::compare::{profile, Compare};
-use crate::paper::{make_sector, stream_of, written_bytes, Nine, CHECK_ORDER};
+use crate::paper::{make_sector, stream_of, written_bytes, Eleven, CHECK_ORDER};
 use crate::random::Random;
 
 const SIZES: [usize; 4] = [128, 256, 512, 1024];
@@ -43,16 +43,16 @@ pub fn there_and_back(compare: &mut Compare, random: &mut Random) {
 /// after its field is the data's, and both fields read back with their sums.
 pub fn found_within_margin(compare: &mut Compare, random: &mut Random) {
     for _ in 0..200 {
-        let nine = random.true_profile();
+        let eleven = random.true_profile();
         let code = random.between(0, 3) as u8;
         let size = SIZES[usize::from(code)];
         let noise = random.bytes(size);
         let data = random.pick(&[noise, vec![0xFF; size], vec![0; size], vec![0x4E; size]]);
         let id = [random.byte(), random.byte(), random.byte(), code];
         let items = make_sector(id, &data, size + 114).expect("data as long as its code says");
-        let track = shifted(&nine, &stream_of(&nine, &items), random);
-        let used = reads_next(compare, &nine, &track, 0, &field(0xFE, &id));
-        reads_next(compare, &nine, &track, used, &field(0xFB, &data));
+        let track = shifted(&eleven, &stream_of(&eleven, &items), random);
+        let used = reads_next(compare, &eleven, &track, 0, &field(0xFE, &id));
+        reads_next(compare, &eleven, &track, used, &field(0xFB, &data));
     }
 }
 
@@ -65,17 +65,17 @@ fn field(kind: u8, bytes: &[u8]) -> Vec<u16> {
 }
 
 /// The field at the first lock from `start` on is the one given; answers the place after its intervals.
-fn reads_next(compare: &mut Compare, nine: &Nine, track: &[u16], start: usize, field: &[u16]) -> usize {
-    compare.find(nine, track, start as u64);
-    let place = ism::find_lock(profile(nine), track, start as u64).expect("the next field's lock");
+fn reads_next(compare: &mut Compare, eleven: &Eleven, track: &[u16], start: usize, field: &[u16]) -> usize {
+    compare.find(eleven, track, start as u64);
+    let place = ism::find_lock(profile(eleven), track, start as u64).expect("the next field's lock");
     let bytes = field.len() as u64;
-    compare.field(nine, &track[place..], bytes, field.len());
+    compare.field(eleven, &track[place..], bytes, field.len());
     let mut out = vec![0; field.len()];
-    let read = ism::read_field(profile(nine), &track[place..], bytes, &mut out).expect("a whole field");
+    let read = ism::read_field(profile(eleven), &track[place..], bytes, &mut out).expect("a whole field");
     compare.claim("the sector's next field reads back", out == field && read.holds);
-    let rest = ism::read_rest(profile(nine), &track[place..], bytes, &mut out);
+    let rest = ism::read_rest(profile(eleven), &track[place..], bytes, &mut out);
     compare.claim("the rest of the track is the caller's own", std::ptr::eq(rest, &track[place + read.used..]));
-    let all = ism::read_rest(profile(nine), &track[place..], 0, &mut out);
+    let all = ism::read_rest(profile(eleven), &track[place..], 0, &mut out);
     compare.claim("on a refusal the rest is the whole track", std::ptr::eq(all, &track[place..]));
     place + read.used
 }

@@ -3,23 +3,25 @@
 
 use super::WORKED;
 use crate::compare::Compare;
-use crate::paper::{self, classes, crc_of, lengths_of, stream_of, strip, symbols_of_pair, Nine, Refused, CHECK_ORDER};
+use crate::paper::{
+    self, classes, crc_of, lengths_of, stream_of, strip, symbols_of_pair, Eleven, Refused, CHECK_ORDER,
+};
 use crate::random::Random;
 
-/// The worked profile with one number changed.
-fn worked_with(which: usize, number: u16) -> Nine {
-    let mut nine = WORKED;
-    nine[which] = number;
-    nine
+/// The worked profile with some of its numbers, counted from 0, changed to another.
+fn worked_with(which: &[usize], number: u16) -> Eleven {
+    let mut eleven = WORKED;
+    which.iter().for_each(|which| eleven[*which] = number);
+    eleven
 }
 
 fn refused<T>(number: u32, place: u32) -> Result<T, Refused> {
     Err(Refused { number, place })
 }
 
-fn writes(compare: &mut Compare, nine: &Nine, items: &[u16], stream: &[u16]) {
-    compare.write(nine, items, stream.len() + 3);
-    let written = paper::write(nine, items, stream.len());
+fn writes(compare: &mut Compare, eleven: &Eleven, items: &[u16], stream: &[u16]) {
+    compare.write(eleven, items, stream.len() + 3);
+    let written = paper::write(eleven, items, stream.len());
     compare.claim(&format!("{items:04X?} is written as {stream:?}"), written.as_deref() == Ok(stream));
 }
 
@@ -29,10 +31,9 @@ fn has_classes(compare: &mut Compare, items: &[u16], letters: &str) {
     compare.claim(&format!("{items:04X?} has the classes {letters}"), written == letters);
 }
 
-fn has_margin(compare: &mut Compare, nine: &Nine, margin: Result<u64, Refused>) {
-    compare.margin(nine);
-    let shapes = compare.shapes.clone();
-    compare.claim(&format!("{nine:?} has the margin {margin:?}"), paper::margin(nine, &shapes) == margin);
+fn has_margin(compare: &mut Compare, eleven: &Eleven, margin: Result<u64, Refused>) {
+    compare.margin(eleven);
+    compare.claim(&format!("{eleven:?} has the margin {margin:?}"), paper::margin(eleven) == margin);
 }
 
 fn reads(compare: &mut Compare, intervals: &[u16], items: Result<Vec<u16>, Refused>) {
@@ -53,18 +54,38 @@ pub fn by_the_paper(compare: &mut Compare, _: &mut Random) {
     has_margin(compare, &WORKED, Ok(10));
     for (interval, class) in [(35, 1), (36, 2), (72, 2), (73, 3), (105, 3), (106, 4), (138, 4), (139, 5)] {
         compare.class(&WORKED, interval);
-        compare.claim(&format!("{interval} is of class {class}"), paper::class(&WORKED, interval) == Ok(class));
+        let both = [true, false].map(|after_short| paper::class(&WORKED, after_short, interval));
+        compare.claim(&format!("{interval} is of class {class}"), both == [Ok(class); 2]);
     }
     reads(compare, &[], refused(7, 0));
     reads(compare, &[35], refused(5, 0));
-    has_margin(compare, &worked_with(6, 87), Ok(0));
-    has_margin(compare, &worked_with(6, 88), refused(2, 0));
-    // the worked margin does not see the precompensation at the edge between classes 3 and 4; this one does
-    has_margin(compare, &worked_with(7, 105), Ok(9));
+    margins(compare);
     lengths_allowed(compare);
     field_answers(compare);
     sector_counts(compare);
     strip_example(compare);
+}
+
+/// Margins with B23 or B34 changed for both kinds of cell before, or for one of them.
+fn margins(compare: &mut Compare) {
+    let [b23_short, b23_long, b34_short, b34_long] = [6, 7, 8, 9];
+    has_margin(compare, &worked_with(&[b23_short, b23_long], 87), Ok(0));
+    has_margin(compare, &worked_with(&[b23_short, b23_long], 88), refused(2, 0));
+    has_margin(compare, &worked_with(&[b23_short], 91), Ok(0));
+    has_margin(compare, &worked_with(&[b23_short], 92), refused(2, 0));
+    has_margin(compare, &worked_with(&[b23_short], 59), Ok(0));
+    has_margin(compare, &worked_with(&[b23_short], 58), refused(2, 0));
+    has_margin(compare, &worked_with(&[b23_long], 55), Ok(0));
+    has_margin(compare, &worked_with(&[b23_long], 54), refused(2, 0));
+    has_margin(compare, &worked_with(&[b23_long], 87), Ok(0));
+    has_margin(compare, &worked_with(&[b23_long], 88), refused(2, 0));
+    // the worked margin does not see the precompensation at the edge between classes 3 and 4; these do
+    has_margin(compare, &worked_with(&[b34_short, b34_long], 105), Ok(9));
+    has_margin(compare, &worked_with(&[b34_short], 105), Ok(9));
+    has_margin(compare, &worked_with(&[b34_long], 102), Ok(10));
+    has_margin(compare, &worked_with(&[b34_long], 101), Ok(9));
+    has_margin(compare, &worked_with(&[b34_short], 110), Ok(10));
+    has_margin(compare, &worked_with(&[b34_short], 111), Ok(9));
 }
 
 /// Bits known are those that the cells give: a byte 00 takes nine intervals. The register tells a damaged field.
@@ -111,9 +132,9 @@ fn lengths_allowed(compare: &mut Compare) {
 }
 
 fn strip_example(compare: &mut Compare) {
-    let input = "profile 58 29 8 10 12 36 73 106 139\nmark A1\n".replace(' ', "\t");
+    let input = "profile 58 29 8 10 12 36 73 73 106 106 139\nmark A1\n".replace(' ', "\t");
     let output = "margin 10\ncell 0 3 91\ncell 1 4 116\ncell 2 3 87\ncell 3 4 116\ncell 4 3 87\ncell 5 3 91\nend 6\n";
-    let printed = strip::output(input.as_bytes(), &compare.shapes);
+    let printed = strip::output(input.as_bytes());
     compare.claim("the strip program's example", printed == output.replace(' ', "\t"));
 }
 
@@ -174,10 +195,10 @@ fn trans_space_example(compare: &mut Compare) {
 /// Section 3.5, example 2: Time 1 of 29 clocks, Time 0 of 14, compare points 8, 10, 12; the pattern 1 1 1 0 0 1 1 has
 /// cells of 29, 27, 61 and again 27 clocks. Byte F7 has that pattern inside.
 fn precompensation_example(compare: &mut Compare) {
-    let nine = worked_with(1, 28);
-    compare.claim("cells of example 2", lengths_of(&nine, "110011") == [58, 54, 122, 54]);
-    compare.claim("a string of 1s is not compensated", lengths_of(&nine, "1111") == [58; 4]);
-    writes(compare, &nine, &[0xF7], &[94, 54, 58, 54, 122, 54, 54, 94]);
+    let eleven = worked_with(&[1], 28);
+    compare.claim("cells of example 2", lengths_of(&eleven, "110011") == [58, 54, 122, 54]);
+    compare.claim("a string of 1s is not compensated", lengths_of(&eleven, "1111") == [58; 4]);
+    writes(compare, &eleven, &[0xF7], &[94, 54, 58, 54, 122, 54, 54, 94]);
 }
 
 /// Section 4.5: 1 1 1 ... 1 0 1 0 0 1 0 1 0 0 1 0 1 is a string of zeros and the mark A1.

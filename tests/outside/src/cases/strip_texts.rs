@@ -1,7 +1,7 @@
 //! Inputs of the strip program: in form, garbled in every way at any line, and about each limit.
 
-use super::WORKED;
-use crate::paper::Nine;
+use super::{HALFWAY, OVERLAP, PAIRED, REVERSED, WORKED};
+use crate::paper::Eleven;
 use crate::random::Random;
 use crate::strip_program::Program;
 
@@ -17,13 +17,16 @@ pub const GROUPS: [(&str, Group); 6] = [
     ("written bytes", written_bytes),
 ];
 
+/// The worked profile with B23 one too large.
+const CROSSED: Eleven = [58, 29, 8, 10, 12, 36, 88, 88, 106, 106, 139];
+
 /// The paper's example.
 pub fn example() -> String {
     profile_line(&WORKED) + "mark\tA1\n"
 }
 
-fn profile_line(nine: &Nine) -> String {
-    let numbers: Vec<String> = nine.iter().map(|number| number.to_string()).collect();
+fn profile_line(eleven: &Eleven) -> String {
+    let numbers: Vec<String> = eleven.iter().map(|number| number.to_string()).collect();
     format!("profile\t{}\n", numbers.join("\t"))
 }
 
@@ -61,30 +64,31 @@ fn fixed_inputs(program: &mut Program, _: &mut Random) {
         program.run((profile.clone() + line).as_bytes());
     }
     // the profile of each settled refusal, with and without a second cause behind it
-    for nine in [[58, 29, 8, 10, 12, 36, 88, 106, 139], [58, 29, 8, 10, 12, 36, 73, 106, 65535], [0; 9], [65535; 9]] {
+    let high_rpt = [58, 29, 8, 10, 12, 36, 73, 73, 106, 106, 65535];
+    for eleven in [CROSSED, PAIRED, HALFWAY, REVERSED, OVERLAP, high_rpt, [0; 11], [65535; 11]] {
         for lines in ["", "mark\t00\n", "data\tG0\n"] {
-            program.run((profile_line(&nine) + lines).as_bytes());
+            program.run((profile_line(&eleven) + lines).as_bytes());
         }
     }
 }
 
 fn random_inputs(program: &mut Program, random: &mut Random) {
     for _ in 0..700 {
-        let nine = match random.between(0, 5) {
+        let eleven = match random.between(0, 5) {
             0 => random.crossed_profile(),
             1 => random.unset_profile(),
             _ => random.true_profile(),
         };
         let count = random.between(0, 12);
-        program.run((profile_line(&nine) + &item_lines(random, count).concat()).as_bytes());
+        program.run((profile_line(&eleven) + &item_lines(random, count).concat()).as_bytes());
     }
 }
 
 /// A valid input as its lines.
 fn valid_lines(random: &mut Random) -> Vec<Vec<u8>> {
-    let nine = if random.one_in(4) { random.unset_profile() } else { random.true_profile() };
+    let eleven = if random.one_in(4) { random.unset_profile() } else { random.true_profile() };
     let count = random.between(0, 6);
-    let lines = [vec![profile_line(&nine)], item_lines(random, count)].concat();
+    let lines = [vec![profile_line(&eleven)], item_lines(random, count)].concat();
     lines.into_iter().map(String::into_bytes).collect()
 }
 
@@ -94,7 +98,7 @@ fn garbled(line: &[u8], random: &mut Random) -> Vec<u8> {
     let body = text.trim_end_matches('\n').to_string();
     let tab = body.rfind('\t').map_or(body.len(), |at| at + 1);
     let swap_field = |field: &str| format!("{}{field}\n", &body[..tab]);
-    let garbled = match random.between(0, 31) {
+    let garbled = match random.between(0, 32) {
         0 => "\n".to_string(),
         1 => format!("{body}\r\n"),
         2 => format!("{body}\t\n"),
@@ -123,9 +127,10 @@ fn garbled(line: &[u8], random: &mut Random) -> Vec<u8> {
         25 => format!("{}\n", &body[1..]),
         26 => format!("x{body}\n"),
         27 => format!("{body}\0\n"),
-        28 => "profile\t58\t29\t8\t10\t12\t36\t73\t106\n".to_string(),
-        29 => "profile\t58\t29\t8\t10\t12\t36\t73\t106\t139\t1\n".to_string(),
-        30 => "profile\t58\t29\t8\t10\t12\t36\t73\t106\t139\n".to_string(),
+        28 => "profile\t58\t29\t8\t10\t12\t36\t73\t73\t106\t106\n".to_string(),
+        29 => "profile\t58\t29\t8\t10\t12\t36\t73\t73\t106\t106\t139\t1\n".to_string(),
+        30 => "profile\t58\t29\t8\t10\t12\t36\t73\t73\t106\t106\t139\n".to_string(),
+        31 => "profile\t58\t29\t8\t10\t12\t36\t73\t106\t139\n".to_string(),
         _ => return [&line[..random.index(line.len())], &[random.byte() | 0x80], b"\n"].concat(),
     };
     garbled.into_bytes()
@@ -197,7 +202,7 @@ fn padded(length: usize) -> Vec<u8> {
 
 /// Written bytes about 512, of each kind, with and without a number that is no item.
 fn written_bytes(program: &mut Program, random: &mut Random) {
-    for nine in [WORKED, [58, 29, 8, 10, 12, 36, 88, 106, 139], [0; 9]] {
+    for eleven in [WORKED, CROSSED, [0; 11]] {
         for count in [511, 512, 513, 514, 600] {
             let data = random.bytes(count);
             let whole = bytes_line("data", &data);
@@ -207,7 +212,7 @@ fn written_bytes(program: &mut Program, random: &mut Random) {
             let foreign = bytes_line("mark", &[0x00]) + &bytes_line("data", &data[1..]);
             let behind = bytes_line("data", &data[1..]) + &bytes_line("mark", &[0x77]);
             for lines in [whole, with_check, marks, checks, foreign, behind] {
-                program.run((profile_line(&nine) + &lines).as_bytes());
+                program.run((profile_line(&eleven) + &lines).as_bytes());
             }
         }
     }

@@ -2,9 +2,9 @@
 
 use std::collections::HashMap;
 
-use super::WORKED;
+use super::{APART, HALFWAY, OVERLAP, PAIRED, REVERSED, WORKED};
 use crate::compare::Compare;
-use crate::paper::{self, classes, is_item, single_bytes, stream_of, Nine, CHECK_ORDER};
+use crate::paper::{self, classes, is_item, single_bytes, stream_of, Eleven, CHECK_ORDER};
 use crate::random::Random;
 
 /// Every list of at most two items, under the worked profile.
@@ -34,12 +34,13 @@ pub fn every_short_stream(compare: &mut Compare, random: &mut Random) {
     for length in 0..=10 {
         for number in 0..3_u32.pow(length) {
             let letters = row_of_classes(number, length);
-            let intervals = random.intervals(&WORKED, &letters);
-            compare.read(&WORKED, &intervals, 2);
-            let read = paper::read(&WORKED, &intervals, 2).ok();
+            let eleven = random.pick(&[WORKED, PAIRED, HALFWAY, REVERSED, APART, OVERLAP]);
+            let intervals = random.intervals(&eleven, &letters);
+            compare.read(&eleven, &intervals, 2);
+            let read = paper::read(&eleven, &intervals, 2).ok();
             let searched = written.get(&letters);
             compare.claim(&format!("reading and search on classes {letters}"), read.as_ref() == searched);
-            compare.field(&WORKED, &intervals, 1, 1);
+            compare.field(&eleven, &intervals, 1, 1);
         }
     }
 }
@@ -64,7 +65,7 @@ fn streams_of_two_bytes() -> HashMap<String, Vec<u16>> {
 /// Random lists: mostly items, now and then a foreign number; the room exact, short or ample.
 pub fn random_lists(compare: &mut Compare, random: &mut Random) {
     for _ in 0..15_000 {
-        let nine = random.true_profile();
+        let eleven = random.true_profile();
         let length = random.length(120);
         let mut items = random.items(length);
         if random.one_in(4) && length > 0 {
@@ -72,60 +73,63 @@ pub fn random_lists(compare: &mut Compare, random: &mut Random) {
                 items[random.index(length)] = random.foreign();
             }
         }
-        let exact = if items.iter().all(|i| is_item(*i)) { stream_of(&nine, &items).len() } else { 8 * length };
+        let exact = if items.iter().all(|i| is_item(*i)) { stream_of(&eleven, &items).len() } else { 8 * length };
         let room = random.room(exact);
-        compare.write(&nine, &items, room);
+        compare.write(&eleven, &items, room);
     }
 }
 
 /// Streams of random lists, each with some damage.
 pub fn damaged_streams(compare: &mut Compare, random: &mut Random) {
     for _ in 0..25_000 {
-        let nine = random.true_profile();
+        let eleven = random.true_profile();
         let length = random.length(100);
         let items = random.items(length);
-        let mut stream = stream_of(&nine, &items);
+        let mut stream = stream_of(&eleven, &items);
         for _ in 0..random.between(0, 3) {
-            damage(&nine, &mut stream, random);
+            damage(&eleven, &mut stream, random);
         }
         let room = random.room(paper::written_count(&items));
-        compare.read(&nine, &stream, room);
+        compare.read(&eleven, &stream, room);
     }
 }
 
-/// One change to a stream: a class changed, intervals lost, doubled or exchanged, or too narrow or wide.
-pub fn damage(nine: &Nine, stream: &mut Vec<u16>, random: &mut Random) {
+/// One change to a stream: a class changed, intervals lost, doubled or exchanged, too narrow or wide, or such that the
+/// interval before decides.
+pub fn damage(eleven: &Eleven, stream: &mut Vec<u16>, random: &mut Random) {
     if stream.is_empty() {
         stream.push(random.next() as u16);
         return;
     }
     let place = random.index(stream.len());
     let other = random.index(stream.len());
-    match random.between(0, 9) {
+    match random.between(0, 11) {
         0 => stream.truncate(place),
         1 => drop(stream.remove(place)),
         2 => stream.insert(place, stream[other]),
         3 => stream.swap(place, other),
-        4 => stream[place] = random.interval(nine, 'n'),
-        5 => stream[place] = random.interval(nine, 'w'),
+        4 => stream[place] = random.interval(eleven, 'n'),
+        5 => stream[place] = random.interval(eleven, 'w'),
         6 => stream[place] = random.next() as u16,
         // a cell of 4 after a 0 is a gap, mostly out of place
-        7 => stream[place] = random.interval(nine, '4'),
-        8 => stream[place] = random.interval(nine, '3'),
-        _ => stream[place] = random.interval(nine, '2'),
+        7 => stream[place] = random.interval(eleven, '4'),
+        8 => stream[place] = random.interval(eleven, '3'),
+        9 => stream[place] = random.interval_between([eleven[6], eleven[7]]),
+        10 => stream[place] = random.interval_between([eleven[8], eleven[9]]),
+        _ => stream[place] = random.interval(eleven, '2'),
     }
 }
 
 /// Rows of classes without a plan; with many cells of 4 gaps fall in and out of place.
 pub fn random_classes(compare: &mut Compare, random: &mut Random) {
     for _ in 0..25_000 {
-        let nine = random.true_profile();
+        let eleven = random.true_profile();
         let length = random.between(0, 60);
         let among = random.pick(&["234", "2234", "3444", "22222234", "22334n", "223344w", "234nw"]);
         let among: Vec<char> = among.chars().collect();
         let letters: String = (0..length).map(|_| random.pick(&among)).collect();
-        let intervals = random.intervals(&nine, &letters);
+        let intervals = random.intervals(&eleven, &letters);
         let room = random.room(length as usize / 5);
-        compare.read(&nine, &intervals, room);
+        compare.read(&eleven, &intervals, room);
     }
 }

@@ -1,6 +1,6 @@
 //! What is on this track, request (iii): the ID fields that read, and the data field of each.
 
-use super::{check_profile, lock_places, read_field, refuse, Field, Nine, Refused};
+use super::{check_profile, first_lock, read_field, refuse, Eleven, Field, Refused};
 
 pub const MOST_ENTRIES: usize = 32;
 
@@ -21,9 +21,9 @@ pub struct Data {
 }
 
 /// The index of a track: 1, 2, 15. All entries are gathered before they are counted.
-pub fn index_track(nine: &Nine, intervals: &[u16]) -> Result<Vec<Entry>, Refused> {
-    check_profile(nine)?;
-    let track = Track { nine, intervals, locks: lock_places(nine, intervals) };
+pub fn index_track(eleven: &Eleven, intervals: &[u16]) -> Result<Vec<Entry>, Refused> {
+    check_profile(eleven)?;
+    let track = Track { eleven, intervals };
     let mut entries = Vec::new();
     let mut start = 0;
     while let Some(lock) = track.lock_from(start) {
@@ -45,20 +45,19 @@ pub fn index_track(nine: &Nine, intervals: &[u16]) -> Result<Vec<Entry>, Refused
 }
 
 struct Track<'a> {
-    nine: &'a Nine,
+    eleven: &'a Eleven,
     intervals: &'a [u16],
-    locks: Vec<usize>,
 }
 
 impl Track<'_> {
-    /// The first lock whose 64 intervals all lie from `start` on.
+    /// The first lock from `start` on. Each search begins anew.
     fn lock_from(&self, start: usize) -> Option<usize> {
-        self.locks.iter().copied().find(|lock| lock - 64 >= start)
+        first_lock(self.eleven, self.intervals.get(start..)?).map(|lock| start + lock)
     }
 
     /// The field of so many bytes at a lock, if it reads and begins with three A1 marks and the byte that names it.
     fn field_at(&self, lock: usize, bytes: usize, name: u16) -> Option<Field> {
-        let field = read_field(self.nine, &self.intervals[lock..], bytes as u64, bytes).ok()?;
+        let field = read_field(self.eleven, &self.intervals[lock..], bytes as u64, bytes).ok()?;
         field.items.starts_with(&[0x1A1, 0x1A1, 0x1A1, name]).then_some(field)
     }
 

@@ -1,92 +1,121 @@
-//! Profile, class and margin.
+//! Profile, class and margin, with the windows of request (ix): after an interval of class 2, and after any other.
 
-use super::{refuse, CellShape, Refused};
+use super::{cell_shapes, refuse, Refused};
 
-/// The nine numbers of a profile in the paper's order: T1, T0, Early, Normal, Late, Min, B23, B34, Rpt.
-pub type Nine = [u16; 9];
+/// The eleven numbers of a profile in document 02's order: T1, T0, Early, Normal, Late, Min, B23 after class 2, B23
+/// after any other, B34 after class 2, B34 after any other, Rpt.
+pub type Eleven = [u16; 11];
 
-const RANGES: [(u16, u16); 9] =
-    [(1, 1023), (1, 1023), (0, 15), (0, 15), (0, 15), (1, 4095), (1, 4095), (1, 4095), (1, 4095)];
+const RANGES: [(u16, u16); 11] =
+    [(1, 1023), (1, 1023), (0, 15), (0, 15), (0, 15), (1, 4095), (1, 4095), (1, 4095), (1, 4095), (1, 4095), (1, 4095)];
 
 /// Refusals 1 and 2.
-pub fn check_profile(nine: &Nine) -> Result<(), Refused> {
-    for (which, (number, (least, most))) in nine.iter().zip(RANGES).enumerate() {
+pub fn check_profile(eleven: &Eleven) -> Result<(), Refused> {
+    for (which, (number, (least, most))) in eleven.iter().zip(RANGES).enumerate() {
         if *number < least || *number > most {
             return refuse(1, which + 1);
         }
     }
-    if is_true(nine) {
+    if is_true(eleven) {
         Ok(())
     } else {
         refuse(2, 0)
     }
 }
 
-fn is_true(nine: &Nine) -> bool {
-    let [t1, t0, early, normal, late, min, b23, b34, rpt] = nine.map(i64::from);
-    let d = 2 * (late - early);
-    let points_in_order = early <= normal && normal <= late;
-    let class_2_fits = min <= t1 - d && t1 < b23;
-    let class_3_fits = b23 <= t1 + t0 && t1 + t0 + d < b34;
-    let class_4_fits = b34 <= t1 + 2 * t0 && t1 + 2 * t0 + d < rpt;
-    points_in_order && class_2_fits && class_3_fits && class_4_fits
+/// Whether the points are in order and each length that can be written after each kind of cell is in its window.
+pub fn is_true(eleven: &Eleven) -> bool {
+    let [early, normal, late] = [eleven[2], eleven[3], eleven[4]];
+    let in_window = |shape: &super::CellShape| {
+        class_letter(eleven, shape.after_short, shape.length(eleven)) == ['2', '3', '4'][shape.zeros]
+    };
+    early <= normal && normal <= late && cell_shapes().iter().all(in_window)
 }
 
-/// The class of an interval as a letter: `n` narrow, `2`, `3`, `4`, `w` wide.
-pub fn class_letter(nine: &Nine, interval: i64) -> char {
-    let edges = [(nine[5], 'n'), (nine[6], '2'), (nine[7], '3'), (nine[8], '4')];
+/// The room at each side of an edge, below zero where a length is on the wrong side: Min; B23 after class 2, from the
+/// lengths below it and from those above, and after any other; B34 so too; Rpt. A second opinion on `is_true` and
+/// `margin`, from the lengths next to each edge.
+pub fn rooms(eleven: &Eleven) -> [i64; 10] {
+    let [t1, t0, early, normal, late, min, b23_short, b23_long, b34_short, b34_long, rpt] = eleven.map(i64::from);
+    let (e, l) = (2 * (normal - early), 2 * (late - normal));
+    let d = e + l;
+    [
+        t1 - d - min,
+        b23_short - 1 - t1,
+        t1 + t0 + e - b23_short,
+        b23_long - 1 - (t1 - l),
+        t1 + t0 - b23_long,
+        b34_short - 1 - (t1 + t0 + d),
+        t1 + 2 * t0 + e - b34_short,
+        b34_long - 1 - (t1 + t0 + l),
+        t1 + 2 * t0 - b34_long,
+        rpt - 1 - (t1 + 2 * t0 + d),
+    ]
+}
+
+/// The class of an interval as a letter: `n` narrow, `2`, `3`, `4`, `w` wide. `after_short` tells whether the interval
+/// before it is of class 2.
+pub fn class_letter(eleven: &Eleven, after_short: bool, interval: i64) -> char {
+    let [min, b23_short, b23_long, b34_short, b34_long, rpt] = eleven[5..].try_into().expect("six edges");
+    let (b23, b34) = if after_short { (b23_short, b34_short) } else { (b23_long, b34_long) };
+    let edges: [(u16, char); 4] = [(min, 'n'), (b23, '2'), (b34, '3'), (rpt, '4')];
     let below = edges.iter().find(|(edge, _)| interval < i64::from(*edge));
     below.map_or('w', |(_, letter)| *letter)
 }
 
+/// Whether what comes behind intervals of these classes comes after class 2; the first of all does.
+pub fn ends_short(letters: &str) -> bool {
+    letters.is_empty() || letters.ends_with('2')
+}
+
 /// The classes of a list of intervals, a letter each.
-pub fn classes(nine: &Nine, intervals: &[u16]) -> String {
-    let letters = intervals.iter().map(|d| class_letter(nine, i64::from(*d)));
-    letters.collect()
+pub fn classes(eleven: &Eleven, intervals: &[u16]) -> String {
+    let mut letters = String::new();
+    for interval in intervals {
+        letters.push(class_letter(eleven, ends_short(&letters), i64::from(*interval)));
+    }
+    letters
 }
 
 /// How far an interval is inside its window: the most half clocks by which it could move either way and keep its class;
 /// 0 for narrow and wide.
-pub fn clearance(nine: &Nine, interval: u16) -> u32 {
-    least_clearance(nine, &[interval])
+pub fn clearance(eleven: &Eleven, after_short: bool, interval: u16) -> u32 {
+    (1..).take_while(|by| keeps(eleven, after_short, interval, *by)).count() as u32
 }
 
-/// The least of these over some intervals: ever longer moves are tried on all of them.
-pub fn least_clearance(nine: &Nine, intervals: &[u16]) -> u32 {
-    let keeps = |interval: &u16, by: i64| {
-        let d = i64::from(*interval);
-        let class = class_letter(nine, d);
-        class != 'n' && class != 'w' && [d - by, d + by].iter().all(|e| class_letter(nine, *e) == class)
+/// The least of these over a list of intervals: ever longer moves are tried on all of them.
+pub fn least_clearance(eleven: &Eleven, intervals: &[u16]) -> u32 {
+    let letters = classes(eleven, intervals);
+    let kept = |by: i64| {
+        let one = |(place, interval): (usize, &u16)| keeps(eleven, ends_short(&letters[..place]), *interval, by);
+        intervals.iter().enumerate().all(one)
     };
-    (1..).take_while(|by| intervals.iter().all(|d| keeps(d, *by))).count() as u32
+    (1..).take_while(|by| kept(*by)).count() as u32
+}
+
+/// Whether an interval is of class 2, 3 or 4 and of the same class when moved either way.
+fn keeps(eleven: &Eleven, after_short: bool, interval: u16, by: i64) -> bool {
+    let d = i64::from(interval);
+    let [class, lower, upper] = [d, d - by, d + by].map(|e| class_letter(eleven, after_short, e));
+    !"nw".contains(class) && lower == class && upper == class
 }
 
 /// The class operation; the number given is 1 narrow, 2, 3, 4, 5 wide.
-pub fn class(nine: &Nine, interval: u16) -> Result<u64, Refused> {
-    check_profile(nine)?;
-    let letter = class_letter(nine, i64::from(interval));
+pub fn class(eleven: &Eleven, after_short: bool, interval: u16) -> Result<u64, Refused> {
+    check_profile(eleven)?;
+    let letter = class_letter(eleven, after_short, i64::from(interval));
     Ok(1 + "n234w".find(letter).expect("a class letter") as u64)
 }
 
-/// The margin by trying 0, 1, 2, ... on every length that a cell can have.
-///
-/// `shapes` are the cells of which streams consist, as `cell_shapes` finds them.
-pub fn margin(nine: &Nine, shapes: &[CellShape]) -> Result<u64, Refused> {
-    check_profile(nine)?;
-    let lengths: Vec<i64> = shapes.iter().map(|s| s.length(nine)).collect();
+/// The margin by trying 0, 1, 2, ... on every length that a cell can have after either kind of cell.
+pub fn margin(eleven: &Eleven) -> Result<u64, Refused> {
+    check_profile(eleven)?;
+    let lengths: Vec<(bool, i64)> = cell_shapes().iter().map(|s| (s.after_short, s.length(eleven))).collect();
     let keeps = |m: i64| {
-        let kept = |d: i64| [d - m, d + m].map(|e| class_letter(nine, e)) == [class_letter(nine, d); 2];
-        lengths.iter().all(|d| kept(*d))
+        let class = |after_short: bool, d: i64| class_letter(eleven, after_short, d);
+        let kept = |(two, d): &(bool, i64)| [d - m, d + m].map(|e| class(*two, e)) == [class(*two, *d); 2];
+        lengths.iter().all(kept)
     };
     let refused_at = (0..).find(|m| !keeps(*m)).expect("every window ends somewhere");
     Ok(refused_at as u64 - 1)
-}
-
-/// The margin as the least distance of a length from the edge of its window; the second opinion on `margin`.
-pub fn margin_by_distances(nine: &Nine) -> i64 {
-    let [t1, t0, early, _, late, min, b23, b34, rpt] = nine.map(i64::from);
-    let d = 2 * (late - early);
-    let below = [t1 - d - min, t1 + t0 - b23, t1 + 2 * t0 - b34];
-    let above = [b23 - t1, b34 - (t1 + t0 + d), rpt - (t1 + 2 * t0 + d)].map(|distance| distance - 1);
-    *below.iter().chain(&above).min().expect("six distances")
 }

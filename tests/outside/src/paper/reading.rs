@@ -1,7 +1,7 @@
 //! Strip reader, finder and field reader.
 
-use super::{check_profile, class_letter, classes, fit, least_clearance, refuse, Nine, Refused, Register, Written};
-use super::{MOST_BYTES, MOST_FIELD_BYTES, MOST_INTERVALS};
+use super::{check_profile, class_letter, classes, ends_short, fit, least_clearance, refuse};
+use super::{Eleven, Refused, Register, Written, MOST_BYTES, MOST_FIELD_BYTES, MOST_INTERVALS};
 
 /// Bits as read, and each mark's gap with the bit at which it starts and the interval that gave it.
 #[derive(Default)]
@@ -65,12 +65,12 @@ fn check_letter(letter: char, place: usize) -> Result<(), Refused> {
 }
 
 /// The strip reader.
-pub fn read(nine: &Nine, intervals: &[u16], room: usize) -> Result<Vec<u16>, Refused> {
-    check_profile(nine)?;
+pub fn read(eleven: &Eleven, intervals: &[u16], room: usize) -> Result<Vec<u16>, Refused> {
+    check_profile(eleven)?;
     if intervals.len() > MOST_INTERVALS {
         return refuse(4, 0);
     }
-    let letters = classes(nine, intervals);
+    let letters = classes(eleven, intervals);
     for (place, letter) in letters.chars().enumerate() {
         check_letter(letter, place)?;
     }
@@ -89,22 +89,26 @@ pub fn read(nine: &Nine, intervals: &[u16], room: usize) -> Result<Vec<u16>, Ref
 /// The classes behind the 64 of a lock: those of a mark A1, or those of two marks C2 (request (ii)).
 pub const LOCK_ENDS: [&str; 2] = ["34343", "3234342343"];
 
-/// Every place at which a lock stands.
-pub fn lock_places(nine: &Nine, intervals: &[u16]) -> Vec<usize> {
-    let letters = classes(nine, intervals);
-    let sync = "2".repeat(64);
-    let lock_at = |k: &usize| {
-        let behind = &letters[*k..];
-        letters[..*k].ends_with(&sync) && LOCK_ENDS.iter().any(|end| behind.starts_with(end))
-    };
-    (64..letters.len()).filter(lock_at).collect()
+/// The smallest place at which a lock stands in a list, classed from its beginning on as far as that place needs.
+pub fn first_lock(eleven: &Eleven, intervals: &[u16]) -> Option<usize> {
+    let locks = LOCK_ENDS.map(|end| "2".repeat(64) + end);
+    let mut letters = String::new();
+    for interval in intervals {
+        letters.push(class_letter(eleven, ends_short(&letters), i64::from(*interval)));
+        // no lock ends within the end of another: its 64 would have to stand there
+        if let Some(lock) = locks.iter().find(|lock| letters.ends_with(*lock)) {
+            return Some(letters.len() - lock.len() + 64);
+        }
+    }
+    None
 }
 
-/// The finder.
-pub fn find(nine: &Nine, intervals: &[u16], start: u64) -> Result<u64, Refused> {
-    check_profile(nine)?;
-    match lock_places(nine, intervals).into_iter().find(|place| *place as u64 - 64 >= start) {
-        Some(place) => Ok(place as u64),
+/// The finder. A search begins anew at its start: it is one of the rest of the list.
+pub fn find(eleven: &Eleven, intervals: &[u16], start: u64) -> Result<u64, Refused> {
+    check_profile(eleven)?;
+    let rest = usize::try_from(start).ok().and_then(|start| intervals.get(start..));
+    match rest.and_then(|rest| first_lock(eleven, rest)) {
+        Some(place) => Ok(start + place as u64),
         None => refuse(10, 0),
     }
 }
@@ -119,26 +123,28 @@ pub struct Field {
 }
 
 /// The field reader.
-pub fn read_field(nine: &Nine, intervals: &[u16], n: u64, room: usize) -> Result<Field, Refused> {
-    check_profile(nine)?;
+pub fn read_field(eleven: &Eleven, intervals: &[u16], n: u64, room: usize) -> Result<Field, Refused> {
+    check_profile(eleven)?;
     if !(1..=MOST_FIELD_BYTES).contains(&n) {
         return refuse(12, 0);
     }
     let n = n as usize;
     let mut reading = Reading::default();
-    let mut used = 0;
+    let mut letters = String::new();
     while reading.bits.len() < 1 + 8 * n {
+        let used = letters.len();
         let Some(interval) = intervals.get(used) else {
             return refuse(11, 0);
         };
-        let letter = class_letter(nine, i64::from(*interval));
+        let letter = class_letter(eleven, ends_short(&letters), i64::from(*interval));
         check_letter(letter, used)?;
         reading.take(letter, used);
-        used += 1;
+        letters.push(letter);
     }
+    let used = letters.len();
     let written = reading.bytes(n)?;
     let mut register = Register::all_ones();
     written.iter().for_each(|w| register.pass(*w));
     let items = fit(items_of(&written), room)?;
-    Ok(Field { items, used, holds: register.value() == 0, clearance: least_clearance(nine, &intervals[..used]) })
+    Ok(Field { items, used, holds: register.value() == 0, clearance: least_clearance(eleven, &intervals[..used]) })
 }

@@ -1,6 +1,6 @@
 //! Drive report, request (i): count, least, greatest and sum of the classes narrow, 2, 3, 4 and wide.
 
-use super::{check_profile, class_letter, refuse, Nine, Refused, MOST_INTERVALS};
+use super::{check_profile, classes, refuse, Eleven, Refused, MOST_INTERVALS};
 
 /// Count, least, greatest, sum.
 pub type Row = [u64; 4];
@@ -12,10 +12,11 @@ pub type Rows = [Row; 5];
 const EMPTY: Row = [0; 4];
 
 /// The rows of a list, however long.
-pub fn rows_of(nine: &Nine, intervals: &[u16]) -> Rows {
+pub fn rows_of(eleven: &Eleven, intervals: &[u16]) -> Rows {
+    let letters = classes(eleven, intervals);
     let of_class = |letter: char| -> Vec<u64> {
-        let lengths = intervals.iter().filter(|d| class_letter(nine, i64::from(**d)) == letter);
-        lengths.map(|d| u64::from(*d)).collect()
+        let lengths = intervals.iter().zip(letters.chars()).filter(|(_, class)| *class == letter);
+        lengths.map(|(d, _)| u64::from(*d)).collect()
     };
     ['n', '2', '3', '4', 'w'].map(|letter| row_of(&of_class(letter)))
 }
@@ -28,12 +29,12 @@ fn row_of(lengths: &[u64]) -> Row {
 }
 
 /// The report: 1, 2, 4.
-pub fn drive_report(nine: &Nine, intervals: &[u16]) -> Result<Rows, Refused> {
-    check_profile(nine)?;
+pub fn drive_report(eleven: &Eleven, intervals: &[u16]) -> Result<Rows, Refused> {
+    check_profile(eleven)?;
     if intervals.len() > MOST_INTERVALS {
         return refuse(4, 0);
     }
-    Ok(rows_of(nine, intervals))
+    Ok(rows_of(eleven, intervals))
 }
 
 /// Adding two reports: 4 when a count or a sum would not fit in 64 bits.

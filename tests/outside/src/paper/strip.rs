@@ -1,32 +1,32 @@
 //! The strip program: text in, text out.
 
-use super::{check_items, check_profile, classes, margin, refuse, stream_of, CellShape, Nine, Refused, CHECK_ORDER};
+use super::{check_items, check_profile, classes, margin, refuse, stream_of, Eleven, Refused, CHECK_ORDER};
 
 pub const MOST_INPUT: usize = 16_384;
 pub const MOST_STRIP_BYTES: usize = 512;
 
 /// What the program prints for an input.
-pub fn output(input: &[u8], shapes: &[CellShape]) -> String {
-    match accepted(input, shapes) {
+pub fn output(input: &[u8]) -> String {
+    match accepted(input) {
         Ok(text) => text,
         Err(Refused { number, place }) => format!("refused\t{number}\t{place}\n"),
     }
 }
 
-fn accepted(input: &[u8], shapes: &[CellShape]) -> Result<String, Refused> {
-    let (nine, items) = parse(input)?;
-    check_profile(&nine)?;
+fn accepted(input: &[u8]) -> Result<String, Refused> {
+    let (eleven, items) = parse(input)?;
+    check_profile(&eleven)?;
     check_items(&items, MOST_STRIP_BYTES)?;
-    let stream = stream_of(&nine, &items);
-    let mut text = format!("margin\t{}\n", margin(&nine, shapes)?);
-    for (place, (length, class)) in stream.iter().zip(classes(&nine, &stream).chars()).enumerate() {
+    let stream = stream_of(&eleven, &items);
+    let mut text = format!("margin\t{}\n", margin(&eleven)?);
+    for (place, (length, class)) in stream.iter().zip(classes(&eleven, &stream).chars()).enumerate() {
         text += &format!("cell\t{place}\t{class}\t{length}\n");
     }
     Ok(text + &format!("end\t{}\n", stream.len()))
 }
 
 /// The profile and the items of an input, or refusal 14 at its lowest faulty line.
-fn parse(input: &[u8]) -> Result<(Nine, Vec<u16>), Refused> {
+fn parse(input: &[u8]) -> Result<(Eleven, Vec<u16>), Refused> {
     if input.len() > MOST_INPUT {
         return refuse(14, 0);
     }
@@ -36,14 +36,14 @@ fn parse(input: &[u8]) -> Result<(Nine, Vec<u16>), Refused> {
     if lines.is_empty() {
         lines.push("");
     }
-    let mut nine = None;
+    let mut eleven = None;
     let mut items = Vec::new();
     for (place, line) in lines.iter().enumerate() {
         let fields = line.strip_suffix('\n').map(|l| l.split('\t').collect::<Vec<_>>());
         let understood = match fields {
             Some(fields) if place == 0 => {
-                nine = profile_line(&fields);
-                nine.is_some()
+                eleven = profile_line(&fields);
+                eleven.is_some()
             }
             Some(fields) => items_line(&fields).map(|more| items.extend(more)).is_some(),
             None => false,
@@ -52,10 +52,10 @@ fn parse(input: &[u8]) -> Result<(Nine, Vec<u16>), Refused> {
             return refuse(14, place + 1);
         }
     }
-    Ok((nine.expect("the first line is a profile"), items))
+    Ok((eleven.expect("the first line is a profile"), items))
 }
 
-fn profile_line(fields: &[&str]) -> Option<Nine> {
+fn profile_line(fields: &[&str]) -> Option<Eleven> {
     let numbers: Vec<u16> = fields[1..].iter().map(|f| decimal(f)).collect::<Option<_>>()?;
     if fields[0] == "profile" {
         numbers.try_into().ok()

@@ -1,104 +1,141 @@
--- Why `fields::finder::scan` answers `lockFrom`: each turn keeps the run and passes over no lock, and the ways out are
--- a lock and the end of the list. Rests on no axiom.
+-- Why `fields::finder::scan` answers `lockFrom`: no turn passes over a lock, and the ways out are a lock and the end of
+-- the list. Rests on no axiom.
 mod Turn
-use Prim.Native.Nat.{_+_, _-_, _<_, _≤_}
-use mathlib.Core.Path.{sym, _∙_}
+use Prim.Native.Nat.{_+_, _-_, _≤_}
+use mathlib.Core.Path.{_≡_, refl, sym, _∙_}
+use mathlib.Core.Bool.{true}
 use native.Mathlib.Omega.{arith}
 use borrow.Author.Needs.{needs}
 use lib.ListN.{length}
-use Rattle.timing.specs.Class.{Ascending}
-use Rattle.timing.specs.declared.cursor.Cursor.{Cursor}
-use Rattle.timing.proofs.EdgeLaws.{ascending-past}
-use Turn.{Searched, search-starts, chosen-between, search-is-adrift, looked-at, searched-past, mark-is-found}
-use Turn.{mark-is-missed}
+use Rattle.timing.specs.Class.{cursorOf}
+use Rattle.timing.proofs.EdgeLaws.{either-ascends}
+use Rattle.fields.specs.machine.Scan.{Following}
+use Rattle.fields.proofs.RunLaws.{none-follow, more-follow, one-follows}
+use Turn.{Searched, search-starts, search-is-adrift, run-is-broken, run-begins-later, mark-is-found, mark-is-missed}
 use Rattle.fields.proofs.finder.scan.Statement.{statement}
 use Rattle.fields.proofs.finder.scan.Tie as tie
 
--- the intervals up to k are looked at
+-- those from i up to k were looked at
 abbrev Inv-loop : tie.InvT-loop
-Inv-loop intervals cursor₀ first₀ next₀ k cursor first next =
-    (first ≤ next)
-    × (next ≤ k)
-    × (k ≤ first + 64)
-    × Ascending cursor
-    × ((start : Cursor) → Searched start intervals first₀ cursor₀ next₀ → Searched start intervals first cursor next)
+Inv-loop p intervals short first₀ seen₀ k i₀ first seen i =
+    (first ≡ first₀) × (seen ≡ seen₀) × (seen ≤ i) × (i ≤ k) × Following short intervals i k
 
 abbrev μ-loop : tie.MeasureT-loop
-μ-loop intervals cursor₀ first₀ next₀ k cursor first next = k - next
+μ-loop p intervals short first₀ seen₀ k i₀ first seen i = i
 
 abbrev Inv-scan : tie.InvT-scan
-Inv-scan intervals cursor₀ first₀ next₀ cursor first next =
-    (first ≤ next)
-    × (next < first + 64)
-    × (next ≤ length intervals)
-    × Ascending cursor
-    × Searched cursor₀ intervals first cursor next
+Inv-scan p intervals short first₀ seen₀ first seen = (first ≤ length intervals + 1) × Searched p intervals first seen
 
 abbrev μ-scan : tie.MeasureT-scan
-μ-scan intervals cursor₀ first₀ next₀ cursor first next = length intervals - next
+μ-scan p intervals short first₀ seen₀ first seen = length intervals + 1 - first
 
 scan-holds : tie.Need-scan-holds Inv-loop μ-loop Inv-scan μ-scan
-scan-holds c = (omega arith, omega arith, omega arith, c .before .pre, search-starts _ _)
+scan-holds c = (omega arith, search-starts _ _)
 
 loop-holds : tie.Need-loop-holds Inv-loop μ-loop Inv-scan μ-scan
-loop-holds c = (omega arith, omega arith, omega arith, c .before .scan .inv .3, λ start searched. searched)
+loop-holds c = (refl, refl, c .before .scan .inv .1 .high, omega arith, none-follow)
 
 loop-again : tie.Need-loop-again Inv-loop μ-loop Inv-scan μ-scan
 loop-again c =
-    let met = c .before .before .meets-two in
-    let turn = c .before .before .before .before .before .loop in
-    let inv = turn .inv in
-    let within = chosen-between (met .result) (turn .first) (turn .next + 1) (omega arith) in
-    rw (c .past .ensures, c .before .run-first .ensures) (
-      within .1,
+    let inv = c .before .before .before .before .loop .inv in (
+      inv .0,
+      inv .1,
       omega arith,
       omega arith,
-      ascending-past _ _ (inv .3),
-      λ start searched.
-          looked-at (inv .4 start searched) (omega arith) (inv .0) (omega arith) (met .result) (met .ensures),
+      more-follow (one-follows _ (sym (c .before .meets-two .ensures) ∙ c .if2 .taken))
+          (record { each = λ j from to. inv .4 .each j (omega arith) to }),
     )
 
 scan-again : tie.Need-scan-again Inv-loop μ-loop Inv-scan μ-scan
 scan-again c =
-    let inv = c .before .before .loop .inv in
-    (inv .0, omega arith, omega arith, inv .3, inv .4 _ (c .before .before .before .before .scan .inv .4))
+    let looped = c .before .before .before .before in
+    let inv = looped .loop .inv in
+    let turn = looped .before .before in
+    let short = turn .before .after .ensures in
+    let other = rw short at (sym (c .before .meets-two .ensures) ∙ c .if2 .left) in
+    let follow = rw short at (inv .4) in (
+      omega arith,
+      run-is-broken (turn .scan .inv .1) (omega arith) _ (omega arith) (omega arith) other
+          (record { each = λ j from to. follow .each j (omega arith) to }),
+    )
 
--- the run is passed over up to the place where the mark is looked for
-at-mark
-    : (c : tie.After-mark-ahead Inv-loop μ-loop Inv-scan μ-scan)
-    → let passed = c .before .before .pass-run .result in
-    let turn = c .before .before .before .before .before .loop in
-    let args = c .before .before .before .before .before .before .before .before .before .args in
-    Searched (args .start) (args .intervals .now) (turn .first) (passed .cursor) (passed .end)
-at-mark c =
-    let looped = c .before .before .before .before .before in
-    searched-past (looped .loop .inv .4 _ (looped .before .before .scan .inv .4)) (c .before .before .pass-run .ensures)
+-- all but the first of the 64 follow in a run
+all-follow
+    : (c : tie.After-loop Inv-loop μ-loop Inv-scan μ-scan)
+    → let args = c .before .before .before .before .before .before .args in
+    let turn = c .before .before .before .scan in
+    Following (cursorOf (args .p) true) (args .intervals .now) (turn .seen) (turn .first + 64)
+all-follow c =
+    let inv = c .before .loop .inv in
+    let turn = c .before .before .before in
+    let follow = rw (turn .before .after .ensures) at (inv .4) in
+    record { each = λ j from to. follow .each j (omega (arith, from, inv .1, inv .2, c .loop-test .left)) to }
 
 scan-again-2 : tie.Need-scan-again-2 Inv-loop μ-loop Inv-scan μ-scan
 scan-again-2 c =
-    let passed = c .before .before .before .pass-run .ensures in (
+    let looped = c .before .before .before in
+    let turn = looped .before .before .before in
+    let inv = looped .before .loop .inv in
+    let next = rw (inv .0) at (c .before .before .next-two .ensures) in
+    let high = next .high in
+    let later = rw (inv .0) at (c .before .if3 .taken) in
+    rw (c .later .ensures) (
       omega arith,
+      run-begins-later (turn .scan .inv .1) (omega arith) _ next (all-follow looped) later,
+    )
+
+scan-again-3 : tie.Need-scan-again-3 Inv-loop μ-loop Inv-scan μ-scan
+scan-again-3 c =
+    let run = c .before .before in
+    let looped = run .before .before .before in
+    let turn = looped .before .before .before in
+    let same = looped .before .loop .inv .0 in
+    let short = turn .before .after .ensures in
+    let passes = rw short at (run .pass-run .ensures) in
+    let high = passes .passes .high in (
       omega arith,
-      passed .high,
-      passed .up,
-      mark-is-missed (at-mark (c .before)) (omega (arith, passed .low)) (passed .high)
-          (sym (c .before .mark-ahead .ensures) ∙ c .if3 .left)
-          (passed .ends),
+      mark-is-missed (turn .scan .inv .1) (omega arith) _ (rw same at (run .before .before .next-two .ensures))
+          (all-follow looped) (rw same at (run .before .if3 .left)) _ passes
+          (rw short at (sym (c .before .mark-ahead .ensures) ∙ c .if4 .left)),
     )
 
 returns : tie.Need-returns Inv-loop μ-loop Inv-scan μ-scan
-returns c = search-is-adrift (c .before .scan .inv .4) (omega arith)
+returns c = search-is-adrift (c .before .scan .inv .1) (c .if1 .taken)
 
 returns-2 : tie.Need-returns-2 Inv-loop μ-loop Inv-scan μ-scan
 returns-2 c =
-    let passed = c .before .before .before .pass-run .ensures in
-    mark-is-found (at-mark (c .before)) (omega (arith, passed .low)) (passed .high)
-    (sym (c .before .mark-ahead .ensures) ∙ c .if3 .taken)
+    let run = c .before .before in
+    let looped = run .before .before .before in
+    let turn = looped .before .before .before in
+    let same = looped .before .loop .inv .0 in
+    let short = turn .before .after .ensures in
+    mark-is-found (turn .scan .inv .1) (omega arith) _ (rw same at (run .before .before .next-two .ensures))
+    (all-follow looped) (rw same at (run .before .if3 .left)) _ (rw short at (run .pass-run .ensures))
+    (rw short at (sym (c .before .mark-ahead .ensures) ∙ c .if4 .taken))
+
+short-ascends : tie.Need-meets-two-requires Inv-loop μ-loop Inv-scan μ-scan
+short-ascends c κs =
+    let begun = c .before .before .before .before .before in
+    rw (begun .after .ensures) (either-ascends _ true (begun .before .before .pre))
+
+pass-run-requires : tie.Need-pass-run-requires Inv-loop μ-loop Inv-scan μ-scan
+pass-run-requires c κs =
+    let begun = c .before .before .before .before .before .before in
+    (rw (begun .after .ensures) (either-ascends _ true (begun .before .before .pre)), omega arith)
+
+-- no place is past what a place can be
+add-later : tie.Need-add-later Inv-loop μ-loop Inv-scan μ-scan
+add-later c =
+    let begin = c .before .before .before .before .before .before .before .before in
+    omega (arith, c .before .next-two .ensures .high, begin .good)
 
 pub scan-spec : {M : Type 1} → statement M
 scan-spec =
-    tie.close (tie.spec Inv-loop μ-loop Inv-scan μ-scan scan-holds (λ c. omega arith) loop-holds (λ c. omega arith)
-    (λ c. omega arith) (λ c. omega arith) (λ c κs. c .before .before .loop .inv .3) (λ c κs. search needs)
-    (λ c κs. search needs) (λ c. omega arith) loop-again (λ c. omega arith) (λ c. omega arith) scan-again
-    (λ c κs. (c .before .before .loop .inv .3, omega arith)) (λ c κs. c .before .pass-run .ensures .high)
-    (λ c. omega (arith, c .before .before .before .pass-run .ensures .low)) scan-again-2 returns returns-2)
+    tie.close (tie.spec Inv-loop μ-loop Inv-scan μ-scan (λ c κs. search needs) scan-holds
+    (λ c. omega (arith, c .scan .inv .0)) loop-holds (λ c. omega arith) (λ c. omega arith) (λ c. omega arith)
+    short-ascends (λ c. omega arith) loop-again (λ c. omega arith) scan-again
+    (λ c κs. (c .before .before .before .before .before .before .pre, omega arith)) add-later (λ c κs. search needs)
+    (λ c. omega arith) scan-again-2 pass-run-requires (λ c κs. c .pass-run .ensures .passes .high)
+    (λ c. omega (arith, c .before .before .pass-run .ensures .passes .high))
+    (λ c. omega (arith, c .before .before .pass-run .ensures .passes .high))
+    (λ c. omega (arith, c .before .before .pass-run .ensures .passes .low)) scan-again-3 returns returns-2)

@@ -1,19 +1,17 @@
 -- Why `fields::finder::search` answers `searchRule`: the scan has the intervals from `start` on, and a place of theirs
 -- is within them, so that the sum is a place of the list. Rests on no axiom.
 use Prim.Native.Nat.{ℕ, _-_, _<_, _≤_}
-use mathlib.Core.Path.{_≡_, sym, ap, ap₂, _∙_}
+use mathlib.Core.Path.{_≡_, sym, ap, _∙_}
 use mathlib.Core.List.{List}
 use native.Mathlib.Omega.{arith}
 use borrow.Author.Needs.{needs}
 use lib.ListN.{length, drop, length-drop}
 use Rattle.refusal.specs.Answer.{Answer, accepted, refused, countedAnswer}
 use Rattle.refusal.proofs.AnswerLaws.{number-is-not-zero}
-use Rattle.timing.specs.Class.{classesFrom, classesOf}
+use Rattle.timing.specs.Class.{classesOf}
 use Rattle.timing.specs.declared.Profile.{Profile}
 use Rattle.timing.specs.declared.Class.{Class}
-use Rattle.timing.specs.declared.cursor.Cursor.{Cursor}
-use Rattle.timing.proofs.ClassLaws.{classes-length, classes-from-start}
-use Rattle.timing.proofs.EdgeLaws.{accepted-ascends}
+use Rattle.timing.proofs.ClassLaws.{classes-length}
 use Rattle.fields.specs.Lock.{lockFrom, searchRule}
 use Rattle.fields.proofs.LockLaws.{part-to-end}
 use Rattle.fields.proofs.FinderLaws.{search-ends-adrift, lock-is-within}
@@ -46,19 +44,17 @@ module _ (p : Profile) (ds : List ℕ) (start : ℕ) where
 -- what the scan answers
 scanned
     : (c : tie.After-scan)
-    → let args = c .before .before .before .before .before .args in
+    → let args = c .before .before .before .before .args in
     countedAnswer (c .scan .result) ≡ lockFrom (classesOf (args .p) (drop (args .start) (args .intervals .now))) 0
 scanned c =
-    let args = c .before .before .before .before .before .args in
+    let args = c .before .before .before .before .args in
     c .scan .ensures
-    ∙ ap₂ (λ (cursor : Cursor) (ds : List ℕ). lockFrom (classesFrom cursor ds) 0) (c .before .before .start .ensures)
-    (part-to-end (args .intervals .now) (args .start))
-    ∙ ap (λ (cs : List Class). lockFrom cs 0) (sym (classes-from-start (args .p) _))
+    ∙ ap (λ (ds : List ℕ). lockFrom (classesOf (args .p) ds) 0) (part-to-end (args .intervals .now) (args .start))
 
 -- and the place, where it has one
 found
     : (c : tie.After-k)
-    → let args = c .before .before .before .before .before .before .before .args in
+    → let args = c .before .before .before .before .before .before .args in
     accepted (c .k .given .0 .0)
     ≡ lockFrom (classesOf (args .p) (drop (args .start) (args .intervals .now))) 0
 found c = sym (ap countedAnswer (c .k .given .1)) ∙ scanned (c .before .before)
@@ -66,14 +62,9 @@ found c = sym (ap countedAnswer (c .k .given .1)) ∙ scanned (c .before .before
 returns : tie.Need-returns
 returns c = past-end-is-adrift _ _ _ (c .if1 .taken)
 
-scan-requires : tie.Need-scan-requires
-scan-requires c κs =
-    let begin = c .before .before .before .before in
-    rw (c .before .start .ensures) (accepted-ascends (begin .args .p) (begin .pre))
-
-add-t16 : tie.Need-add-t16
-add-t16 c =
-    let begin = c .before .before .before .before .before .before .before .before in
+add-t15 : tie.Need-add-t15
+add-t15 c =
+    let begin = c .before .before .before .before .before .before .before in
     let args = begin .args in
     let within = place-is-within (args .p) (args .intervals .now) (args .start) _ (found (c .before)) in
     omega (arith, begin .good)
@@ -92,5 +83,5 @@ returns-3 c = rw (sym (found (c .before)))
 
 pub search-spec : {M : Type 1} → statement M
 search-spec =
-    tie.close (tie.spec returns (λ c κs. search needs) (λ c. search needs) (λ c. search needs) (λ c. search needs)
-    (λ c. search needs) scan-requires (λ c. search needs) (λ c. search needs) add-t16 returns-2 returns-3)
+    tie.close (tie.spec returns (λ c. search needs) (λ c. search needs) (λ c. search needs) (λ c. search needs)
+    (λ c κs. c .before .before .before .pre) (λ c. search needs) (λ c. search needs) add-t15 returns-2 returns-3)

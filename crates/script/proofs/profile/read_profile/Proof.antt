@@ -1,4 +1,4 @@
--- Why `script::read_profile` answers `profileRead`: the word is `profile`, and the fields after it are nine decimals.
+-- Why `script::read_profile` answers `profileRead`: the word is `profile`, and the fields after it are eleven decimals.
 -- Rests on no axiom.
 use mathlib.Core.Path.{_≡_, sym, _∙_, ap}
 use lib.ListN.{take}

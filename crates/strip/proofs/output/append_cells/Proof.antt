@@ -78,5 +78,8 @@ pub append-cells-spec : {M : Type 1} → statement M
 append-cells-spec =
     tie.close
     (tie.spec Inv-loop μ-loop (λ c κs. search needs) (λ c. (omega arith, refl, refl, refl)) (λ c. search needs)
-    (λ c. omega arith) (λ c κs. search needs) append-cell-requires (λ c. omega arith) (λ c. omega arith) loop-again
-    (λ c. c .before .loop .inv .1) returns)
+    (λ c. omega arith) (λ c κs. search needs) append-cell-requires
+    (λ c.
+    let turn = c .before .before .before .before .before .before .before in
+    search (needs, turn .loop-test .taken, turn .before .before .before .before .before .good))
+    (λ c. omega arith) loop-again (λ c. c .before .loop .inv .1) returns)

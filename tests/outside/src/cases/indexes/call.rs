@@ -7,7 +7,7 @@ use ism::{Profile, Refusal, SectorId};
 use crate::call::{Call, Expected, Reply};
 use crate::compare::{profile, Compare};
 use crate::paper::index::{index_track, Data, Entry, MOST_ENTRIES};
-use crate::paper::{Nine, Refused};
+use crate::paper::{Eleven, Refused};
 
 /// `ism_index_entry`
 #[repr(C)]
@@ -92,24 +92,24 @@ fn from_wrapper(result: Result<ism::Index, Refusal>) -> Index {
 }
 
 /// The library's index of a track.
-pub fn library_index(nine: &Nine, intervals: &[u16]) -> Index {
+pub fn library_index(eleven: &Eleven, intervals: &[u16]) -> Index {
     // SAFETY: the pointer comes with the length of its slice
-    unsafe { ism_index_track(profile(nine), intervals.as_ptr(), intervals.len()) }
+    unsafe { ism_index_track(profile(eleven), intervals.as_ptr(), intervals.len()) }
 }
 
 impl Compare {
-    pub fn index(&mut self, nine: &Nine, intervals: &[u16]) {
+    pub fn index(&mut self, eleven: &Eleven, intervals: &[u16]) {
         let call = Call {
             name: "ism_index_track",
-            arguments: format!("profile {nine:?}"),
+            arguments: format!("profile {eleven:?}"),
             room: 0,
             paper: &|intervals| {
                 Expected::<u16, Index>::new(
-                    index_track(nine, intervals).map(|entries| Expected::answer(Index::of(&entries))),
+                    index_track(eleven, intervals).map(|entries| Expected::answer(Index::of(&entries))),
                 )
             },
-            interface: &|intervals: &[u16], _| library_index(nine, intervals),
-            wrapper: Some(&|intervals, _| from_wrapper(ism::index_track(profile(nine), intervals))),
+            interface: &|intervals: &[u16], _| library_index(eleven, intervals),
+            wrapper: Some(&|intervals, _| from_wrapper(ism::index_track(profile(eleven), intervals))),
         };
         self.run(intervals, call);
     }

@@ -3,10 +3,10 @@
 use super::call::{ism_index_track, library_index, Index};
 use super::pieces::{data, id, items_of, places_of, small_data, Piece, A1, C2};
 use crate::cases::margins::shifted;
-use crate::cases::WORKED;
+use crate::cases::{OVERLAP, WORKED};
 use crate::compare::Compare;
 use crate::paper::index::{Data, Entry};
-use crate::paper::{stream_of, written_bytes, LOCK_ENDS};
+use crate::paper::{read_field, stream_of, written_bytes, LOCK_ENDS};
 use crate::random::Random;
 
 /// An entry by the numbers of its pieces: the ID's, and the data's with whether its sum holds.
@@ -27,12 +27,12 @@ fn told_index(pieces: &[Piece], told: &[Told]) -> Index {
 fn tell(compare: &mut Compare, random: &mut Random, what: &str, pieces: &[Piece], told: &[Told]) {
     let items = items_of(pieces);
     let index = told_index(pieces, told);
-    for nine in [WORKED, random.true_profile()] {
-        let stream = stream_of(&nine, &items);
-        let moved = shifted(&nine, &stream, random);
+    for eleven in [WORKED, random.true_profile()] {
+        let stream = stream_of(&eleven, &items);
+        let moved = shifted(&eleven, &stream, random);
         for intervals in [stream, moved] {
-            compare.index(&nine, &intervals);
-            compare.claim(&format!("the index of a track: {what}"), library_index(&nine, &intervals) == index);
+            compare.index(&eleven, &intervals);
+            compare.claim(&format!("the index of a track: {what}"), library_index(&eleven, &intervals) == index);
         }
     }
 }
@@ -195,5 +195,36 @@ pub fn search_after_lock(compare: &mut Compare, random: &mut Random) {
             compare.index(&WORKED, &track);
             compare.claim("an ID behind a lock", library_index(&WORKED, &track) == Index::of(&entries));
         }
+    }
+}
+
+/// Each search begins anew, as after class 2: 90 half clocks are class 2 there, and class 4 after any other class.
+pub fn searches_anew(compare: &mut Compare, _: &mut Random) {
+    // the ID's last interval ends with a bit 1 behind a 0 and is not of class 2
+    let pieces = [id_ending_in(0x01), small_data()];
+    let (sector, places) = (stream_of(&OVERLAP, &items_of(&pieces)), places_of(&pieces));
+    let used = read_field(&OVERLAP, &sector[places[0]..], 10, 10).expect("an ID field").used;
+    let entry = |id_place: usize, data_place: Option<usize>| {
+        let id: Vec<u8> = pieces[0].content.iter().map(|item| *item as u8).collect();
+        let data = data_place.map(|place| Data { place, holds: true });
+        Entry { id: id.try_into().expect("four bytes"), id_place, data }
+    };
+    let mut tells = |track: &[u16], entries: &[Entry]| {
+        compare.index(&OVERLAP, track);
+        compare.claim("each search begins anew", library_index(&OVERLAP, track) == Index::of(entries));
+    };
+    let after_id = places[0] + used;
+    for (run, found) in [(62, None), (63, Some(after_id + 64))] {
+        let track = [&sector[..after_id], &[90], &vec![58; run], &sector[places[1]..]].concat();
+        tells(&track, &[entry(places[0], found)]);
+    }
+    // a mark's classes 3 4 3 4 3 that read as nothing; from the place after the first all are of class 2
+    let mark = [97, 90, 80, 90, 80];
+    for run in [59, 60] {
+        let front = [&[58; 64], &mark[..], &vec![58; run]].concat();
+        let moved = |place: usize| place - places[0] + front.len();
+        let track = [&front, &sector[places[0]..]].concat();
+        let found = entry(moved(places[0]), Some(moved(places[1])));
+        tells(&track, if run < 60 { &[] } else { std::slice::from_ref(&found) });
     }
 }

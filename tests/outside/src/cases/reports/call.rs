@@ -5,7 +5,7 @@ use ism::{Profile, Refusal};
 use crate::call::{Call, Expected, Reply};
 use crate::compare::{profile, Compare};
 use crate::paper::report::{self, Row, Rows};
-use crate::paper::{Nine, Refused};
+use crate::paper::{Eleven, Refused};
 
 /// `ism_report_row`
 #[repr(C)]
@@ -78,9 +78,9 @@ fn expected(rows: Result<Rows, Refused>) -> Expected<u16, Report> {
 }
 
 /// The library's report of a list.
-pub fn library_report(nine: &Nine, intervals: &[u16]) -> Report {
+pub fn library_report(eleven: &Eleven, intervals: &[u16]) -> Report {
     // SAFETY: the pointer comes with the length of its slice
-    unsafe { ism_drive_report(profile(nine), intervals.as_ptr(), intervals.len()) }
+    unsafe { ism_drive_report(profile(eleven), intervals.as_ptr(), intervals.len()) }
 }
 
 /// The library's sum of two reports.
@@ -90,14 +90,14 @@ pub fn library_sum(a: Report, b: Report) -> Report {
 }
 
 impl Compare {
-    pub fn drive_report(&mut self, nine: &Nine, intervals: &[u16]) {
+    pub fn drive_report(&mut self, eleven: &Eleven, intervals: &[u16]) {
         let call = Call {
             name: "ism_drive_report",
-            arguments: format!("profile {nine:?}"),
+            arguments: format!("profile {eleven:?}"),
             room: 0,
-            paper: &|intervals| expected(report::drive_report(nine, intervals)),
-            interface: &|intervals: &[u16], _| library_report(nine, intervals),
-            wrapper: Some(&|intervals, _| from_wrapper(ism::drive_report(profile(nine), intervals))),
+            paper: &|intervals| expected(report::drive_report(eleven, intervals)),
+            interface: &|intervals: &[u16], _| library_report(eleven, intervals),
+            wrapper: Some(&|intervals, _| from_wrapper(ism::drive_report(profile(eleven), intervals))),
         };
         self.run(intervals, call);
     }

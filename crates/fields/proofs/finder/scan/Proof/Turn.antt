@@ -1,114 +1,225 @@
--- What a turn of the finder's scan keeps: no lock stands before the place that is 64 after the first of the present run
--- of class 2. One law for each way in which a turn goes on or ends. Rests on no axiom.
-use Prim.Native.Nat.{ℕ, suc, _+_, _-_, _<_, _≤_}
+-- What a turn of the finder's scan keeps: no lock stands before the place that is 64 after the first of the present 64,
+-- and of those after the first all up to the seen ones follow in a run. One law for each way in which a turn goes on or
+-- ends. Rests on no axiom.
+use Prim.Native.Nat.{ℕ, zero, suc, _+_, _-_, _<_, _≤_, max}
 use mathlib.Core.Path.{_≡_, refl, sym, ap, _∙_}
-use mathlib.Core.Bool.{Bool, true, false, cond}
-use mathlib.Core.Logic.{⊎-elim}
+use mathlib.Core.Bool.{Bool, true, false}
 use mathlib.Core.List.{List}
 use native.Mathlib.Omega.{arith}
-use native.Mathlib.Nat.{eq-zero-or-pos, eq-or-lt-of-le}
+use native.Mathlib.Decide.{decLt}
 use lib.ListN.{length, getD, drop}
 use Rattle.refusal.specs.Answer.{accepted, refused}
-use Rattle.timing.specs.Class.{classIn, isTwo, cursorPast, classesFrom}
+use Rattle.timing.specs.Class.{cursorOf, atStart, classIn, isTwo, classesFrom, classesOf}
+use Rattle.timing.specs.declared.Profile.{Profile}
 use Rattle.timing.specs.declared.Class.{Class}
-use Rattle.timing.specs.declared.cursor.Cursor.{Cursor}
-use Rattle.timing.proofs.ClassLaws.{classes-count}
+use Rattle.timing.specs.declared.Class.the-variants.{Narrow, Two}
+use Rattle.timing.proofs.ClassLaws.{classes-length, classes-after-two}
 use Rattle.fields.specs.Lock.{markAhead, lockAt, lockFrom}
-use Rattle.fields.specs.machine.Scan.{RunTo, PassesRun}
+use Rattle.fields.specs.machine.Scan.{Twos, Following, PassesRun, NoTwos, NextTwo}
 use Rattle.fields.proofs.FinderLaws.{lock-stands, broken-run-has-no-lock, no-lock-without-mark, no-lock-past-end}
-use Rattle.fields.proofs.FinderLaws.{search-goes-on, broken-run-is-passed, longer-run-is-passed}
+use Rattle.fields.proofs.FinderLaws.{search-goes-on, longer-run-is-passed}
 use Rattle.fields.proofs.FinderLaws.{first-64-are-passed, search-ends-in-lock, search-ends-adrift}
-use Rattle.fields.proofs.RunLaws.{run-goes-on, run-begins-anew, broken-here}
+use Rattle.fields.proofs.RunLaws.{is-two, is-not-two, run-follows, run-ends, none-follow, more-follow}
 
--- a run of which no place up to its 64th has a lock before it
-pub record Searched (start : Cursor) (ds : List ℕ) (first : ℕ) (cursor : Cursor) (next : ℕ) : Type 0 where
-  pub run : RunTo start ds first cursor next
-  pub same : lockFrom (classesFrom start ds) 0 ≡ lockFrom (classesFrom start ds) (first + 64)
+pub record Searched (p : Profile) (ds : List ℕ) (first seen : ℕ) : Type 0 where
+  pub same : lockFrom (classesOf p ds) 0 ≡ lockFrom (classesOf p ds) (first + 64)
+  pub low : first < seen
+  pub high : seen ≤ first + 64
+  pub follow : Following (cursorOf p true) ds (first + 1) seen
 
-pub search-starts : (start : Cursor) (ds : List ℕ) → Searched start ds 0 start 0
-search-starts start ds =
+pub search-starts : (p : Profile) (ds : List ℕ) → Searched p ds 0 1
+search-starts p ds =
     record {
-      run = record { twos = λ j low high. absurd (omega arith); stands = refl };
-      same = first-64-are-passed (classesFrom start ds);
+      same = first-64-are-passed (classesOf p ds);
+      low = omega arith;
+      high = omega arith;
+      follow = none-follow;
     }
 
--- the run begins where it did, or after the interval
-pub chosen-between : (two : Bool) (low high : ℕ) → low ≤ high → (low ≤ cond two low high) × (cond two low high ≤ high)
-chosen-between true low high h = (omega arith, h)
-chosen-between false low high h = (h, omega arith)
+module _ (p : Profile) (ds : List ℕ) where
+  abbrev cs : List Class
+  cs = classesOf p ds
+
+  -- ---- places that are ruled out
+
+  -- one that is not of class 2 after class 2 can only be the first of a run
+  no-lock-over
+      : (k j : ℕ) (two : Bool)
+      → isTwo (getD cs j Narrow) ≡ two
+      → 64 ≤ k
+      → suc j < k
+      → k ≤ j + 64
+      → suc j < length ds
+      → isTwo (classIn (cursorOf p true) (getD ds (suc j) 0)) ≡ false
+      → lockAt cs k ≡ false
+  no-lock-over k j true e far low high inside other =
+      broken-run-has-no-lock cs k far (suc j) low (omega arith) (is-not-two _ (run-ends p ds j inside other e))
+  no-lock-over k j false e far low high inside other =
+      broken-run-has-no-lock cs k far j (omega arith) high (is-not-two _ e)
+
+  pub broken-is-passed
+      : (k i : ℕ)
+      → 64 ≤ k
+      → 0 < i
+      → i < k
+      → k ≤ i + 64
+      → i < length ds
+      → isTwo (classIn (cursorOf p true) (getD ds i 0)) ≡ false
+      → lockFrom cs k ≡ lockFrom cs (i + 64)
+  broken-is-passed k zero far some low high inside other = absurd (omega arith)
+  broken-is-passed k (suc j) far some low high inside other =
+      search-goes-on cs k (suc j + 64) high
+      (λ n from to. no-lock-over n j _ refl (omega arith) (omega arith) (omega arith) inside other)
+
+  -- one that is not of class 2 is not the first of a run
+  pub others-are-passed
+      : (first begin : ℕ) → first ≤ begin → NoTwos cs first begin → lockFrom cs (first + 64) ≡ lockFrom cs (begin + 64)
+  others-are-passed first begin low none =
+      search-goes-on cs (first + 64) (begin + 64) (omega arith) (λ n from to.
+      broken-run-has-no-lock cs n (omega arith) (n - 64) (omega arith) (omega arith)
+      (is-not-two _ (none .each (n - 64) (omega arith) (omega arith))))
+
+  -- where a run ends without a mark
+  end-is-passed
+      : (end : ℕ)
+      → 64 ≤ end
+      → markAhead (drop end cs) ≡ false
+      → (end < length ds → isTwo (getD cs end Narrow) ≡ false)
+      → lockFrom cs end ≡ lockFrom cs (end + 1 + 64)
+  end-is-passed end far none ends =
+      let long = classes-length p ds in
+      search-goes-on cs end (end + 1 + 64) (omega arith) (λ n from to.
+      elim (decLt end n) [
+        | no here ↦
+            ap (lockAt cs) (let e : n ≡ end = omega arith in e) ∙ no-lock-without-mark cs end none
+        | yes past ↦
+            elim (decLt end (length ds)) [
+              | yes inside ↦
+                  broken-run-has-no-lock cs n (omega arith) end past (omega arith) (is-not-two _ (ends inside))
+              | no over ↦ no-lock-past-end cs n (omega arith)
+            ]
+      ])
+
+  -- ---- the end of a run
+
+  -- the classing stands there as at the start of a list
+  stands-after
+      : (first end : ℕ)
+      → first < end
+      → end ≤ length ds
+      → Twos cs first end
+      → drop end cs ≡ classesFrom (cursorOf p true) (drop end ds)
+  unfolding classesOf atStart
+  stands-after first zero some within twos = absurd (omega arith)
+  stands-after first (suc last) some within twos =
+      sym (classes-after-two p ds last (omega arith) (twos last (omega arith) (omega arith)))
+
+  ends-there
+      : (first end : ℕ)
+      → first < end
+      → end < length ds
+      → Twos cs first end
+      → isTwo (classIn (cursorOf p true) (getD ds end 0)) ≡ false
+      → isTwo (getD cs end Narrow) ≡ false
+  ends-there first zero some within twos other = absurd (omega arith)
+  ends-there first (suc last) some within twos other =
+      run-ends p ds last within other (ap isTwo (twos last (omega arith) (omega arith)))
+
+-- ---- a turn
+
+pub search-is-adrift
+    : {p : Profile} {ds : List ℕ} {first seen : ℕ}
+    → Searched p ds first seen
+    → length ds ≤ first + 64
+    → refused 10 0 ≡ lockFrom (classesOf p ds) 0
+search-is-adrift {p} {ds} {first} searched over =
+    let long = classes-length p ds in
+    search-ends-adrift (classesOf p ds) (first + 64) (omega arith) ∙ sym (searched .same)
 
 module _
-    {start : Cursor} {ds : List ℕ} {first : ℕ} {cursor : Cursor} {next : ℕ}
-    (searched : Searched start ds first cursor next)
+    {p : Profile} {ds : List ℕ} {first seen : ℕ} (searched : Searched p ds first seen) (inside : first + 64 < length ds)
   where
-    abbrev cs : List Class
-    cs = classesFrom start ds
+    abbrev now : List Class
+    now = classesOf p ds
 
-    count : length cs ≡ length ds
-    count = classes-count start ds
-
-    pub search-is-adrift : length ds ≤ first + 64 → refused 10 0 ≡ lockFrom cs 0
-    search-is-adrift over =
-        let long = count in search-ends-adrift cs (first + 64) (omega arith) ∙ sym (searched .same)
-
-    -- an interval is looked at: one that is not of class 2 rules out every place that has it among its 64
-    pub looked-at
-        : next < length ds
-        → first ≤ next
-        → next < first + 64
-        → (two : Bool)
-        → two ≡ isTwo (classIn cursor (getD ds next 0))
-        → Searched start ds (cond two first (next + 1)) (cursorPast cursor (getD ds next 0)) (next + 1)
-    looked-at inside low high true is =
-        record { run = run-goes-on (searched .run) inside (sym is); same = searched .same }
-    looked-at inside low high false is =
+    -- an interval that does not follow in a run is the first of the next 64
+    pub run-is-broken
+        : (i : ℕ)
+        → seen ≤ i
+        → i < first + 64
+        → isTwo (classIn (cursorOf p true) (getD ds i 0)) ≡ false
+        → Following (cursorOf p true) ds (i + 1) (first + 64)
+        → Searched p ds i (first + 64)
+    run-is-broken i low high other follow =
+        let some = searched .low in
         record {
-          run = run-begins-anew (searched .run) inside;
           same =
               searched .same
-              ∙ broken-run-is-passed cs (first + 64) next (omega arith) high (omega arith)
-              (broken-here (searched .run) inside (sym is))
-              ∙ ap (lockFrom cs) (omega arith);
+              ∙ broken-is-passed p ds (first + 64) i (omega arith) (omega arith) high (omega arith) (omega arith) other;
+          low = high;
+          high = omega arith;
+          follow = follow;
         }
 
-    -- what follows of the run is passed over
-    pub searched-past
-        : {after : Cursor} {end : ℕ} → PassesRun cursor ds next after end → Searched start ds first after end
-    searched-past passes = record { run = passes .run start first (searched .run); same = searched .same }
+    -- all 64 but the first follow in a run
+    module _
+        (begin : ℕ) (next : NextTwo p ds first begin) (follow : Following (cursorOf p true) ds seen (first + 64))
+      where
+        all : Following (cursorOf p true) ds (first + 1) (first + 64)
+        all = more-follow (searched .follow) follow
 
-    -- 64 or more of class 2: no mark begins with class 2, so that the first place to look for one is here
-    module _ (far : first + 64 ≤ next) (within : next ≤ length ds) where
-      same-here : lockFrom cs 0 ≡ lockFrom cs next
-      same-here =
-          let long = count in
-          searched .same
-          ∙ longer-run-is-passed cs (first + 64) next far (omega arith)
-          (λ j low high. searched .run .twos j (omega arith) high)
+        -- the first is not of class 2: the next that is begins the next 64
+        pub run-begins-later : first < begin → Searched p ds begin (max (first + 64) (begin + 1))
+        run-begins-later later =
+            record {
+              same = searched .same ∙ others-are-passed p ds first begin (omega arith) (next .none);
+              low = omega arith;
+              high = omega arith;
+              follow = record { each = λ j from to. all .each j (omega arith) (omega arith) };
+            }
 
-      pub mark-is-found : markAhead (classesFrom cursor (drop next ds)) ≡ true → accepted next ≡ lockFrom cs 0
-      mark-is-found mark =
-          search-ends-in-lock cs next
-          (lock-stands cs next (omega arith) (λ j low high. searched .run .twos j (omega arith) high)
-          (ap markAhead (searched .run .stands) ∙ mark))
-          ∙ sym same-here
+        -- the first is of class 2, and the run is passed over
+        module _ (here : begin ≤ first) (end : ℕ) (passes : PassesRun (cursorOf p true) ds (first + 64) end) where
+          first-is-two : getD now first Narrow ≡ Two
+          first-is-two =
+              let low = next .low in
+              let e : begin ≡ first = omega arith in
+              is-two _ (rw e at (next .here (omega arith)))
 
-      -- the run has ended, and no lock has its end among its 64
-      pub mark-is-missed
-          : markAhead (classesFrom cursor (drop next ds)) ≡ false
-          → (suc next < length ds → isTwo (classIn cursor (getD ds next 0)) ≡ false)
-          → Searched start ds next cursor next
-      mark-is-missed none ends =
-          let long = count in
-          let here = no-lock-without-mark cs next (ap markAhead (searched .run .stands) ∙ none) in
-          record {
-            run = record { twos = λ j low high. absurd (omega arith); stands = searched .run .stands };
-            same =
-                same-here
-                ∙ search-goes-on cs next (next + 64) (omega arith) (λ i low high.
-                ⊎-elim (λ e. ap (lockAt cs) (sym e) ∙ here) (λ past.
-                ⊎-elim (λ last. no-lock-past-end cs i (omega arith)) (λ more.
-                broken-run-has-no-lock cs i (omega arith) next past (omega arith)
-                (broken-here (searched .run) (omega arith) (ends (omega arith))))
-                (eq-zero-or-pos (length ds - suc next)))
-                (eq-or-lt-of-le low));
-          }
+          twos : Twos now first end
+          twos = run-follows p ds first end (passes .passes .high) first-is-two (more-follow all (passes .passes .follow))
+
+          stands : drop end now ≡ classesFrom (cursorOf p true) (drop end ds)
+          stands = let low = passes .passes .low in stands-after p ds first end (omega arith) (passes .passes .high) twos
+
+          -- no mark begins with class 2, so that the first place to look for one is here
+          same-here : lockFrom now 0 ≡ lockFrom now end
+          same-here =
+              let long = classes-length p ds in
+              let high = passes .passes .high in
+              searched .same
+              ∙ longer-run-is-passed now (first + 64) end (passes .passes .low) (omega arith)
+              (λ j from to. twos j (omega arith) to)
+
+          pub mark-is-found
+              : markAhead (classesFrom (cursorOf p true) (drop end ds)) ≡ true → accepted end ≡ lockFrom now 0
+          mark-is-found mark =
+              let low = passes .passes .low in
+              search-ends-in-lock now end
+              (lock-stands now end (omega arith) (λ j from to. twos j (omega arith) to) (ap markAhead stands ∙ mark))
+              ∙ sym same-here
+
+          -- the run has ended, and no lock has its end among its 64
+          pub mark-is-missed
+              : markAhead (classesFrom (cursorOf p true) (drop end ds)) ≡ false → Searched p ds (end + 1) (end + 2)
+          mark-is-missed none =
+              let low = passes .passes .low in
+              record {
+                same =
+                    same-here
+                    ∙ end-is-passed p ds end (omega arith) (ap markAhead stands ∙ none)
+                    (λ more. ends-there p ds first end (omega arith) more twos (passes .ends more));
+                low = omega arith;
+                high = omega arith;
+                follow = record { each = λ j from to. absurd (omega arith) };
+              }

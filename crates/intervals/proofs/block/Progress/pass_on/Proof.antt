@@ -10,7 +10,7 @@ use borrow.Author.Needs.{needs}
 use Rattle.lists.specs.Filled.{storedAt}
 use Rattle.lists.proofs.StoreLaws.{stored-none, stored-next, stored-length}
 use Rattle.timing.specs.Class.{cursorAfter}
-use Rattle.timing.proofs.UnitsLaws.{cursor-after-none}
+use Rattle.timing.proofs.ClassLaws.{cursor-after-none}
 use Rattle.intervals.specs.machine.Blocks.{restFrom, wordsOf}
 use Rattle.intervals.proofs.BlockLaws.{take-taken, Fair, rest-wants, rest-stops, rest-goes-on, cursor-goes-on}
 use Rattle.intervals.proofs.BlockLaws.{nothing-left, words-more, fair-after, comes-nearer}

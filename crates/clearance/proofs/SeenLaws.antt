@@ -1,0 +1,141 @@
+-- Why the extremes of a list tell its least clearance: each interval takes its own from what is left, between the bounds
+-- where the classing stands. Those bounds are the same where the pairs are equal; and where no interval lies
+-- between the two B23, the one before tells them. Rests on no axiom.
+use Prim.Native.Nat.{ℕ, suc, _-_, _≤_, _<_}
+use mathlib.Core.Path.{_≡_, refl, sym, ap, ap₂, _∙_}
+use mathlib.Core.Bool.{Bool, true}
+use mathlib.Core.List.{List, [], _∷_, _++_}
+use native.Mathlib.Omega.{arith}
+use lib.ListN.{length, getD, drop}
+use Rattle.lists.specs.Place.{everywhere}
+use Rattle.lists.proofs.BoolLaws.{both}
+use Rattle.timing.specs.Class.{classIn, isTwo, behind, cursorPast, cursorAfter}
+use Rattle.timing.specs.machine.Edges.{isSteady}
+use Rattle.timing.specs.declared.cursor.Cursor.{Cursor}
+use Rattle.timing.proofs.ClassLaws.{cursor-after-cons}
+use Rattle.timing.proofs.SteadyLaws.{steady-stays}
+use Rattle.report.specs.Row.{least}
+use Rattle.report.proofs.SpanLaws.{least-of-one, least-of-two}
+use Rattle.intervals.specs.machine.Either.{isSure}
+use Rattle.intervals.proofs.EitherLaws.{sure-past, past-is-behind, cursor-after-either}
+use Rattle.clearance.specs.Clearance.{clearanceIn, clearancesFrom, leastFrom}
+use Rattle.clearance.specs.machine.Nearest.{Reachable, noneMet, metWith, leastMet, alikeFrom, behindFrom}
+use Rattle.clearance.specs.machine.Seen.{seenPast, seenFrom}
+use Rattle.clearance.specs.declared.extremes.Extremes.{Extremes}
+use Rattle.clearance.specs.declared.seen.Seen.{Seen}
+use Rattle.clearance.proofs.CursorLaws.{reachable-past}
+use Rattle.clearance.proofs.NearestLaws.{met-with, first-met}
+
+-- all are 16-bit numbers
+abbrev pub Fit : List ℕ → Type 0
+Fit ds = (k : ℕ) → k < length ds → getD ds k 0 < 65536
+
+fit-later : (d : ℕ) (ds : List ℕ) → Fit (d ∷ ds) → Fit ds
+fit-later d ds fits k h = fits (suc k) (omega arith)
+
+abbrev pub seenAt : Extremes → Cursor → Seen
+seenAt m c = record { extremes = m; cursor = c }
+
+-- ---- what is left, and the least of all
+
+left-is-met
+    : (c : Cursor) (m : Extremes) (ds : List ℕ)
+    → Reachable c
+    → Fit ds
+    → least (leastMet (c .min .0) (c .rpt .0) m ∷ clearancesFrom c ds)
+    ≡ leastMet (c .min .0) (c .rpt .0) (seenFrom (seenAt m c) ds .extremes)
+unfolding clearancesFrom seenFrom seenPast cursorPast behind
+left-is-met c m [] reach fits = least-of-one _
+left-is-met c m (d ∷ ds) reach fits =
+    least-of-two _ _ _
+    ∙ ap (λ (x : ℕ). least (x ∷ clearancesFrom (cursorPast c d) ds)) (sym (met-with c reach d (fits 0 (omega arith)) m))
+    ∙ left-is-met (cursorPast c d) (metWith m (c .bounds) d) ds (reachable-past c d reach) (fit-later d ds fits)
+
+pub least-is-met
+    : (c : Cursor) (ds : List ℕ)
+    → Reachable c
+    → Fit ds
+    → 0 < length ds
+    → leastMet (c .min .0) (c .rpt .0) (seenFrom (seenAt noneMet c) ds .extremes) ≡ leastFrom c ds
+unfolding leastFrom clearancesFrom
+least-is-met c [] reach fits some = absurd (omega arith)
+least-is-met c (d ∷ ds) reach fits some =
+    sym (left-is-met c noneMet (d ∷ ds) reach fits)
+    ∙ least-of-two _ _ _
+    ∙ ap (λ (x : ℕ). least (x ∷ clearancesFrom (cursorPast c d) ds)) (first-met c d reach)
+
+-- ---- parts of a list
+
+pub seen-append : (s : Seen) (ds es : List ℕ) → seenFrom s (ds ++ es) ≡ seenFrom (seenFrom s ds) es
+unfolding seenFrom
+seen-append s [] es = refl
+seen-append s (d ∷ ds) es = seen-append (seenPast s d) ds es
+
+pub cursor-seen : (s : Seen) (ds : List ℕ) → seenFrom s ds .cursor ≡ cursorAfter (s .cursor) ds
+unfolding seenFrom seenPast cursorAfter
+cursor-seen s [] = refl
+cursor-seen s (d ∷ ds) = cursor-seen (seenPast s d) ds
+
+-- ---- the same bounds for all
+
+pub alike-is-seen
+    : (c : Cursor)
+    → isSteady c ≡ true
+    → (m : Extremes) (ds : List ℕ)
+    → alikeFrom m (c .bounds) ds ≡ seenFrom (seenAt m c) ds .extremes
+unfolding alikeFrom seenFrom seenPast
+alike-is-seen c steady m [] = refl
+alike-is-seen c steady m (d ∷ ds) =
+    alike-is-seen c steady (metWith m (c .bounds) d) ds
+    ∙ ap (λ (e : Cursor). seenFrom (seenAt (metWith m (c .bounds) d) e) ds .extremes) (sym (steady-stays c steady d))
+
+-- ---- each by the one before it
+
+module _ (c : Cursor) where
+  abbrev pub Sure : List ℕ → Type 0
+  Sure ds = everywhere (isSure (c .short) (c .long)) ds ≡ true
+
+  behind-is-seen
+      : (two : Bool) (m : Extremes) (e : ℕ) (ds : List ℕ)
+      → Sure (e ∷ ds)
+      → behindFrom m (behind c true) (e ∷ ds) ≡ seenFrom (seenAt m (cursorPast (behind c two) e)) ds .extremes
+  unfolding everywhere behindFrom seenFrom seenPast
+  behind-is-seen two m e [] sure = refl
+  behind-is-seen two m e (d ∷ ds) sure =
+      let (here, rest) = both (isSure (c .short) (c .long) e) _ sure in
+      let next = metWith m (cursorPast (behind c true) e .bounds) d in
+      behind-is-seen (isTwo (classIn (behind c two) e)) next d ds rest
+      ∙ ap (λ (f : Cursor). seenFrom (seenAt next (cursorPast f d)) ds .extremes) (sym (past-is-behind c two e))
+      ∙ ap (λ (f : Cursor). seenFrom (seenAt (metWith m (f .bounds) d) (cursorPast (cursorPast (behind c two) e) d)) ds
+      .extremes) (sym (sure-past c e here two))
+
+  pub block-is-seen
+      : (two : Bool) (m : Extremes) (e : ℕ) (ds : List ℕ)
+      → Sure (e ∷ ds)
+      → seenAt (behindFrom m (behind c true) (e ∷ ds))
+      (cursorPast (behind c true) (getD (e ∷ ds) (length ds) 0))
+      ≡ seenFrom (seenAt m (cursorPast (behind c two) e)) ds
+  block-is-seen two m e ds sure =
+      ap₂ seenAt (behind-is-seen two m e ds sure)
+      (sym (cursor-seen (seenAt m (cursorPast (behind c two) e)) ds
+      ∙ sym (cursor-after-cons (behind c two) e ds)
+      ∙ cursor-after-either c two e ds sure))
+
+-- as a block has it: the first two go by the cursor
+pub sure-is-seen
+    : (s : Seen) (ds : List ℕ)
+    → 2 ≤ length ds
+    → Sure (s .cursor) ds
+    → seenAt (behindFrom (seenPast (seenPast s (getD ds 0 0)) (getD ds 1 0) .extremes) (behind (s .cursor) true) (drop 1 ds))
+    (cursorPast (behind (s .cursor) true) (getD ds (length ds - 1) 0))
+    ≡ seenFrom s ds
+unfolding everywhere seenFrom seenPast cursorPast
+sure-is-seen s [] some sure = absurd (omega arith)
+sure-is-seen s (d ∷ []) some sure = absurd (omega arith)
+sure-is-seen s (d ∷ e ∷ ds) some sure =
+    let last : length (d ∷ e ∷ ds) - 1 ≡ suc (length ds) = omega arith in
+    let rest = both (isSure (s .cursor .short) (s .cursor .long) d) _ sure .1 in
+    let met = seenPast (seenPast s d) e .extremes in
+    ap (λ (k : ℕ). seenAt (behindFrom met (behind (s .cursor) true) (e ∷ ds))
+    (cursorPast (behind (s .cursor) true) (getD (d ∷ e ∷ ds) k 0))) last
+    ∙ block-is-seen (s .cursor) (isTwo (classIn (s .cursor) d)) met e ds rest
