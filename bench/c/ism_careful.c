@@ -171,13 +171,20 @@ ism_answer NAME(write)(ism_profile profile, const uint16_t *items, size_t n, uin
 
 /* -------------------------------------------------------------------------------------------------------- readers */
 
-/* The windows of a profile. */
+/* The windows of a profile. Where the bounds behind both kinds are equal, they are not chosen. */
 struct windows {
     unsigned min, width, b23, b34;
+    unsigned behind[2][2]; /* both bounds, behind any other interval and behind one of class 2 */
+    bool pairs;
 };
 
 static struct windows windows_of(const ism_profile *p) {
-    struct windows w = {p->min, (unsigned)(p->rpt - p->min), p->b23, p->b34};
+    struct windows w = {.min = p->min, .width = (unsigned)(p->rpt - p->min), .b23 = p->b23_short, .b34 = p->b34_short};
+    for (unsigned two = 0; two < 2; two++) {
+        w.behind[two][0] = b23_behind(p, two);
+        w.behind[two][1] = b34_behind(p, two);
+    }
+    w.pairs = has_pairs(p);
     return w;
 }
 
@@ -196,11 +203,17 @@ struct half_cells {
 #define WORD 16
 #define CLOSED (4 - 1 - WORD) /* behind the last word of a strip: its last data, closing clock, 0 and clock */
 
-static const struct half_cells lead = {1, -1 - WORD};
+/* The clock of the lead 0 and, two half cells before it, a transition: before the first interval counts a class 2. */
+static const struct half_cells lead = {5, -1 - WORD};
+
+/* Whether the newest cell has 2 units, and so its interval, neither narrow nor wide, class 2. */
+static inline bool is_behind_two(struct half_cells h) { return h.bits >> 2 & 1; }
 
 /* The half cells with one interval more, narrow and wide ones aside. */
-static inline struct half_cells with_cell(struct half_cells h, struct windows w, unsigned interval) {
-    unsigned units = 2u + (interval >= w.b23) + (interval >= w.b34);
+ALWAYS_INLINE struct half_cells with_cell(struct half_cells h, struct windows w, bool pairs, unsigned interval) {
+    unsigned b23 = pairs ? w.behind[is_behind_two(h)][0] : w.b23;
+    unsigned b34 = pairs ? w.behind[is_behind_two(h)][1] : w.b34;
+    unsigned units = 2u + (interval >= b23) + (interval >= b34);
     struct half_cells next = {h.bits << units | 1, h.over + units};
     return next;
 }
@@ -239,14 +252,14 @@ struct strip {
     size_t bytes, stray;
 };
 
-/* The first pass stores nothing; the answer refuses narrow and wide intervals. Alone it has registers enough. */
-__attribute__((noinline)) static ism_answer check_strip(struct windows w, const uint16_t *intervals, size_t n,
-                                                        struct strip *strip) {
+/* The first pass stores nothing; the answer refuses narrow and wide intervals. */
+ALWAYS_INLINE ism_answer check_cells(struct windows w, bool pairs, const uint16_t *intervals, size_t n,
+                                     struct strip *strip) {
     struct half_cells h = lead;
     size_t bytes = 0, stray = NO_STRAY;
     for (size_t i = 0; i < n; i++) {
         if (is_outside(w, intervals[i])) return refused_outside(w, intervals[i], i);
-        h = with_cell(h, w, intervals[i]);
+        h = with_cell(h, w, pairs, intervals[i]);
         if (h.over < 0) continue;
         uint32_t word = whole_word(h);
         if (missing_clocks(word) != 0 && !is_mark_word(word) && stray == NO_STRAY) stray = stray_place(h, i);
@@ -259,10 +272,16 @@ __attribute__((noinline)) static ism_answer check_strip(struct windows w, const 
     return counted(0);
 }
 
-static void store_strip(struct windows w, const uint16_t *intervals, size_t n, uint16_t *out) {
+/* Alone it has registers enough. */
+__attribute__((noinline)) static ism_answer check_strip(struct windows w, const uint16_t *intervals, size_t n,
+                                                        struct strip *strip) {
+    return w.pairs ? check_cells(w, true, intervals, n, strip) : check_cells(w, false, intervals, n, strip);
+}
+
+ALWAYS_INLINE void store_cells(struct windows w, bool pairs, const uint16_t *intervals, size_t n, uint16_t *out) {
     struct half_cells h = lead;
     for (size_t i = 0; i < n; i++) {
-        h = with_cell(h, w, intervals[i]);
+        h = with_cell(h, w, pairs, intervals[i]);
         if (h.over < 0) continue;
         *out++ = item_of(whole_word(h));
         h.over -= WORD;
@@ -282,19 +301,23 @@ ism_answer NAME(read)(ism_profile profile, const uint16_t *intervals, size_t n, 
     if (strip.bytes > ISM_MAX_BYTES) return refused(ISM_OVERLONG, 0);
     if (strip.stray != NO_STRAY) return refused(ISM_STRAY, strip.stray);
     if (room < strip.bytes) return refused(ISM_FULL, 0);
-    store_strip(w, intervals, n, out);
+    if (w.pairs)
+        store_cells(w, true, intervals, n, out);
+    else
+        store_cells(w, false, intervals, n, out);
     return cleared(counted(strip.bytes), least_clearance(&profile, intervals, n));
 }
 
 /* The bytes of a field to a buffer; the answer counts the intervals, or refuses. */
-static ism_answer read_bytes(struct windows w, const uint16_t *intervals, size_t n, size_t bytes, uint16_t *items) {
+ALWAYS_INLINE ism_answer read_bytes(struct windows w, bool pairs, const uint16_t *intervals, size_t n, size_t bytes,
+                                    uint16_t *items) {
     struct half_cells h = lead;
     size_t i = 0, stray = NO_STRAY;
     for (size_t count = 0; count < bytes; count++) {
         while (h.over < 0) {
             if (i == n) return refused(ISM_SHORT, 0);
             if (is_outside(w, intervals[i])) return refused_outside(w, intervals[i], i);
-            h = with_cell(h, w, intervals[i++]);
+            h = with_cell(h, w, pairs, intervals[i++]);
         }
         uint32_t word = whole_word(h);
         if (missing_clocks(word) != 0 && !is_mark_word(word) && stray == NO_STRAY) stray = stray_place(h, i - 1);
@@ -320,7 +343,9 @@ ism_answer NAME(read_items)(const ism_profile *p, const uint16_t *intervals, siz
     uint16_t items[ISM_MAX_FIELD_BYTES];
     if (bytes < 1 || bytes > ISM_MAX_FIELD_BYTES) return refused(ISM_MISCOUNT, 0);
     size_t count = (size_t)bytes;
-    ism_answer verdict = read_bytes(windows_of(p), intervals, n, count, items);
+    struct windows w = windows_of(p);
+    ism_answer verdict =
+        w.pairs ? read_bytes(w, true, intervals, n, count, items) : read_bytes(w, false, intervals, n, count, items);
     if (verdict.number != ISM_ACCEPTED) return verdict;
     if (room < count) return refused(ISM_FULL, 0);
     memcpy(out, items, count * sizeof *items);
@@ -330,26 +355,34 @@ ism_answer NAME(read_items)(const ism_profile *p, const uint16_t *intervals, siz
 
 /* --------------------------------------------------------------------------------------------------------- finder */
 
-static bool has_classes(const ism_profile *p, const uint16_t *intervals, size_t n, const char *classes) {
-    size_t i = 0;
-    while (i < n && classes[i] != 0 && classify(p, intervals[i]) == (unsigned)(classes[i] - '0')) i++;
-    return classes[i] == 0;
-}
-
 static bool has_mark(const ism_profile *p, const uint16_t *intervals, size_t n) {
     return has_classes(p, intervals, n, "34343") || has_classes(p, intervals, n, "3234342343");
 }
 
-/* `first` is where a run of class 2 begins. As far as it may be full, another interval only moves that place. */
-size_t NAME(find_lock)(const ism_profile *p, const uint16_t *intervals, size_t n, uint64_t start) {
-    uint16_t min = p->min, width = (uint16_t)(p->b23 - min);
-    if (start > n) return NOWHERE;
-    for (size_t first = (size_t)start, k = first; first + SYNC <= n;) {
-        for (size_t full = first + SYNC; k < full; k++) first = (uint16_t)(intervals[k] - min) < width ? first : k + 1;
+/*
+ * `first` is where a run of class 2 begins. As far as it may be full, another interval only moves that place. What
+ * stands behind a run stands behind class 2.
+ */
+ALWAYS_INLINE size_t find_run(const ism_profile *p, bool pairs, const uint16_t *intervals, size_t n, size_t start) {
+    const uint16_t min = p->min, behind_two = (uint16_t)(p->b23_short - min),
+                   behind_other = (uint16_t)(p->b23_long - min);
+    uint16_t width = behind_two;
+    for (size_t first = start, k = first; first + SYNC <= n;) {
+        for (size_t full = first + SYNC; k < full; k++) {
+            bool two = is_two(min, width, intervals[k]);
+            first = two ? first : k + 1;
+            if (pairs) width = two ? behind_two : behind_other;
+        }
         if (k < first + SYNC) continue;
-        while (k < n && (uint16_t)(intervals[k] - min) < width) k++;
+        while (k < n && is_two(min, behind_two, intervals[k])) k++;
         if (has_mark(p, intervals + k, n - k)) return k;
         first = k;
     }
     return NOWHERE;
+}
+
+size_t NAME(find_lock)(const ism_profile *p, const uint16_t *intervals, size_t n, uint64_t start) {
+    if (start > n) return NOWHERE;
+    return has_pairs(p) ? find_run(p, true, intervals, n, (size_t)start)
+                        : find_run(p, false, intervals, n, (size_t)start);
 }

@@ -10,11 +10,11 @@ ism_answer NAME(margin)(ism_profile profile) {
     return counted((uint64_t)least_distance(&profile));
 }
 
-ism_answer NAME(class)(ism_profile profile, uint16_t interval) {
+ism_answer NAME(class)(ism_profile profile, uint16_t interval, uint32_t after_short) {
     ism_answer verdict = check_profile(&profile);
     if (verdict.number != ISM_ACCEPTED) return verdict;
-    bool inside = interval >= profile.min && interval < profile.rpt;
-    return cleared(counted(classify(&profile, interval)), inside ? least_clearance(&profile, &interval, 1) : 0);
+    bool two = after_short != 0, inside = interval >= profile.min && interval < profile.rpt;
+    return cleared(counted(classify(&profile, two, interval)), inside ? clearance_behind(&profile, two, interval) : 0);
 }
 
 ism_answer NAME(find)(ism_profile profile, const uint16_t *intervals, size_t n, uint64_t start) {
@@ -35,13 +35,9 @@ ism_answer NAME(read_field)(ism_profile profile, const uint16_t *intervals, size
 
 #define ID_BYTES 10u
 
-/* The classes of three A1 marks. What begins otherwise need not be read. */
+/* What does not begin as three A1 marks need not be read. */
 static bool has_three_marks(const ism_profile *p, const uint16_t *intervals, size_t n) {
-    static const uint8_t classes[15] = {3, 4, 3, 4, 3, 2, 4, 3, 4, 3, 2, 4, 3, 4, 3};
-    if (n < sizeof classes) return false;
-    for (size_t i = 0; i < sizeof classes; i++)
-        if (classify(p, intervals[i]) != classes[i]) return false;
-    return true;
+    return has_classes(p, intervals, n, "343432434324343");
 }
 
 /* The field at a lock, if it reads and has three marks A1 and this byte behind them; else `used` is 0. */

@@ -294,18 +294,37 @@ ism_answer NAME(write)(ism_profile profile, const uint16_t *items, size_t n, uin
 #define BLOCK 64u
 
 /*
- * The zeros of the cells of a block, and whether all intervals are in the windows. The edges are below 32,768, and an
- * interval that is not is in no window, so signed compares do.
+ * The zeros of the cells of a block, and whether all intervals are in the windows; where there are kinds, each behind
+ * its own. The edges are below 32,768, and an interval that is not is in no window, so signed compares do.
  */
-static inline bool zeros_of(const ism_profile *p, const uint16_t *intervals, size_t n, uint16_t *zeros) {
-    int16_t b23 = (int16_t)p->b23, b34 = (int16_t)p->b34;
+ALWAYS_INLINE bool zeros_of(const ism_profile *p, const uint16_t *intervals, const uint16_t *kinds, size_t n,
+                            uint16_t *zeros) {
+    const uint16_t b23_two = p->b23_short, b23_other = p->b23_long, b34_two = p->b34_short, b34_other = p->b34_long;
     uint16_t min = p->min, width = (uint16_t)(p->rpt - min), outside = 0;
     for (size_t i = 0; i < n; i++) {
         int16_t interval = (int16_t)intervals[i];
+        int16_t b23 = (int16_t)(kinds ? of_kind(kinds[i], b23_two, b23_other) : b23_two);
+        int16_t b34 = (int16_t)(kinds ? of_kind(kinds[i], b34_two, b34_other) : b34_two);
         zeros[i] = (uint16_t)((interval >= b23) + (interval >= b34));
         outside |= (uint16_t)(intervals[i] - min) >= width;
     }
     return !outside;
+}
+
+/* The same for a block behind class 2 or not, and in its place whether its last interval is of class 2. */
+ALWAYS_INLINE bool zeros_in_turn(const ism_profile *p, bool *two, const uint16_t *intervals, size_t n,
+                                 uint16_t *zeros) {
+    uint16_t kinds[BLOCK];
+    *two = kinds_before(p, *two, intervals, n, kinds);
+    return zeros_of(p, intervals, kinds, n, zeros);
+}
+
+/* A full block's length is known to the compiler, and so is whether there are pairs. */
+ALWAYS_INLINE bool zeros_of_block(const ism_profile *p, bool pairs, bool *two, const uint16_t *intervals, size_t n,
+                                  uint16_t *zeros) {
+    if (pairs)
+        return n == BLOCK ? zeros_in_turn(p, two, intervals, BLOCK, zeros) : zeros_in_turn(p, two, intervals, n, zeros);
+    return n == BLOCK ? zeros_of(p, intervals, NULL, BLOCK, zeros) : zeros_of(p, intervals, NULL, n, zeros);
 }
 
 /* The first interval of a block that is narrow or wide. */
@@ -431,13 +450,14 @@ static void items_of(const uint16_t *words, size_t n, uint16_t *out) {
 }
 
 /* The words of a strip; a refusal if an interval is narrow or wide. Words over the limit are counted, not kept. */
-static ism_answer strip_words(const ism_profile *p, const uint16_t *intervals, size_t n, struct word_reader *r) {
+ALWAYS_INLINE ism_answer strip_words(const ism_profile *p, bool pairs, const uint16_t *intervals, size_t n,
+                                     struct word_reader *r) {
     size_t beyond = 0;
+    bool two = true;
     for (size_t i = 0; i < n; i += BLOCK) {
         uint16_t zeros[BLOCK];
         size_t count = n - i < BLOCK ? n - i : BLOCK;
-        bool inside =
-            count == BLOCK ? zeros_of(p, intervals + i, BLOCK, zeros) : zeros_of(p, intervals + i, count, zeros);
+        bool inside = zeros_of_block(p, pairs, &two, intervals + i, count, zeros);
         if (!inside) return refused_outside(p, intervals, i + lowest_outside(p, intervals + i));
         add_block(r, zeros, count);
         if (r->whole > ISM_MAX_BYTES + 1) {
@@ -456,7 +476,8 @@ ism_answer NAME(read)(ism_profile profile, const uint16_t *intervals, size_t n, 
     if (n > ISM_MAX_INTERVALS) return refused(ISM_OVERLONG, 0);
     uint16_t words[ISM_MAX_BYTES + 2 + BLOCK / 4 + 2];
     struct word_reader r = reader_into(words);
-    verdict = strip_words(&profile, intervals, n, &r);
+    verdict = has_pairs(&profile) ? strip_words(&profile, true, intervals, n, &r)
+                                  : strip_words(&profile, false, intervals, n, &r);
     if (verdict.number != ISM_ACCEPTED) return verdict;
     if (known(&r) % 16 != 4) return refused(ISM_RAGGED, 0);
     size_t bytes = known(&r) / 16;
@@ -477,15 +498,16 @@ static inline size_t add_until(struct word_reader *r, const uint16_t *zeros, siz
 }
 
 /* The words of a field, from as many intervals as it needs; the answer counts them, or refuses. */
-static ism_answer field_words(const ism_profile *p, const uint16_t *intervals, size_t n, size_t bytes,
-                              struct word_reader *r) {
+ALWAYS_INLINE ism_answer field_words(const ism_profile *p, bool pairs, const uint16_t *intervals, size_t n,
+                                     size_t bytes, struct word_reader *r) {
     size_t used = 0;
+    bool two = true;
     while (known(r) <= 16 * bytes) {
         if (used == n) return refused(ISM_SHORT, 0);
         uint16_t zeros[BLOCK];
         const uint16_t *block = intervals + used;
         size_t count = n - used < BLOCK ? n - used : BLOCK;
-        bool inside = count == BLOCK ? zeros_of(p, block, BLOCK, zeros) : zeros_of(p, block, count, zeros);
+        bool inside = zeros_of_block(p, pairs, &two, block, count, zeros);
         if (!inside) count = lowest_outside(p, block);
         used += add_until(r, zeros, count, bytes);
         if (!inside && known(r) <= 16 * bytes) return refused_outside(p, intervals, used);
@@ -503,7 +525,8 @@ ism_answer NAME(read_items)(const ism_profile *p, const uint16_t *intervals, siz
     uint16_t words[ISM_MAX_FIELD_BYTES + 4];
     struct word_reader r = reader_into(words);
     size_t count = (size_t)bytes;
-    ism_answer verdict = field_words(p, intervals, n, count, &r);
+    ism_answer verdict =
+        has_pairs(p) ? field_words(p, true, intervals, n, count, &r) : field_words(p, false, intervals, n, count, &r);
     if (verdict.number != ISM_ACCEPTED) return verdict;
     size_t used = (size_t)verdict.count;
     if (any_stray(words, count)) return refused(ISM_STRAY, lowest_stray(words));
@@ -519,70 +542,143 @@ ism_answer NAME(read_items)(const ism_profile *p, const uint16_t *intervals, siz
 #define MARK_CELLS 5u    /* of an A1 mark */
 #define TWO_C2_CELLS 10u /* of two C2 marks */
 
-static inline bool is_class_2(const ism_profile *p, uint16_t interval) {
-    return (uint16_t)(interval - p->min) < (uint16_t)(p->b23 - p->min);
+/* Three intervals of a mark, behind class 2 or not. */
+static inline bool is_3_4_3(const ism_profile *p, bool two, const uint16_t *intervals) {
+    return classify(p, two, intervals[0]) == 3 && classify(p, false, intervals[1]) == 4 &&
+           classify(p, false, intervals[2]) == 3;
 }
 
 /* Whether n intervals, at least MARK_CELLS, begin with an A1 mark, 3 4 3 4 3, or two C2 marks, 3 2 3 4 3 4 2 3 4 3. */
 static bool is_mark_at(const ism_profile *p, const uint16_t *intervals, size_t n) {
-    unsigned second = classify(p, intervals[1]);
-    if (classify(p, intervals[0]) != 3 || (second != 4 && second != 2) || classify(p, intervals[2]) != 3 ||
-        classify(p, intervals[3]) != 4 || classify(p, intervals[4]) != 3)
-        return false;
-    return second == 4 ||
-           (n >= TWO_C2_CELLS && classify(p, intervals[5]) == 4 && classify(p, intervals[6]) == 2 &&
-            classify(p, intervals[7]) == 3 && classify(p, intervals[8]) == 4 && classify(p, intervals[9]) == 3);
+    if (classify(p, true, intervals[0]) != 3) return false;
+    unsigned second = classify(p, false, intervals[1]);
+    if (second == 4) return is_3_4_3(p, false, intervals + 2);
+    return second == 2 && n >= TWO_C2_CELLS && is_3_4_3(p, true, intervals + 2) &&
+           classify(p, false, intervals[5]) == 4 && classify(p, false, intervals[6]) == 2 &&
+           is_3_4_3(p, true, intervals + 7);
 }
 
 #define NEAR 8u
 #define SPAN 16u
 
-static inline bool all_class_2(const ism_profile *p, const uint16_t *intervals) {
-    uint16_t min = p->min, width = (uint16_t)(p->b23 - min), others = 0;
+static inline bool all_two(uint16_t min, uint16_t width, const uint16_t *intervals) {
+    uint16_t others = 0;
     for (size_t i = 0; i < SPAN; i++) others |= (uint16_t)(intervals[i] - min) >= width;
     return !others;
 }
 
 /* From where on the intervals below `at` are of class 2, not below `from`. In data that is near, else far. */
-static inline size_t run_before(const ism_profile *p, const uint16_t *intervals, size_t from, size_t at) {
+ALWAYS_INLINE size_t run_before(uint16_t min, uint16_t width, const uint16_t *intervals, size_t from, size_t at) {
     size_t near = at - from > NEAR ? at - NEAR : from;
-    while (at > near && is_class_2(p, intervals[at - 1])) at--;
+    while (at > near && is_two(min, width, intervals[at - 1])) at--;
     if (at > near) return at;
-    while (at - from >= SPAN && all_class_2(p, intervals + at - SPAN)) at -= SPAN;
-    while (at > from && is_class_2(p, intervals[at - 1])) at--;
+    while (at - from >= SPAN && all_two(min, width, intervals + at - SPAN)) at -= SPAN;
+    while (at > from && is_two(min, width, intervals[at - 1])) at--;
     return at;
 }
 
 /* To where the intervals from `at` on are of class 2, not beyond `to`. */
-static inline size_t run_behind(const ism_profile *p, const uint16_t *intervals, size_t at, size_t to) {
-    while (to - at >= SPAN && all_class_2(p, intervals + at)) at += SPAN;
-    while (at < to && is_class_2(p, intervals[at])) at++;
+ALWAYS_INLINE size_t run_behind(uint16_t min, uint16_t width, const uint16_t *intervals, size_t at, size_t to) {
+    while (to - at >= SPAN && all_two(min, width, intervals + at)) at += SPAN;
+    while (at < to && is_two(min, width, intervals[at])) at++;
     return at;
 }
 
 /*
- * The 64 intervals of a run that begins at `first` are looked at from the last one back. One of another class rules
- * out every run over it, and what was seen behind it is not looked at again, so no interval is seen twice.
+ * Equal pairs. The 64 intervals of a run that begins at `first` are looked at from the last one back. One of another
+ * class rules out every run over it, and what was seen behind it is not looked at again, so no interval is seen twice.
  */
-size_t NAME(find_lock)(const ism_profile *p, const uint16_t *intervals, size_t n, uint64_t start) {
-    if (n < SYNC + MARK_CELLS || start > n - SYNC - MARK_CELLS) return NOWHERE;
-    size_t first = (size_t)start, seen = first, last = n - MARK_CELLS;
+static size_t find_alike(const ism_profile *p, const uint16_t *intervals, size_t n, size_t start) {
+    const uint16_t min = p->min, width = (uint16_t)(p->b23_short - min);
+    size_t first = start, seen = first, last = n - MARK_CELLS;
     while (first + SYNC <= last) {
-        if (!is_class_2(p, intervals[first + SYNC - 1])) {
+        if (!is_two(min, width, intervals[first + SYNC - 1])) {
             first = seen = first + SYNC;
             continue;
         }
-        size_t at = run_before(p, intervals, seen, first + SYNC - 1);
+        size_t at = run_before(min, width, intervals, seen, first + SYNC - 1);
         if (at > seen) {
             seen = first + SYNC;
             first = at;
             continue;
         }
-        size_t end = run_behind(p, intervals, first + SYNC, last + 1);
+        size_t end = run_behind(min, width, intervals, first + SYNC, last + 1);
         if (end <= last && is_mark_at(p, intervals + end, n - end)) return end;
         first = seen = end + 1;
     }
     return NOWHERE;
+}
+
+/* A search under pairs: the widths of class 2 behind class 2 and behind any other. */
+struct search {
+    const uint16_t *intervals;
+    size_t start, n;
+    uint16_t min, behind_two, behind_other;
+};
+
+/*
+ * Whether an interval is of class 2. One that lies between the two B23 is of class 2 if the one before is, or if it is
+ * not, by which of them is the greater; so it goes back to one that does not, or to the first, which begins as behind
+ * class 2.
+ */
+static bool is_two_at(const struct search *s, size_t at) {
+    const uint16_t *d = s->intervals;
+    size_t sure = at;
+    while (sure > s->start && is_two(s->min, s->behind_two, d[sure]) != is_two(s->min, s->behind_other, d[sure]))
+        sure--;
+    bool turns = s->behind_two < s->behind_other && (at - sure) % 2 == 1;
+    return is_two(s->min, s->behind_two, d[sure]) != turns;
+}
+
+/* The first place from `at` on whose interval is of class 2, or the end: behind any other it stays so until one is. */
+static size_t next_two(const struct search *s, size_t at) {
+    if (is_two_at(s, at)) return at;
+    const uint16_t *d = s->intervals, min = s->min, width = s->behind_other;
+    for (at++; s->n - at >= SPAN; at += SPAN) {
+        uint16_t some = 0;
+        for (size_t i = 0; i < SPAN; i++) some |= (uint16_t)(d[at + i] - min) < width;
+        if (some) break;
+    }
+    while (at < s->n && !is_two(min, width, d[at])) at++;
+    return at;
+}
+
+static inline size_t later(size_t a, size_t b) { return a > b ? a : b; }
+
+/*
+ * Pairs. In a run all but the first stand behind class 2, so an interval that is not of class 2 there can only be the
+ * first of a run: it rules out every run over it and the one before it. Where none is ruled out, it is left to find out
+ * whether the first is of class 2.
+ */
+static size_t find_behind(const ism_profile *p, const uint16_t *intervals, size_t n, size_t start) {
+    const uint16_t min = p->min, behind_two = (uint16_t)(p->b23_short - min),
+                   behind_other = (uint16_t)(p->b23_long - min);
+    const struct search s = {intervals, start, n, min, behind_two, behind_other};
+    size_t first = start, seen = first + 1, last = n - MARK_CELLS;
+    while (first + SYNC <= last) {
+        size_t full = first + SYNC, at = run_before(min, behind_two, intervals, seen, full);
+        if (at > seen) {
+            first = is_two(min, behind_other, intervals[at - 1]) ? at - 1 : at;
+            seen = later(full, first + 1);
+            continue;
+        }
+        size_t begin = next_two(&s, first);
+        if (begin > first) {
+            first = begin;
+            seen = later(full, first + 1);
+            continue;
+        }
+        size_t end = run_behind(min, behind_two, intervals, full, last + 1);
+        if (end <= last && is_mark_at(p, intervals + end, n - end)) return end;
+        first = end + 1;
+        seen = first + 1;
+    }
+    return NOWHERE;
+}
+
+size_t NAME(find_lock)(const ism_profile *p, const uint16_t *intervals, size_t n, uint64_t start) {
+    if (n < SYNC + MARK_CELLS || start > n - SYNC - MARK_CELLS) return NOWHERE;
+    return has_pairs(p) ? find_behind(p, intervals, n, (size_t)start) : find_alike(p, intervals, n, (size_t)start);
 }
 
 /* --------------------------------------------------------------------------------------------------- sector maker */
@@ -645,10 +741,71 @@ static struct above above(uint16_t edge, const uint16_t *intervals, size_t n) {
     return a;
 }
 
+static void set_row(ism_report_row *row, struct above lower, struct above upper) {
+    ism_report_row numbers = {lower.count - upper.count, lower.least, upper.greatest_below, lower.sum - upper.sum};
+    if (numbers.count > 0) *row = numbers;
+}
+
 /*
- * Classes ascend, so a row is the difference of what reaches its two edges; its least is the least that reaches the
- * lower one, and its greatest the greatest that does not reach the upper one. The sum of a list fits in 32 bits.
+ * Equal pairs. Classes ascend, so a row is the difference of what reaches its two edges; its least is the least that
+ * reaches the lower one, and its greatest the greatest that does not reach the upper one. The sum of a list fits in 32
+ * bits.
  */
+static void fill_alike(ism_report_row *rows, const ism_profile *p, const uint16_t *intervals, size_t n) {
+    const uint16_t edges[4] = {p->min, p->b23_short, p->b34_short, p->rpt};
+    struct above all = above(0, intervals, n), none = {0, 0, 0, all.greatest_below}, lower = all;
+    for (int i = 0; i < 5; i++) {
+        struct above upper = i < 4 ? above(edges[i], intervals, n) : none;
+        set_row(&rows[i], lower, upper);
+        lower = upper;
+    }
+}
+
+/* The edges of a class, behind class 2 and behind any other. */
+struct window {
+    uint16_t from_two, from_other, to_two, to_other;
+};
+
+/* A row with the intervals of a window among some. Those are below 4,096, and so none is 0 or has a sign. */
+static inline void add_window(ism_report_row *row, struct window w, const uint16_t *intervals, const uint16_t *kinds,
+                              size_t n) {
+    int16_t least = INT16_MAX, greatest = 0;
+    uint16_t count = 0;
+    int32_t sum = 0;
+    for (size_t i = 0; i < n; i++) {
+        int16_t interval = (int16_t)intervals[i];
+        int16_t from = (int16_t)of_kind(kinds[i], w.from_two, w.from_other);
+        int16_t to = (int16_t)of_kind(kinds[i], w.to_two, w.to_other);
+        int16_t inside = (interval >= from && interval < to) ? -1 : 0, least_of = (int16_t)(interval | ~inside);
+        count = (uint16_t)(count - inside);
+        sum -= interval * inside;
+        least = lesser16(least, (int16_t)(least_of & INT16_MAX));
+        greatest = greater16(greatest, (int16_t)(interval & inside));
+    }
+    if (count == 0) return;
+    if (row->count == 0 || (uint64_t)least < row->least) row->least = (uint64_t)least;
+    if ((uint64_t)greatest > row->greatest) row->greatest = (uint64_t)greatest;
+    row->count += count;
+    row->sum += (uint32_t)sum;
+}
+
+/* Pairs: narrow and wide as before, the windows between them by blocks, each interval behind its kind. */
+static void fill_behind(ism_report_row *rows, const ism_profile *p, const uint16_t *intervals, size_t n) {
+    const struct window windows[3] = {{p->min, p->min, p->b23_short, p->b23_long},
+                                      {p->b23_short, p->b23_long, p->b34_short, p->b34_long},
+                                      {p->b34_short, p->b34_long, p->rpt, p->rpt}};
+    struct above all = above(0, intervals, n), none = {0, 0, 0, all.greatest_below};
+    set_row(&rows[0], all, above(p->min, intervals, n));
+    set_row(&rows[4], above(p->rpt, intervals, n), none);
+    uint16_t kinds[KINDS];
+    bool two = true;
+    for (size_t i = 0; i < n; i += KINDS) {
+        size_t count = n - i < KINDS ? n - i : KINDS;
+        two = kinds_before(p, two, intervals + i, count, kinds);
+        for (int k = 0; k < 3; k++) add_window(&rows[1 + k], windows[k], intervals + i, kinds, count);
+    }
+}
+
 ism_report NAME(drive_report)(ism_profile profile, const uint16_t *intervals, size_t n) {
     ism_report report = {0};
     ism_answer verdict = check_profile(&profile);
@@ -656,14 +813,10 @@ ism_report NAME(drive_report)(ism_profile profile, const uint16_t *intervals, si
     report.number = verdict.number;
     report.place = verdict.place;
     if (verdict.number != ISM_ACCEPTED) return report;
-    const uint16_t edges[4] = {profile.min, profile.b23, profile.b34, profile.rpt};
-    struct above all = above(0, intervals, n), none = {0, 0, 0, all.greatest_below}, lower = all;
-    for (int i = 0; i < 5; i++) {
-        struct above upper = i < 4 ? above(edges[i], intervals, n) : none;
-        ism_report_row row = {lower.count - upper.count, lower.least, upper.greatest_below, lower.sum - upper.sum};
-        if (row.count > 0) report.rows[i] = row;
-        lower = upper;
-    }
+    if (has_pairs(&profile))
+        fill_behind(report.rows, &profile, intervals, n);
+    else
+        fill_alike(report.rows, &profile, intervals, n);
     return report;
 }
 

@@ -1,11 +1,11 @@
 //! Random calls, on which every implementation must give the library's answer and leave the library's output: lists
 //! and streams that are accepted, damaged ones, profiles out of range, outputs that are short, exact and roomy.
 
-use ism::sys::{Answer, Fifo, FifoAnswer, Profile, Report, ReportRow};
+use ism::sys::{Fifo, FifoAnswer, Profile, Report, ReportRow};
 use ism::{CHECK, MARK_A1, MARK_C2, MAX_BYTES, MAX_INTERVALS};
 
 use crate::implementations::{Implementation, FIFO_OPERATIONS};
-use crate::tasks::PROFILE;
+use crate::tasks::{profile_of, PAIRS, PROFILE, WIDE_PAIRS};
 
 /// Numbers without a pattern, the same in every run (splitmix).
 pub struct Random(u64);
@@ -44,40 +44,58 @@ impl Random {
         let length = if self.one_in(2_000) {
             self.of(&[most, most, most - 1, most - 2, most / 2])
         } else {
-            let short = self.of(&[3, 12, 40]);
+            let short = self.of(&[3, 12, 40, 120]);
             self.below(most.min(short) + 1)
         };
         length as usize
     }
 }
 
-/// A profile that is true, or nearly.
+/// A bound and the other of its pair: half of the time equal, where that is true, else as far apart as may be or near.
+fn pair(r: &mut Random, short: [i64; 2], long: [i64; 2]) -> [i64; 2] {
+    let both = [short[0].max(long[0]), short[1].min(long[1])];
+    if both[0] <= both[1] && r.one_in(2) {
+        return [r.within(both[0], both[1]); 2];
+    }
+    match r.below(6) {
+        0 => [short[0], long[1]],
+        1 => [short[1], long[0]],
+        2 => [short[1], long[1]],
+        _ => [r.within(short[0], short[1]), r.within(long[0], long[1])],
+    }
+}
+
+/// A profile that is true, or nearly, with equal pairs and unequal ones.
 fn profile(r: &mut Random) -> Profile {
     if r.one_in(3) {
-        return PROFILE;
+        return r.of(&[PROFILE, PAIRS, WIDE_PAIRS]);
     }
     let (early, late) = (r.within(0, 7), r.within(7, 15));
-    let d = 2 * (late - early);
+    let normal = r.within(early, late);
+    let (e, l) = (2 * (normal - early), 2 * (late - normal));
+    let d = e + l;
     let most = r.of(&[d + 40, 1_023]);
     let (t1, t0) = (r.within(d + 2, most), r.within(d + 2, most));
-    let p = [
-        t1,
-        t0,
-        early,
-        r.within(early, late),
-        late,
-        r.within(1, t1 - d),
-        r.within(t1 + 1, t1 + t0),
-        r.within(t1 + t0 + d + 1, t1 + 2 * t0),
-        r.within(t1 + 2 * t0 + d + 1, 4_095),
-    ];
-    let mut p = p.map(|number| number as u16);
+    let (three, four) = (t1 + t0, t1 + 2 * t0);
+    let b23 = pair(r, [t1 + 1, three + e], [t1 - l + 1, three]);
+    let b34 = pair(r, [three + d + 1, four + e], [three + l + 1, four]);
+    let (min, rpt) = (r.within(1, t1 - d), r.within(four + d + 1, 4_095));
+    let numbers = [t1, t0, early, normal, late, min, b23[0], b23[1], b34[0], b34[1], rpt];
+    let mut numbers = numbers.map(|number| number as u16);
     if r.one_in(30) {
-        let which = r.below(9) as usize;
-        p[which] = r.of(&[0, 1, 15, 16, 1_023, 1_024, 4_095, 4_096, 65_535]);
+        let which = r.below(11) as usize;
+        numbers[which] = match r.below(4) {
+            0 => numbers[which] + 1,
+            1 => numbers[which].wrapping_sub(1),
+            _ => r.of(&[0, 1, 15, 16, 1_023, 1_024, 4_095, 4_096, 65_535]),
+        };
     }
-    let [t1, t0, early, normal, late, min, b23, b34, rpt] = p;
-    Profile { t1, t0, early, normal, late, min, b23, b34, rpt }
+    profile_of(numbers)
+}
+
+/// From Min on.
+fn edges_of(p: Profile) -> [u16; 6] {
+    [p.min, p.b23_short, p.b23_long, p.b34_short, p.b34_long, p.rpt]
 }
 
 fn item(r: &mut Random) -> u16 {
@@ -116,6 +134,9 @@ fn stream(r: &mut Random, library: &Implementation, p: Profile, longest: u64) ->
     let mut out = vec![0; 16 * list.len() + 2];
     let count = (library.write)(p, &list, &mut out).count as usize;
     out.truncate(count);
+    if r.one_in(3) {
+        make_unsure(r, library, p, &mut out);
+    }
     let moved = r.of(&[0, 0, 1, 3, 12]);
     for interval in &mut out {
         *interval = (i64::from(*interval) + r.within(-moved, moved)).max(0) as u16;
@@ -127,12 +148,34 @@ fn stream(r: &mut Random, library: &Implementation, p: Profile, longest: u64) ->
     out
 }
 
+/// An interval whose class the one before decides, where the bounds of a pair differ.
+fn between(r: &mut Random, a: u16, b: u16) -> u16 {
+    r.within(a.min(b).into(), a.max(b).into()) as u16
+}
+
+/// Moves some intervals between the two bounds of a pair, where they keep their class.
+fn make_unsure(r: &mut Random, library: &Implementation, p: Profile, list: &mut [u16]) {
+    let (mut after_short, rate) = (1, r.of(&[3, 30, 300]));
+    for interval in list {
+        let class = (library.class)(p, *interval, after_short).count;
+        if r.one_in(rate) {
+            let bounds = r.of(&[[p.b23_short, p.b23_long], [p.b34_short, p.b34_long]]);
+            let other = between(r, bounds[0], bounds[1]);
+            if (library.class)(p, other, after_short).count == class {
+                *interval = other;
+            }
+        }
+        after_short = u32::from(class == 2);
+    }
+}
+
 fn damage(r: &mut Random, p: Profile, list: &mut Vec<u16>) {
-    let edges = [p.min, p.b23, p.b34, p.rpt];
-    let interval = match r.below(8) {
+    let interval = match r.below(10) {
         0 => r.below(65_536) as u16,
-        1 => r.of(&edges).wrapping_sub(1),
-        2 => r.of(&edges),
+        1 => r.of(&edges_of(p)).wrapping_sub(1),
+        2 => r.of(&edges_of(p)),
+        8 => between(r, p.b23_short, p.b23_long),
+        9 => between(r, p.b34_short, p.b34_long),
         3 => p.t1.wrapping_add(p.t0),
         4 | 5 => p.t1.wrapping_add(p.t0).wrapping_add(p.t0),
         _ => p.t1,
@@ -218,8 +261,31 @@ fn read_field(r: &mut Random, all: &[Implementation], p: Profile) -> Result<(), 
     same(all, what, with_output(all, room, |who, out| (who.read_field)(p, list, bytes, out)))
 }
 
+/// Intervals in runs, each of class 2, of class 3, narrow, wide, or such that the one before decides; at times a mark.
+fn runs(r: &mut Random, p: Profile) -> Vec<u16> {
+    let mut list = Vec::new();
+    for _ in 0..r.below(6) {
+        let interval = match r.below(8) {
+            0 => p.min - 1,
+            1 => p.rpt,
+            2 => p.t1 + p.t0,
+            3 | 4 => between(r, p.b23_short, p.b23_long),
+            _ => p.t1,
+        };
+        let length = r.of(&[1, 1, 2, 3, 31, 62, 63, 64, 65, 130]);
+        list.resize(list.len() + length, interval);
+        if r.one_in(3) {
+            list.extend([3, 4, 3, 4, 3].map(|units| p.t1 + (units - 2) * p.t0));
+        }
+    }
+    list
+}
+
 fn find(r: &mut Random, all: &[Implementation], p: Profile) -> Result<(), String> {
     let mut list = stream(r, &all[0], p, 60);
+    if (all[0].margin)(p).number == 0 && r.one_in(2) {
+        list.extend(runs(r, p));
+    }
     while r.one_in(2) {
         list.extend(stream(r, &all[0], p, 60));
     }
@@ -386,9 +452,10 @@ fn merge(r: &mut Random, all: &[Implementation]) -> Result<(), String> {
 }
 
 fn of_profile(r: &mut Random, all: &[Implementation], p: Profile) -> Result<(), String> {
-    let interval = r.of(&[p.min, p.b23, p.b34, p.rpt, 0]).wrapping_sub(r.below(2) as u16);
-    let both = |who: &Implementation, _: &mut [u16]| -> [Answer; 2] { [(who.margin)(p), (who.class)(p, interval)] };
-    same(all, || format!("margin and class {p:?} {interval}"), with_output(all, 0, both))
+    let edge = if r.one_in(6) { 0 } else { r.of(&edges_of(p)) };
+    let (interval, after_short) = (edge.wrapping_sub(r.below(2) as u16), r.of(&[0, 1, 2, u32::MAX]));
+    let both = |who: &Implementation, _: &mut [u16]| [(who.margin)(p), (who.class)(p, interval, after_short)];
+    same(all, || format!("margin and class {p:?} {interval} {after_short}"), with_output(all, 0, both))
 }
 
 /// Places that `held` does not count mean nothing.

@@ -42,7 +42,7 @@ pub struct Implementation {
     pub kind: Kind,
     pub name: &'static str,
     pub margin: fn(Profile) -> Answer,
-    pub class: fn(Profile, u16) -> Answer,
+    pub class: fn(Profile, u16, u32) -> Answer,
     pub write: fn(Profile, &[u16], &mut [u16]) -> Answer,
     pub read: fn(Profile, &[u16], &mut [u16]) -> Answer,
     pub find: fn(Profile, &[u16], u64) -> Answer,
@@ -76,7 +76,7 @@ macro_rules! c_interface {
                 #[link_name = concat!($prefix, "margin")]
                 fn margin(p: Profile) -> Answer;
                 #[link_name = concat!($prefix, "class")]
-                fn class(p: Profile, interval: u16) -> Answer;
+                fn class(p: Profile, interval: u16, after_short: u32) -> Answer;
                 #[link_name = concat!($prefix, "write")]
                 fn write(p: Profile, items: *const u16, n: usize, out: *mut u16, room: usize) -> Answer;
                 #[link_name = concat!($prefix, "read")]
@@ -130,7 +130,7 @@ macro_rules! c_interface {
                     kind,
                     name,
                     margin: |p| unsafe { margin(p) },
-                    class: |p, interval| unsafe { class(p, interval) },
+                    class: |p, interval, after_short| unsafe { class(p, interval, after_short) },
                     write: |p, list, out| unsafe { write(p, list.as_ptr(), list.len(), out.as_mut_ptr(), out.len()) },
                     read: |p, list, out| unsafe { read(p, list.as_ptr(), list.len(), out.as_mut_ptr(), out.len()) },
                     find: |p, list, start| unsafe { find(p, list.as_ptr(), list.len(), start) },
@@ -218,7 +218,7 @@ macro_rules! careful {
                 #[link_name = concat!($prefix, "margin")]
                 fn margin(p: Profile) -> Answer;
                 #[link_name = concat!($prefix, "class")]
-                fn class(p: Profile, interval: u16) -> Answer;
+                fn class(p: Profile, interval: u16, after_short: u32) -> Answer;
                 #[link_name = concat!($prefix, "write")]
                 fn write(p: Profile, items: *const u16, n: usize, out: *mut u16, room: usize) -> Answer;
                 #[link_name = concat!($prefix, "read")]
@@ -237,7 +237,7 @@ macro_rules! careful {
                 kind: Kind::CarefulC,
                 name: $name,
                 margin: |p| unsafe { margin(p) },
-                class: |p, interval| unsafe { class(p, interval) },
+                class: |p, interval, after_short| unsafe { class(p, interval, after_short) },
                 write: |p, list, out| unsafe { write(p, list.as_ptr(), list.len(), out.as_mut_ptr(), out.len()) },
                 read: |p, list, out| unsafe { read(p, list.as_ptr(), list.len(), out.as_mut_ptr(), out.len()) },
                 find: |p, list, start| unsafe { find(p, list.as_ptr(), list.len(), start) },

@@ -1,10 +1,12 @@
 //! The contract of `ism.h` in plain safe Rust, as a baseline for the benchmark: no proof, no heap, no table that a call
 //! builds beyond what depends on its profile.
 
+mod clearance;
 mod fifo;
 mod finder;
 mod images;
 pub(crate) mod index;
+pub(crate) mod kinds;
 mod passes;
 mod reader;
 pub(crate) mod register;
@@ -21,7 +23,10 @@ pub use reader::{plain_rust_read, plain_rust_read_field};
 pub use reports::{plain_rust_add_reports, plain_rust_drive_report};
 pub use writer::{plain_rust_make_sector, plain_rust_write};
 
+use clearance::clearance_behind;
+pub(crate) use clearance::least_clearance;
 use ism::sys::{Answer, Profile};
+use kinds::classify;
 
 pub(crate) const MAX_BYTES: usize = 6_400;
 pub(crate) const MAX_INTERVALS: usize = 51_202;
@@ -35,60 +40,34 @@ pub(crate) fn counted(count: u64) -> Answer {
     Answer { number: 0, place: 0, count, used: 0, holds: 0, clearance: 0 }
 }
 
-/// Classes 1 narrow, 2, 3, 4, 5 wide. The edges of a true profile ascend, so the class is one more than the number of
-/// edges that the interval reaches.
-#[inline]
-pub(crate) fn classify(p: &Profile, interval: u16) -> u8 {
-    [p.min, p.b23, p.b34, p.rpt].iter().fold(1, |class, edge| class + u8::from(interval >= *edge))
-}
-
-/// The least clearance of some intervals, none of them narrow or wide: how near they come to an edge. At Min that is
-/// the shortest, at Rpt the longest. At an edge between two windows the differences are seen such that those of
-/// intervals below the edge come last: then the first is the nearest from the edge up, the last the nearest below.
-pub(crate) fn least_clearance(p: &Profile, intervals: &[u16]) -> u32 {
-    let edges = [0, p.b23 ^ 0x8000, p.b34 ^ 0x8000];
-    let (mut first, mut last) = ([i16::MAX; 3], [i16::MIN; 3]);
-    for interval in intervals {
-        for (edge, (first, last)) in edges.iter().zip(first.iter_mut().zip(&mut last)) {
-            let difference = interval.wrapping_sub(*edge) as i16;
-            *first = difference.min(*first);
-            *last = difference.max(*last);
-        }
-    }
-    let [shortest, from_b23, from_b34] = first.map(i32::from);
-    let [longest, below_b23, below_b34] = last.map(i32::from);
-    let outer = (shortest - i32::from(p.min)).min(i32::from(p.rpt) - 1 - longest);
-    let two = (from_b23 + 0x8000).min(0x7FFF - below_b23);
-    let three = (from_b34 + 0x8000).min(0x7FFF - below_b34);
-    outer.min(two).min(three) as u32
-}
-
-/// The margin, below 0 if the windows miss the cell lengths.
+/// The margin, below 0 if the windows miss the cell lengths. A longer cell is at its longest where it begins early and
+/// ends late, one of 2 units at its shortest the other way round. Behind a cell of 2 units a longer one begins early
+/// and one of 2 units normal; behind a longer cell they begin normal and late.
 fn least_distance(p: &Profile) -> i32 {
-    let d = 2 * (i32::from(p.late) - i32::from(p.early));
+    let [early, normal, late] = [p.early, p.normal, p.late].map(|point| 2 * i32::from(point));
+    let (e, l) = (normal - early, late - normal);
     let two = i32::from(p.t1);
     let three = two + i32::from(p.t0);
     let four = three + i32::from(p.t0);
-    let [min, b23, b34, rpt] = [p.min, p.b23, p.b34, p.rpt].map(i32::from);
-    let class_2 = (two - d - min).min(b23 - 1 - two);
-    let class_3 = (three - b23).min(b34 - 1 - three - d);
-    let class_4 = (four - b34).min(rpt - 1 - four - d);
-    class_2.min(class_3).min(class_4)
+    let [min, b23_short, b23_long, b34_short, b34_long, rpt] = edges_of(p).map(i32::from);
+    let outer = (two - e - l - min).min(rpt - 1 - four - e - l);
+    let short_23 = (b23_short - 1 - two).min(three + e - b23_short);
+    let short_34 = (b34_short - 1 - three - e - l).min(four + e - b34_short);
+    let long_23 = (b23_long - 1 - two + l).min(three - b23_long);
+    let long_34 = (b34_long - 1 - three - l).min(four - b34_long);
+    outer.min(short_23).min(short_34).min(long_23).min(long_34)
+}
+
+/// From Min on, in the profile's order.
+fn edges_of(p: &Profile) -> [u16; 6] {
+    [p.min, p.b23_short, p.b23_long, p.b34_short, p.b34_long, p.rpt]
 }
 
 pub(crate) fn check_profile(p: &Profile) -> Result<(), Answer> {
-    let in_range = [
-        (1..=1023).contains(&p.t1),
-        (1..=1023).contains(&p.t0),
-        p.early <= 15,
-        p.normal <= 15,
-        p.late <= 15,
-        (1..=4095).contains(&p.min),
-        (1..=4095).contains(&p.b23),
-        (1..=4095).contains(&p.b34),
-        (1..=4095).contains(&p.rpt),
-    ];
-    if let Some(which) = in_range.iter().position(|fits| !fits) {
+    let cells = [p.t1, p.t0].map(|length| (1..=1023).contains(&length));
+    let points = [p.early, p.normal, p.late].map(|point| point <= 15);
+    let edges = edges_of(p).map(|edge| (1..=4095).contains(&edge));
+    if let Some(which) = cells.iter().chain(&points).chain(&edges).position(|fits| !fits) {
         return Err(refused(1, which + 1));
     }
     if p.early > p.normal || p.normal > p.late || least_distance(p) < 0 {
@@ -111,10 +90,11 @@ pub fn plain_rust_margin(profile: Profile) -> Answer {
     either(check_profile(&profile).map(|()| counted(least_distance(&profile) as u64)))
 }
 
-pub fn plain_rust_class(profile: Profile, interval: u16) -> Answer {
+pub fn plain_rust_class(profile: Profile, interval: u16, after_short: u32) -> Answer {
+    let two = after_short != 0;
     let inside = (profile.min..profile.rpt).contains(&interval);
     either(check_profile(&profile).map(|()| Answer {
-        clearance: if inside { least_clearance(&profile, &[interval]) } else { 0 },
-        ..counted(u64::from(classify(&profile, interval)))
+        clearance: if inside { clearance_behind(&profile, two, &[interval]) } else { 0 },
+        ..counted(u64::from(classify(&profile, two, interval)))
     }))
 }

@@ -54,7 +54,7 @@ pub fn other_entries() -> Vec<Entry> {
     // SAFETY: numbers in, numbers out
     vec![
         ("margin", Box::new(|| unsafe { ism_margin(PROFILE) })),
-        ("class", Box::new(|| unsafe { ism_class(PROFILE, 100) })),
+        ("class", Box::new(|| unsafe { ism_class(PROFILE, 100, 1) })),
         (
             "add_reports",
             Box::new(move || Answer { number: unsafe { ism_add_reports(report, report) }.number, ..nothing() }),

@@ -6,9 +6,24 @@ use ism::{CHECK, MARK_A1, MARK_C2, MAX_BYTES, MAX_INTERVALS, MAX_SECTORS, SECTOR
 
 use crate::implementations::Implementation;
 
-/// The worked profile of the paper.
-pub const PROFILE: Profile =
-    Profile { t1: 58, t0: 29, early: 8, normal: 10, late: 12, min: 36, b23: 73, b34: 106, rpt: 139 };
+/// A profile of its numbers in the paper's order.
+pub const fn profile_of(numbers: [u16; 11]) -> Profile {
+    let [t1, t0, early, normal, late, min, b23_short, b23_long, b34_short, b34_long, rpt] = numbers;
+    Profile { t1, t0, early, normal, late, min, b23_short, b23_long, b34_short, b34_long, rpt }
+}
+
+/// The worked profile of the paper, whose pairs are equal: what all rows have but those that say otherwise.
+pub const PROFILE: Profile = profile_of([58, 29, 8, 10, 12, 36, 73, 73, 106, 106, 139]);
+
+/// The same drive with pairs that give it a larger margin. As written, no interval lies between the two bounds of a
+/// pair; moved by up to the margin, some lie between the two B34 and none between the two B23.
+pub const PAIRS: Profile = profile_of([58, 29, 8, 10, 12, 36, 75, 71, 108, 104, 139]);
+
+/// The margin of `PAIRS`.
+const PAIRS_MARGIN: u16 = 12;
+
+/// A drive with wide pairs: from 73 to 94 the interval before decides, between classes 2 and 3.
+pub const WIDE_PAIRS: Profile = profile_of([58, 29, 0, 5, 5, 36, 95, 73, 120, 106, 139]);
 
 const TRACK_INTERVALS: usize = 100_000;
 const RAGGED: u32 = 7;
@@ -70,7 +85,7 @@ macro_rules! plans {
 }
 
 pub fn all() -> Vec<Plan> {
-    with_careful().into_iter().chain(others()).collect()
+    with_careful().into_iter().chain(with_pairs()).chain(others()).collect()
 }
 
 /// Writer, readers, finder and index.
@@ -85,24 +100,46 @@ fn with_careful() -> Vec<Plan> {
         "write_marks-6400", "6400 marks, A1 and C2 in turn", write([MARK_A1, MARK_C2].repeat(3_200));
         "write_checks-3200", "3200 check orders", write(vec![CHECK; 3_200]);
         "write_few-6400", "6400 bytes AA, the fewest cells", write(vec![0xAA; 6_400]);
-        "read-10", "10 bytes", read(items(10));
-        "read-512", "512 bytes", read(items(512));
-        "read-6400", "6400 bytes", read(items(6_400));
-        "read_marks-6400", "6400 marks, A1 and C2 in turn", read([MARK_A1, MARK_C2].repeat(3_200));
-        "read_ragged-6400", "6400 bytes, ragged", read_ragged(items(6_400));
-        "read_stray-6400", "6400 bytes, stray at the end", read_stray(items(6_400));
-        "find-100000", "100000 intervals of data", find(stream(&items(MAX_BYTES)));
-        "find_in_sync-100000", "100000 intervals of class 2", find(vec![PROFILE.t1]);
-        "find_in_runs_63-100000", "100000 intervals in runs of 63 of class 2", find(run_of(63));
-        "find_in_runs_64-100000", "100000 intervals in runs of 64, no mark", find(run_of(64));
-        "find_in_marks-100000", "100000 intervals of marks", find(stream(&vec![MARK_A1; MAX_BYTES]));
-        "find_nothing-100000", "100000 intervals of data, no lock", find_nothing(stream(&items(MAX_BYTES)));
-        "read_field-10", "10 bytes", read_field(10);
-        "read_field-512", "512 bytes", read_field(512);
-        "read_field-1030", "1030 bytes", read_field(1_030);
-        "index-9", "a track of 9 sectors of 512 bytes", index(track_of(9, 512));
-        "index_in_locks-100000", "100000 intervals of locks that read as nothing", index(repeated(one_mark()));
-        "index_in_ids-100000", "100000 intervals of IDs whose sum fails", index(repeated(failing_id()));
+        "read-10", "10 bytes", read(PROFILE, items(10));
+        "read-512", "512 bytes", read(PROFILE, items(512));
+        "read-6400", "6400 bytes", read(PROFILE, items(6_400));
+        "read_marks-6400", "6400 marks, A1 and C2 in turn", read(PROFILE, [MARK_A1, MARK_C2].repeat(3_200));
+        "read_ragged-6400", "6400 bytes, ragged", read_ragged(PROFILE, items(6_400));
+        "read_stray-6400", "6400 bytes, stray at the end", read_stray(PROFILE, items(6_400));
+        "find-100000", "100000 intervals of data", find(PROFILE, stream(PROFILE, &items(MAX_BYTES)));
+        "find_in_sync-100000", "100000 intervals of class 2", find(PROFILE, vec![PROFILE.t1]);
+        "find_in_runs_63-100000", "100000 intervals in runs of 63 of class 2", find(PROFILE, run_of(63));
+        "find_in_runs_64-100000", "100000 intervals in runs of 64, no mark", find(PROFILE, run_of(64));
+        "find_in_marks-100000", "100000 intervals of marks", find(PROFILE, stream(PROFILE, &vec![MARK_A1; MAX_BYTES]));
+        "find_nothing-100000", "100000 intervals of data, no lock",
+            find_nothing(PROFILE, stream(PROFILE, &items(MAX_BYTES)));
+        "find_locks-9", "every lock of a track of 9 sectors of 512 bytes",
+            find_locks(PROFILE, track_of(PROFILE, 9, 512));
+        "read_field-10", "10 bytes", read_field(PROFILE, 10);
+        "read_field-512", "512 bytes", read_field(PROFILE, 512);
+        "read_field-1030", "1030 bytes", read_field(PROFILE, 1_030);
+        "index-9", "a track of 9 sectors of 512 bytes", index(PROFILE, track_of(PROFILE, 9, 512));
+        "index_in_locks-100000", "100000 intervals of locks that read as nothing", index(PROFILE, repeated(one_mark()));
+        "index_in_ids-100000", "100000 intervals of IDs whose sum fails", index(PROFILE, repeated(failing_id()));
+    })
+}
+
+/// Readers, finder and index where the interval before counts.
+fn with_pairs() -> Vec<Plan> {
+    Vec::from(plans! {
+        true,
+        "read_pairs-6400", "6400 bytes, unequal pairs", read(PAIRS, items(6_400));
+        "read_pairs_moved-6400", "6400 bytes, unequal pairs, each interval moved by up to 12",
+            read_moved(PAIRS, items(6_400));
+        "find_pairs-100000", "100000 intervals of data, unequal pairs", find(PAIRS, stream(PAIRS, &items(MAX_BYTES)));
+        "find_locks_pairs-9", "every lock of a track of 9 sectors of 512 bytes, unequal pairs",
+            find_locks(PAIRS, track_of(PAIRS, 9, 512));
+        "find_unsure-100000", "100000 intervals, 200 and then 80s between the two B23", find_unsure();
+        "read_field_pairs-10", "10 bytes, unequal pairs", read_field(PAIRS, 10);
+        "read_field_pairs-1030", "1030 bytes, unequal pairs", read_field(PAIRS, 1_030);
+        "read_field_pairs_moved-1030", "1030 bytes, unequal pairs, each interval moved by up to 12",
+            read_field_moved(PAIRS, 1_030);
+        "index_pairs-9", "a track of 9 sectors of 512 bytes, unequal pairs", index(PAIRS, track_of(PAIRS, 9, 512));
     })
 }
 
@@ -117,7 +154,8 @@ fn others() -> Vec<Plan> {
         "make_image-6400", "6400 bytes", make_image(items(6_400));
         "read_image-512", "512 bytes", read_image(items(512));
         "read_image-6400", "6400 bytes", read_image(items(6_400));
-        "drive_report-51202", "51202 intervals of data", drive_report(MAX_INTERVALS);
+        "drive_report-51202", "51202 intervals of data", drive_report(PROFILE, MAX_INTERVALS);
+        "drive_report_pairs-51202", "51202 intervals of data, unequal pairs", drive_report(PAIRS, MAX_INTERVALS);
         "merge-9", "two sets of 9 sectors of 512 bytes", merge(9, 512);
         "merge-32", "two sets of 32 sectors of 1024 bytes", merge(32, 1_024);
     })
@@ -137,16 +175,25 @@ fn items(count: usize) -> Vec<u16> {
     bytes(count).into_iter().map(u16::from).collect()
 }
 
-fn stream(items: &[u16]) -> Vec<u16> {
+fn stream(p: Profile, items: &[u16]) -> Vec<u16> {
     let mut out = vec![0; MAX_INTERVALS];
-    let answer = plain_rust_write(PROFILE, items, &mut out);
+    let answer = plain_rust_write(p, items, &mut out);
     assert_eq!(answer.number, 0, "the inputs of the benchmark are accepted");
     out.truncate(answer.count as usize);
     out
 }
 
+/// Each interval of a stream under `PAIRS` moved by up to its margin, so that it reads as before.
+fn moved(mut intervals: Vec<u16>) -> Vec<u16> {
+    let steps = bytes(intervals.len()).into_iter().map(|byte| u16::from(byte) % (2 * PAIRS_MARGIN + 1));
+    for (interval, step) in intervals.iter_mut().zip(steps) {
+        *interval = *interval + step - PAIRS_MARGIN;
+    }
+    intervals
+}
+
 fn write_into(list: Vec<u16>, room: usize) -> Task {
-    let intervals = stream(&list).len();
+    let intervals = stream(PROFILE, &list).len();
     let run: Run = Box::new(move |who, out| (who.write)(PROFILE, &list, out));
     Task::new(intervals, "interval", room, run)
 }
@@ -158,68 +205,101 @@ fn write(list: Vec<u16>) -> Task {
 }
 
 fn write_exactly(list: Vec<u16>) -> Task {
-    let room = stream(&list).len();
+    let room = stream(PROFILE, &list).len();
     write_into(list, room)
 }
 
-fn read_list(intervals: Vec<u16>, room: usize) -> Task {
+fn read_list(p: Profile, intervals: Vec<u16>, room: usize) -> Task {
     let units = intervals.len();
-    let run: Run = Box::new(move |who, out| (who.read)(PROFILE, &intervals, out));
+    let run: Run = Box::new(move |who, out| (who.read)(p, &intervals, out));
     Task::new(units, "interval", room, run)
 }
 
-fn read(list: Vec<u16>) -> Task {
-    read_list(stream(&list), list.len())
+fn read(p: Profile, list: Vec<u16>) -> Task {
+    read_list(p, stream(p, &list), list.len())
+}
+
+fn read_moved(p: Profile, list: Vec<u16>) -> Task {
+    read_list(p, moved(stream(p, &list)), list.len())
 }
 
 /// One closing interval is lost.
-fn read_ragged(list: Vec<u16>) -> Task {
-    let mut intervals = stream(&list);
+fn read_ragged(p: Profile, list: Vec<u16>) -> Task {
+    let mut intervals = stream(p, &list);
     intervals.pop();
-    read_list(intervals, list.len()).refused(RAGGED)
+    read_list(p, intervals, list.len()).refused(RAGGED)
 }
 
 /// The last byte is 00, and the closing clock is lost.
-fn read_stray(mut list: Vec<u16>) -> Task {
+fn read_stray(p: Profile, mut list: Vec<u16>) -> Task {
     let last = list.len() - 1;
     list[last] = 0;
-    let mut intervals = stream(&list);
+    let mut intervals = stream(p, &list);
     intervals.truncate(intervals.len() - 2);
-    intervals.push(PROFILE.t1 + 2 * PROFILE.t0);
-    read_list(intervals, list.len()).refused(STRAY)
+    intervals.push(p.t1 + 2 * p.t0);
+    read_list(p, intervals, list.len()).refused(STRAY)
 }
 
 fn run_of(length: usize) -> Vec<u16> {
-    [vec![PROFILE.t1; length], vec![PROFILE.b23]].concat()
+    [vec![PROFILE.t1; length], vec![PROFILE.b23_short]].concat()
 }
 
-fn find_in(track: Vec<u16>) -> Task {
-    let run: Run = Box::new(move |who, _| (who.find)(PROFILE, &track, 0));
+fn find_in(p: Profile, track: Vec<u16>) -> Task {
+    let run: Run = Box::new(move |who, _| (who.find)(p, &track, 0));
     Task::new(TRACK_INTERVALS, "interval", 0, run)
 }
 
 /// A track that repeats some intervals, with the only lock at its very end.
-fn find(repeated: Vec<u16>) -> Task {
-    let lock = stream(&[vec![0; 12], vec![MARK_A1; 3]].concat());
+fn find(p: Profile, repeated: Vec<u16>) -> Task {
+    let lock = stream(p, &[vec![0; 12], vec![MARK_A1; 3]].concat());
     let mut track: Vec<u16> = repeated.into_iter().cycle().take(TRACK_INTERVALS - lock.len()).collect();
     track.extend(lock);
-    find_in(track)
+    find_in(p, track)
 }
 
-fn find_nothing(repeated: Vec<u16>) -> Task {
-    find_in(repeated.into_iter().cycle().take(TRACK_INTERVALS).collect()).refused(ADRIFT)
+fn find_nothing(p: Profile, repeated: Vec<u16>) -> Task {
+    find_in(p, repeated.into_iter().cycle().take(TRACK_INTERVALS).collect()).refused(ADRIFT)
+}
+
+/// Each search begins at the lock before, until none is found. The output has the places.
+fn find_locks(p: Profile, track: Vec<u16>) -> Task {
+    let intervals = track.len();
+    let run: Run = Box::new(move |who, out| {
+        let mut answer = (who.find)(p, &track, 0);
+        for place in out {
+            *place = answer.count as u16;
+            answer = (who.find)(p, &track, answer.count);
+        }
+        answer
+    });
+    Task::new(intervals, "interval", 2 * 9, run).refused(ADRIFT)
+}
+
+/// The finder's worst case: all but the first lie between the two B23, behind a wide one, and so none is of class 2,
+/// though each would be behind class 2.
+fn find_unsure() -> Task {
+    let mut track = vec![80; TRACK_INTERVALS];
+    track[0] = 200;
+    find_in(WIDE_PAIRS, track).refused(ADRIFT)
 }
 
 /// Three marks, data and check bytes; the register is zero behind them.
-fn field(size: usize) -> Vec<u16> {
-    stream(&[vec![MARK_A1; 3], items(size - 5), vec![CHECK]].concat())
+fn field(p: Profile, size: usize) -> Vec<u16> {
+    stream(p, &[vec![MARK_A1; 3], items(size - 5), vec![CHECK]].concat())
 }
 
-fn read_field(size: usize) -> Task {
-    let intervals = field(size);
+fn read_field_list(p: Profile, intervals: Vec<u16>, size: usize) -> Task {
     let units = intervals.len();
-    let run: Run = Box::new(move |who, out| (who.read_field)(PROFILE, &intervals, size as u64, out));
+    let run: Run = Box::new(move |who, out| (who.read_field)(p, &intervals, size as u64, out));
     Task::new(units, "interval", size, run)
+}
+
+fn read_field(p: Profile, size: usize) -> Task {
+    read_field_list(p, field(p, size), size)
+}
+
+fn read_field_moved(p: Profile, size: usize) -> Task {
+    read_field_list(p, moved(field(p, size)), size)
 }
 
 fn length_code(size: usize) -> u8 {
@@ -268,9 +348,9 @@ fn put_report(report: &Report, out: &mut [u16]) -> Answer {
     Answer { number: report.number, place: report.place, count: 0, used: 0, holds: 0, clearance: 0 }
 }
 
-fn drive_report(intervals: usize) -> Task {
-    let track: Vec<u16> = stream(&items(MAX_BYTES)).into_iter().cycle().take(intervals).collect();
-    let run: Run = Box::new(move |who, out| put_report(&(who.drive_report)(PROFILE, &track), out));
+fn drive_report(p: Profile, intervals: usize) -> Task {
+    let track: Vec<u16> = stream(p, &items(MAX_BYTES)).into_iter().cycle().take(intervals).collect();
+    let run: Run = Box::new(move |who, out| put_report(&(who.drive_report)(p, &track), out));
     Task::new(intervals, "interval", REPORT_PARTS, run)
 }
 
@@ -287,21 +367,21 @@ fn put_index(index: &Index, out: &mut [u16]) -> Answer {
     Answer { number: index.number, place: index.place, count: index.count, used: 0, holds: 0, clearance: 0 }
 }
 
-fn index(track: Vec<u16>) -> Task {
+fn index(p: Profile, track: Vec<u16>) -> Task {
     let intervals = track.len();
-    let run: Run = Box::new(move |who, out| put_index(&(who.index_track)(PROFILE, &track), out));
+    let run: Run = Box::new(move |who, out| put_index(&(who.index_track)(p, &track), out));
     Task::new(intervals, "interval", ENTRY_PARTS * MAX_SECTORS, run)
 }
 
 /// Made sectors one after the other.
-fn track_of(sectors: usize, size: usize) -> Vec<u16> {
+fn track_of(p: Profile, sectors: usize, size: usize) -> Vec<u16> {
     let data = bytes(sectors * size);
     let mut items = vec![0; sectors * (size + SECTOR_OVERHEAD)];
     for (number, out) in items.chunks_exact_mut(size + SECTOR_OVERHEAD).enumerate() {
         let id = [39, 1, number as u8 + 1, length_code(size)];
         plain_rust_make_sector(id, &data[number * size..(number + 1) * size], out);
     }
-    stream(&items)
+    stream(p, &items)
 }
 
 fn repeated(intervals: Vec<u16>) -> Vec<u16> {
@@ -310,12 +390,13 @@ fn repeated(intervals: Vec<u16>) -> Vec<u16> {
 
 /// As short as a lock can be.
 fn one_mark() -> Vec<u16> {
-    [vec![PROFILE.t1; 64], vec![PROFILE.b23, PROFILE.b34, PROFILE.b23, PROFILE.b34, PROFILE.b23]].concat()
+    let (three, four) = (PROFILE.b23_short, PROFILE.b34_short);
+    [vec![PROFILE.t1; 64], vec![three, four, three, four, three]].concat()
 }
 
 /// An ID field with wrong check bytes, and its sync.
 fn failing_id() -> Vec<u16> {
-    stream(&[vec![0; 12], vec![MARK_A1; 3], vec![0xFE, 39, 1, 7, 2, 0, 0]].concat())
+    stream(PROFILE, &[vec![0; 12], vec![MARK_A1; 3], vec![0xFE, 39, 1, 7, 2, 0, 0]].concat())
 }
 
 /// The sectors that a pass reads from one of them on; the sum of some fails.

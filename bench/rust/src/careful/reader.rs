@@ -3,6 +3,7 @@
 use ism::sys::{Answer, Profile};
 
 use super::passed;
+use crate::plain::kinds::{bounds_behind, has_pairs, Bounds};
 use crate::plain::register::ALL_ONES;
 use crate::plain::words::{is_mark_word, item_of};
 use crate::plain::{
@@ -23,12 +24,20 @@ struct HalfCells {
 }
 
 impl HalfCells {
-    const LEAD: HalfCells = HalfCells { bits: 1, over: -1 - WORD };
+    /// The clock of the lead 0 and, two half cells before it, a transition: before the first interval counts a class 2.
+    const LEAD: HalfCells = HalfCells { bits: 5, over: -1 - WORD };
+
+    /// Whether the newest cell has 2 units, and so its interval, neither narrow nor wide, class 2.
+    #[inline(always)]
+    fn is_behind_two(self) -> bool {
+        self.bits >> 2 & 1 == 1
+    }
 
     /// With one interval more, narrow and wide ones aside.
     #[inline(always)]
-    fn with_cell(self, p: &Profile, interval: u16) -> HalfCells {
-        let units = 2 + i32::from(interval >= p.b23) + i32::from(interval >= p.b34);
+    fn with_cell<const PAIRS: bool>(self, behind: &[Bounds; 2], interval: u16) -> HalfCells {
+        let Bounds { b23, b34 } = behind[if PAIRS { usize::from(self.is_behind_two()) } else { 1 }];
+        let units = 2 + i32::from(interval >= b23) + i32::from(interval >= b34);
         HalfCells { bits: self.bits << units | 1, over: self.over + units }
     }
 
@@ -73,12 +82,18 @@ fn check_interval(p: &Profile, interval: u16, place: usize) -> Result<(), Answer
     Err(refused(if interval < p.min { 5 } else { 6 }, place))
 }
 
+/// Behind any other interval, and behind one of class 2.
+fn both_bounds(p: &Profile) -> [Bounds; 2] {
+    [false, true].map(|two| bounds_behind(p, two))
+}
+
 /// The first pass stores nothing: how many bytes a strip has, or why it is refused.
-fn check_strip(p: &Profile, intervals: &[u16]) -> Result<usize, Answer> {
+fn check_strip<const PAIRS: bool>(p: &Profile, intervals: &[u16]) -> Result<usize, Answer> {
+    let behind = both_bounds(p);
     let (mut h, mut bytes, mut stray) = (HalfCells::LEAD, 0, None);
     for (place, interval) in intervals.iter().enumerate() {
         check_interval(p, *interval, place)?;
-        h = h.with_cell(p, *interval);
+        h = h.with_cell::<PAIRS>(&behind, *interval);
         if h.over >= 0 {
             if h.is_stray() && stray.is_none() {
                 stray = Some(h.stray_place(place));
@@ -99,10 +114,11 @@ fn check_strip(p: &Profile, intervals: &[u16]) -> Result<usize, Answer> {
     }
 }
 
-fn store_strip(p: &Profile, intervals: &[u16], out: &mut [u16]) {
+fn store_strip<const PAIRS: bool>(p: &Profile, intervals: &[u16], out: &mut [u16]) {
+    let behind = both_bounds(p);
     let (mut h, mut out) = (HalfCells::LEAD, out.iter_mut());
     for interval in intervals {
-        h = h.with_cell(p, *interval);
+        h = h.with_cell::<PAIRS>(&behind, *interval);
         if h.over >= 0 {
             if let Some(item) = out.next() {
                 *item = item_of(h.word() as u16);
@@ -112,14 +128,26 @@ fn store_strip(p: &Profile, intervals: &[u16], out: &mut [u16]) {
     }
 }
 
+/// The items of a strip, and how many.
+fn read_strip(p: &Profile, intervals: &[u16], out: &mut [u16]) -> Result<usize, Answer> {
+    let pairs = has_pairs(p);
+    let bytes = if pairs { check_strip::<true>(p, intervals) } else { check_strip::<false>(p, intervals) }?;
+    let out = out.get_mut(..bytes).ok_or(refused(9, 0))?;
+    if pairs {
+        store_strip::<true>(p, intervals, out);
+    } else {
+        store_strip::<false>(p, intervals, out);
+    }
+    Ok(bytes)
+}
+
 /// A strip of n bytes has 16 n + 4 half cells: the lead 0's data, the words, and closing clock, data and clock.
 fn read(p: &Profile, intervals: &[u16], out: &mut [u16]) -> Result<Answer, Answer> {
     check_profile(p)?;
     if intervals.len() > MAX_INTERVALS {
         return Err(refused(4, 0));
     }
-    let bytes = check_strip(p, intervals)?;
-    store_strip(p, intervals, out.get_mut(..bytes).ok_or(refused(9, 0))?);
+    let bytes = read_strip(p, intervals, out)?;
     Ok(Answer { clearance: least_clearance(p, intervals), ..counted(bytes as u64) })
 }
 
@@ -129,13 +157,14 @@ pub fn careful_rust_read(profile: Profile, intervals: &[u16], out: &mut [u16]) -
 }
 
 /// The bytes of a field to a buffer of their number; how many intervals they use.
-fn read_bytes(p: &Profile, intervals: &[u16], items: &mut [u16]) -> Result<usize, Answer> {
+fn read_bytes<const PAIRS: bool>(p: &Profile, intervals: &[u16], items: &mut [u16]) -> Result<usize, Answer> {
+    let behind = both_bounds(p);
     let (mut h, mut stray, mut used) = (HalfCells::LEAD, None, 0);
     for item in items {
         while h.over < 0 {
             let interval = *intervals.get(used).ok_or(refused(11, 0))?;
             check_interval(p, interval, used)?;
-            h = h.with_cell(p, interval);
+            h = h.with_cell::<PAIRS>(&behind, interval);
             used += 1;
         }
         if h.is_stray() && stray.is_none() {
@@ -168,7 +197,8 @@ pub fn read_items(p: &Profile, intervals: &[u16], bytes: u64, out: &mut [u16]) -
 }
 
 fn read_through(p: &Profile, intervals: &[u16], items: &mut [u16], out: &mut [u16]) -> Result<Answer, Answer> {
-    let used = read_bytes(p, intervals, items)?;
+    let used =
+        if has_pairs(p) { read_bytes::<true>(p, intervals, items) } else { read_bytes::<false>(p, intervals, items) }?;
     out.get_mut(..items.len()).ok_or(refused(9, 0))?.copy_from_slice(items);
     let holds = u32::from(register_after(items) == 0);
     Ok(Answer { used: used as u64, holds, ..counted(items.len() as u64) })

@@ -3,8 +3,9 @@
 use ism::sys::{Answer, Index, IndexEntry, Profile};
 
 use super::finder::find_lock;
+use super::kinds::has_classes;
 use super::reader::read_items;
-use super::{check_profile, classify, MAX_FIELD_BYTES};
+use super::{check_profile, MAX_FIELD_BYTES};
 
 /// What an index stands on.
 pub trait Fields {
@@ -48,8 +49,7 @@ const fn answered(number: u32, place: u32) -> Index {
 
 /// The field at a lock, if it reads and has three marks A1 and this byte behind them.
 fn sector_field<F: Fields>(p: &Profile, intervals: &[u16], name: u16, items: &mut [u16]) -> Option<Answer> {
-    let marks = intervals.first_chunk::<15>()?;
-    if marks.iter().zip(&THREE_MARKS).any(|(interval, class)| classify(p, *interval) != *class) {
+    if !has_classes(p, intervals, &THREE_MARKS) {
         return None;
     }
     let field = F::read_items(p, intervals, items).ok()?;

@@ -2,6 +2,7 @@
 
 use ism::sys::{Answer, Profile};
 
+use super::kinds::has_pairs;
 use super::register::{register_after, ALL_ONES};
 use super::words::{any_stray, items_of, lowest_stray, zeros_of_block, WordReader, BLOCK, SLACK};
 use super::{
@@ -18,11 +19,11 @@ fn refused_outside(p: &Profile, intervals: &[u16], place: usize) -> Answer {
 }
 
 /// The words of a strip; words over the limit are counted, not kept.
-fn strip_words(p: &Profile, intervals: &[u16], reader: &mut WordReader) -> Result<(), Answer> {
-    let (mut beyond, keep) = (0, reader.words.len() - SLACK);
+fn strip_words<const PAIRS: bool>(p: &Profile, intervals: &[u16], reader: &mut WordReader) -> Result<(), Answer> {
+    let (mut beyond, mut two, keep) = (0, true, reader.words.len() - SLACK);
     for (block, at) in intervals.chunks(BLOCK).zip((0..).step_by(BLOCK)) {
         let mut zeros = [0; BLOCK];
-        if !zeros_of_block(p, block, &mut zeros) {
+        if !zeros_of_block::<PAIRS>(p, &mut two, block, &mut zeros) {
             return Err(refused_outside(p, intervals, at + inside(p, block)));
         }
         let (eights, rest) = zeros[..block.len()].as_chunks::<8>();
@@ -57,7 +58,11 @@ fn read<const WORDS: usize>(p: &Profile, intervals: &[u16], out: &mut [u16]) -> 
     }
     let mut words = [0; WORDS];
     let mut reader = WordReader::new(&mut words);
-    strip_words(p, intervals, &mut reader)?;
+    if has_pairs(p) {
+        strip_words::<true>(p, intervals, &mut reader)?;
+    } else {
+        strip_words::<false>(p, intervals, &mut reader)?;
+    }
     if reader.known() % 16 != 4 {
         return Err(refused(7, 0));
     }
@@ -97,8 +102,13 @@ fn add_until(reader: &mut WordReader, zeros: &[u16], bytes: usize) -> usize {
 }
 
 /// The words of a field, from as many intervals as it needs; how many.
-fn field_words(p: &Profile, intervals: &[u16], bytes: usize, reader: &mut WordReader) -> Result<usize, Answer> {
-    let mut used = 0;
+fn field_words<const PAIRS: bool>(
+    p: &Profile,
+    intervals: &[u16],
+    bytes: usize,
+    reader: &mut WordReader,
+) -> Result<usize, Answer> {
+    let (mut used, mut two) = (0, true);
     while reader.known() <= 16 * bytes {
         let rest = &intervals[used..];
         let block = &rest[..rest.len().min(BLOCK)];
@@ -106,7 +116,7 @@ fn field_words(p: &Profile, intervals: &[u16], bytes: usize, reader: &mut WordRe
             return Err(refused(11, 0));
         }
         let mut zeros = [0; BLOCK];
-        let whole = zeros_of_block(p, block, &mut zeros);
+        let whole = zeros_of_block::<PAIRS>(p, &mut two, block, &mut zeros);
         let count = if whole { block.len() } else { inside(p, block) };
         used += add_until(reader, &zeros[..count], bytes);
         if !whole && reader.known() <= 16 * bytes {
@@ -147,7 +157,11 @@ fn read_through<const WORDS: usize>(
     let count = bytes as usize;
     let mut words = [0; WORDS];
     let mut reader = WordReader::new(&mut words);
-    let used = field_words(p, intervals, count, &mut reader)?;
+    let used = if has_pairs(p) {
+        field_words::<true>(p, intervals, count, &mut reader)
+    } else {
+        field_words::<false>(p, intervals, count, &mut reader)
+    }?;
     let known = reader.known();
     let words = &words[..count + 1];
     if any_stray(words) {

@@ -3,6 +3,7 @@
 
 use ism::sys::Profile;
 
+use super::kinds::{kinds_before, of_kind};
 use super::register::MARK;
 
 pub const BLOCK: usize = 64;
@@ -13,8 +14,8 @@ pub const SLACK: usize = BLOCK / 4 + 4;
 /// The zeros of the cells of a block, and whether all intervals are in the windows. The edges are below 32,768, and an
 /// interval that is not is in no window, so signed compares do.
 #[inline(always)]
-pub fn zeros_of(p: &Profile, intervals: &[u16], zeros: &mut [u16; BLOCK]) -> bool {
-    let (b23, b34, width) = (p.b23 as i16, p.b34 as i16, p.rpt - p.min);
+fn zeros_of(p: &Profile, intervals: &[u16], zeros: &mut [u16; BLOCK]) -> bool {
+    let (b23, b34, width) = (p.b23_short as i16, p.b34_short as i16, p.rpt - p.min);
     let mut outside = 0;
     for (zeros, interval) in zeros.iter_mut().zip(intervals) {
         *zeros = u16::from(*interval as i16 >= b23) + u16::from(*interval as i16 >= b34);
@@ -23,12 +24,29 @@ pub fn zeros_of(p: &Profile, intervals: &[u16], zeros: &mut [u16; BLOCK]) -> boo
     outside == 0
 }
 
-/// The same for a block that is full, whose length the compiler then knows, or not.
-#[inline]
-pub fn zeros_of_block(p: &Profile, block: &[u16], zeros: &mut [u16; BLOCK]) -> bool {
-    match <&[u16; BLOCK]>::try_from(block) {
-        Ok(full) => zeros_of(p, full, zeros),
-        Err(_) => zeros_of(p, block, zeros),
+/// The same for a block behind class 2 or not, each interval behind its kind; in `two` whether the last is of class 2.
+#[inline(always)]
+fn zeros_in_turn(p: &Profile, two: &mut bool, intervals: &[u16], zeros: &mut [u16; BLOCK]) -> bool {
+    let mut kinds = [0; BLOCK];
+    *two = kinds_before(p, *two, intervals, &mut kinds[..intervals.len()]);
+    let (mut outside, width) = (0, p.rpt - p.min);
+    for ((zeros, interval), kind) in zeros.iter_mut().zip(intervals).zip(kinds) {
+        let b23 = of_kind(kind, p.b23_short, p.b23_long) as i16;
+        let b34 = of_kind(kind, p.b34_short, p.b34_long) as i16;
+        *zeros = u16::from(*interval as i16 >= b23) + u16::from(*interval as i16 >= b34);
+        outside |= u16::from(interval.wrapping_sub(p.min) >= width);
+    }
+    outside == 0
+}
+
+/// A full block's length is known to the compiler, and so is whether there are pairs.
+#[inline(always)]
+pub fn zeros_of_block<const PAIRS: bool>(p: &Profile, two: &mut bool, block: &[u16], zeros: &mut [u16; BLOCK]) -> bool {
+    match (PAIRS, <&[u16; BLOCK]>::try_from(block)) {
+        (false, Ok(full)) => zeros_of(p, full, zeros),
+        (false, Err(_)) => zeros_of(p, block, zeros),
+        (true, Ok(full)) => zeros_in_turn(p, two, full, zeros),
+        (true, Err(_)) => zeros_in_turn(p, two, block, zeros),
     }
 }
 
