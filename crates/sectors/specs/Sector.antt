@@ -1,4 +1,5 @@
--- Document 01, "Sector maker": the items of a sector, and what the maker answers. No lemmas here.
+-- Document 01, "Sector maker": the items of a sector, of any of the four length codes, and what the maker answers, which
+-- makes code 1 to 3. No lemmas here.
 use Prim.Native.Nat.{ℕ, _+_}
 use mathlib.Core.Bool.{Bool, cond, not, _||_}
 use mathlib.Core.List.{List, [], _∷_, _++_}
@@ -33,10 +34,14 @@ sectorItems track side sector code bytes =
 unfoldable pub isMisfit : ℕ → List ℕ → Bool
 isMisfit code bytes = ltb 3 code || not (eqb (length bytes) (sectorSize code))
 
+-- document 02, (xiii): 13 also covers code 0 in the maker, and only there
+unfoldable pub isMisfitInMaker : ℕ → List ℕ → Bool
+isMisfitInMaker code bytes = eqb code 0 || isMisfit code bytes
+
 -- 13, 9, else the number of items
 unfoldable pub sectorRule : ℕ → ℕ → ℕ → ℕ → List ℕ → ℕ → Answer
 sectorRule track side sector code bytes room =
-    refuseIf (isMisfit code bytes) 13 0
+    refuseIf (isMisfitInMaker code bytes) 13 0
     (refuseIf (ltb room (length (sectorItems track side sector code bytes))) 9 0
     (accepted (length (sectorItems track side sector code bytes))))
 

@@ -89,7 +89,7 @@ fn put_sector(out: &mut [u16], track: u8, side: u8, sector: u8, code: u8, bytes:
     repeat(out, end, 54, 0x4e);
 }
 
-// 13, then 9; on acceptance the items fill the front of the output and their number is answered.
+// 13, for length code 0 too, then 9; on acceptance the items fill the front of the output and their number is answered.
 pub fn make_sector(
     track: u8,
     side: u8,
@@ -103,6 +103,9 @@ pub fn make_sector(
     ensures output { λ _. ⌜
         now (out .exit) ≡ sectorOutput track side sector code (now (bytes .entry)) (now (out .entry)) ⌝ }
 {
+    if code < 1 {
+        return Counted::Refused(Refusal::SectorSizeMismatch);
+    }
     if 3 < code {
         return Counted::Refused(Refusal::SectorSizeMismatch);
     }
