@@ -32,7 +32,7 @@ use Rattle.fields.specs.Field.{fieldStop}
 use Rattle.fields.specs.FieldRule.{gatherRule, deliverRule, checkedRule, fieldRule, fieldOutput}
 use Rattle.fields.proofs.FirstLockLaws.{lock-from-found, adrift-has-no-lock}
 use Rattle.fields.proofs.FieldLaws.{field-items-count}
-use Rattle.sectors.specs.Sector.{isMisfit, sectorRule, sectorOutput}
+use Rattle.sectors.specs.Sector.{isMisfitInMaker, sectorRule, sectorOutput}
 use Rattle.merge.specs.Merge.{isCrowded, numbers, atOddsAt}
 use Rattle.merge.specs.Set.{isMisfitSet, sectorsIn}
 use Rattle.merge.specs.Rule.{roomRule as merge-room, mergeRule, mergeAnswer, mergeOutput}
@@ -45,6 +45,7 @@ use Rattle.demands.proofs.OrderLaws.{turn-by-test, turn-before, profile
 use Rattle.demands.proofs.OrderLaws.{means-either, means-at, answers-accepted, answers-here, answers-later}
 use Rattle.demands.proofs.OrderLaws.{first-refusal-of-first, NoCauseOf, not-answered, told-after, told-by-test}
 use Rattle.demands.proofs.OrderLaws.{told-once-accepted, told-room, told-if-room, told-bytes, settled-is-lent}
+use Rattle.demands.proofs.OrderLaws.{means-equal}
 use Rattle.demands.proofs.StopLaws.{edges-in-turn, stop-in-turn}
 
 -- ---- finder
@@ -82,7 +83,7 @@ item-count words = length-of-bytes O words
 
 pub demand-1 : Demand1
 unfolding marginRule classRule writeRule listRule streamRule streamOf sectorRule readRule stripRule fieldRule
-    checkedRule gatherRule deliverRule findRule searchRule reportRule addRule makeRule wordsRule readImageRule roomRule
+    isMisfitInMaker checkedRule gatherRule deliverRule findRule searchRule reportRule addRule makeRule wordsRule readImageRule roomRule
     indexRule crowdRule mergeRule merge-room isCrowded writeOutput readOutput fieldOutput sectorOutput makeOutput
     readImageOutput mergeOutput mergeAnswer
 demand-1 =
@@ -107,7 +108,8 @@ demand-1 =
           (turn-by-test (means-either n 1 1030 n)
           (rw (← first-refusal-of-first (fieldStop cs n) _ _)
           (stop-in-turn cs _ _ (turn-before 7 _ _ (means-at _ _) (last-below room n _)) n)));
-      maker = λ track side sector code bytes room. turn-by-test (means-at _ _) (last-below room _ _);
+      maker = λ track side sector code bytes room.
+          turn-by-test (means-or (means-equal code 0) (means-at _ _)) (last-below room _ _);
       drive-report = λ p ds. profile-first p _ (last-below 51202 _ _);
       report-sum = λ a b. turn-by-test (means-at _ _) answers-accepted;
       image-maker = λ items room.
@@ -136,7 +138,7 @@ demand-1 =
           (told-once-accepted (gatherRule cs n) (λ gathers.
           told-room n _ (field-items-count cs n (first-refusal-accepts (fieldStop cs n) _ gathers .0))))));
       maker-output = λ track side sector code bytes old.
-          settled-is-lent _ _ old (told-by-test (isMisfit code bytes) 12 _ (told-room _ _ refl));
+          settled-is-lent _ _ old (told-by-test (isMisfitInMaker code bytes) 12 _ (told-room _ _ refl));
       image-output = λ items old.
           settled-is-lent _ _ old (told-after (listRule items) (told-room _ _ (image-count items)));
       image-items = λ words old.

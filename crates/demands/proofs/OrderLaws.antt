@@ -9,7 +9,7 @@ use native.Mathlib.Omega.{arith}
 use lib.Dec.{ltb, eqb, eqb·suc-zero}
 use lib.ListN.{length, drop}
 use lib.Seq.{drop-append-seam}
-use borrow.Author.Tests.{ltb-true, ltb-false, eq-eqb, ne-eqb}
+use borrow.Author.Tests.{ltb-true, ltb-false, eqb-true, eqb-false, eq-eqb, ne-eqb}
 use Rattle.lists.specs.Filled.{filled}
 use Rattle.lists.proofs.StoreLaws.{front-of-filled}
 use Rattle.refusal.specs.Answer.{Answer, accepted, refused, refuseIf, firstRefusal, settled}
@@ -116,6 +116,13 @@ means-below a b =
     elim (ltb a b) as (λ t. ltb a b ≡ t → Means 0 (at0 (a < b)) t) [
       | true ↦ λ e. holds (ltb-true a b e, refl)
       | false ↦ λ e. fails (λ k c. let h = ltb-false a b e in omega arith)
+    ] refl
+
+pub means-equal : (a b : ℕ) → Means 0 (at0 (a ≡ b)) (eqb a b)
+means-equal a b =
+    elim (eqb a b) as (λ t. eqb a b ≡ t → Means 0 (at0 (a ≡ b)) t) [
+      | true ↦ λ e. holds (eqb-true a b e, refl)
+      | false ↦ λ e. fails (λ k c. eqb-false a b e (c .0))
     ] refl
 
 -- one test or the other

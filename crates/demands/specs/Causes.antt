@@ -93,9 +93,9 @@ fieldOrder p ds n room =
     (turn 9 (at0 (room < n))
     accept))))))
 
--- maker: 13 (the length code is above 3, or the data not that long), 9
+-- maker: 13 (the length code is 0, which document 02, (xiii), adds, or above 3, or the data not that long), 9
 abbrev pub makerOrder : ℕ → ℕ → ℕ → ℕ → List ℕ → ℕ → Order
 makerOrder track side sector code bytes room =
-    turn 13 (at0 (isMisfit code bytes ≡ true))
+    turn 13 (at0 ((code ≡ 0) ⊎ (isMisfit code bytes ≡ true)))
     (turn 9 (at0 (room < length (sectorItems track side sector code bytes)))
     accept)
