@@ -12,7 +12,7 @@ returns c = rw (lt-ltb _ _ (c .if1 .taken))
 
 returns-2 : tie.Need-returns-2
 unfolding endRule
-returns-2 c = rw (le-ltb _ _ (c .before .before .if1 .left), lt-ltb _ _ (c .if2 .taken))
+returns-2 c = rw (le-ltb _ _ (c .before .before .if1 .left), lt-ltb 3 _ (c .if2 .taken))
 
 returns-3 : tie.Need-returns-3
 unfolding endRule
