@@ -82,10 +82,10 @@ unfolding bytesIn
 item-count words = length-of-bytes O words
 
 pub demand-1 : Demand1
-unfolding marginRule classRule writeRule listRule streamRule streamOf sectorRule readRule stripRule fieldRule
-    isMisfitInMaker checkedRule gatherRule deliverRule findRule searchRule reportRule addRule makeRule wordsRule readImageRule roomRule
-    indexRule crowdRule mergeRule merge-room isCrowded writeOutput readOutput fieldOutput sectorOutput makeOutput
-    readImageOutput mergeOutput mergeAnswer
+unfolding marginRule classRule writeRule listRule streamRule streamOf sectorRule isMisfitInMaker readRule stripRule
+    fieldRule checkedRule gatherRule deliverRule findRule searchRule reportRule addRule makeRule wordsRule readImageRule
+    roomRule indexRule crowdRule mergeRule merge-room isCrowded writeOutput readOutput fieldOutput sectorOutput
+    makeOutput readImageOutput mergeOutput mergeAnswer
 demand-1 =
     record {
       margin = λ p. profile-first p _ answers-accepted;

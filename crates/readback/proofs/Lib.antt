@@ -16,3 +16,5 @@ pub mod SectorIndexed
 pub mod TrackIndexed
 -- The clearances of its fields
 pub mod SectorClears
+-- Old disks
+pub mod OldDisks

@@ -26,7 +26,7 @@ use Rattle.readback.proofs.FieldIndexed.{field-is-read, items-are-its-b
 use Rattle.readback.proofs.WrittenSector.{MadeOf, ids, datas, data-bytes, id-bytes}
 use Rattle.readback.proofs.SectorAhead.{data-count, endOf, FieldsFound}
 
--- ---- what the maker takes
+-- ---- what the layout takes
 
 module _ (s : Sector) (makes : Makes s) where
   code-is-small : s .code ≤ 3

@@ -2,3 +2,4 @@ pub mod SectorReads
 pub mod NoLockInData
 pub mod TrackIndexed
 pub mod SectorClears
+pub mod OldDisks

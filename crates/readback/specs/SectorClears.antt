@@ -1,5 +1,5 @@
--- Document 02, request (vi): how near the two fields of a made sector come to the edges of their windows. No lemmas
--- here.
+-- Document 02, request (vi): how near the two fields of a sector, of any of the four length codes, come to the edges of
+-- their windows. No lemmas here.
 use Prim.Native.Nat.{ℕ, _+_, _-_, _≤_}
 use mathlib.Core.List.{List}
 use lib.ListN.{take, drop}

@@ -1,5 +1,5 @@
--- A made sector reads back: what the finder and the field reader give on the stream of a sector's items. No lemmas
--- here.
+-- A sector reads back, of any of the four length codes, code 0 too, which the maker turns away: what the finder and the
+-- field reader give on the stream of its items. No lemmas here.
 use Prim.Native.Nat.{ℕ, _+_, _≤_}
 use mathlib.Core.Path.{_≡_}
 use mathlib.Core.Bool.{true, false}
@@ -47,7 +47,8 @@ unfoldable pub idPlace : ℕ
 idPlace = placeAfter (replicate 12 0x00)
 
 module _ (track side sector code : ℕ) (bytes : List ℕ) where
-  -- numbers of which a sector is made: the maker takes data bytes, and the law holds with mark bytes among them too
+  -- numbers of which a sector is made, by its layout: a length code of 0 to 3, and as many bytes. The maker takes data
+  -- bytes and no code 0; the law holds with mark bytes among them too, and of every code
   pub record Made : Type 0 where
     pub fits : isMisfit code bytes ≡ false
     pub id-bytes : everywhere isByte (track ∷ side ∷ sector ∷ code ∷ []) ≡ true
@@ -67,7 +68,7 @@ module _ (track side sector code : ℕ) (bytes : List ℕ) where
 
   -- what is read of the intervals of such a sector
   pub record SectorReads (p : Profile) (changed : List ℕ) : Type 0 where
-    -- the writer takes the maker's items
+    -- the writer takes the sector's items
     pub written : listRule (sectorItems track side sector code bytes) .number ≡ 0
     -- the first lock from 0 stands at the ID's marks
     pub id-lock : findRule p changed 0 ≡ accepted idPlace

@@ -1,5 +1,5 @@
--- A track of made sectors: what the index lists of the stream of their items, written one after the other. No lemmas
--- here.
+-- A track of sectors, of any of the four length codes: what the index lists of the stream of their items, written one
+-- after the other. No lemmas here.
 use Prim.Native.Nat.{ℕ, _<_, _≤_}
 use mathlib.Core.Path.{_≡_}
 use mathlib.Core.Bool.{true, false}
@@ -19,7 +19,7 @@ use Rattle.demands.specs.Streams.{AcceptedProfile, Moved}
 use Rattle.demands.specs.Demand3.{stated}
 use Rattle.readback.specs.SectorReads.{placeAfter, idField}
 
--- what the maker is given
+-- what a sector is made of
 pub record Sector : Type 0 where
   pub track : ℕ
   pub side : ℕ
@@ -30,7 +30,8 @@ pub record Sector : Type 0 where
 abbrev pub itemsOfSector : Sector → List ℕ
 itemsOfSector s = sectorItems (s .track) (s .side) (s .sector) (s .code) (s .bytes)
 
--- what it takes: three data numbers, a length code, and as many bytes; mark bytes among these would do too
+-- what its layout takes: three data numbers, a length code of 0 to 3, and as many bytes; mark bytes among these would
+-- do too. The maker takes no code 0
 pub record Makes (s : Sector) : Type 0 where
   pub track : s .track < 256
   pub side : s .side < 256

@@ -1,5 +1,5 @@
--- Document 01, "Sector maker": the items of a sector, of any of the four length codes, and what the maker answers, which
--- makes code 1 to 3. No lemmas here.
+-- Document 01, "Sector maker": the items of a sector of any of the four length codes, and what the maker answers, which
+-- takes codes 1 to 3. No lemmas here.
 use Prim.Native.Nat.{ℕ, _+_}
 use mathlib.Core.Bool.{Bool, cond, not, _||_}
 use mathlib.Core.List.{List, [], _∷_, _++_}
