@@ -10,6 +10,7 @@ pub mod limits;
 pub mod locks;
 pub mod margins;
 pub mod merges;
+pub mod old_disks;
 pub mod pairs;
 pub mod profiles;
 pub mod reports;

@@ -87,6 +87,8 @@ fn library() {
     compare.group("locks: data from every start", 0x58, cases::locks::data_from_every_start);
     compare.group("locks: marks", 0x57, cases::locks::marks);
     compare.group("every length code", 0x60, sectors::every_code);
+    compare.group("codes with their own length", 0x63, sectors::own_length);
+    compare.group("code 0 made no more", 0x64, sectors::code_0);
     compare.group("sectors there and back", 0x61, sectors::there_and_back);
     compare.group("sectors within the margin", 0x62, sectors::found_within_margin);
     compare.group("FIFO states", 0x70, fifo::every_state);
@@ -133,6 +135,7 @@ fn library() {
     compare.group("index: damaged sectors", 0xCA, cases::indexes::damaged_sectors);
     compare.group("index: made tracks", 0xCB, cases::indexes::made_tracks);
     compare.group("index: long tracks", 0xCC, cases::indexes::long_tracks);
+    compare.group("old disks moved over", 0xD0, cases::old_disks::moved_over);
     check_coverage(&compare);
     println!("outside: {} cases agree", compare.total());
 }

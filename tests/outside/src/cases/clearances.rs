@@ -3,7 +3,7 @@
 
 use super::{margins::moved_by, APART, WORKED};
 use crate::compare::{profile, Compare};
-use crate::paper::{classes, ends_short, make_sector, single_bytes, stream_of, written_count, Eleven, CHECK_ORDER};
+use crate::paper::{classes, ends_short, sector_items, single_bytes, stream_of, written_count, Eleven, CHECK_ORDER};
 use crate::random::Random;
 
 /// Intervals with their clearances, counted by hand under the worked profile: windows 36 to 72, 73 to 105, 106 to 138.
@@ -106,7 +106,7 @@ pub fn changed_sectors(compare: &mut Compare, random: &mut Random) {
     for _ in 0..200 {
         let eleven = random.true_profile();
         let data = random.bytes(128);
-        let items = make_sector([random.byte(), 0, random.byte(), 0], &data, 242).expect("128 bytes");
+        let items = sector_items([random.byte(), 0, random.byte(), 0], &data);
         let stream = stream_of(&eleven, &items);
         let margin = ism::margin(profile(&eleven)).expect("a true profile");
         for c in [0, random.between_with_edges(0, margin)] {

@@ -183,11 +183,12 @@ pub fn field(compare: &mut Compare, random: &mut Random) {
 }
 
 pub fn maker(compare: &mut Compare, random: &mut Random) {
-    const MISFIT: u32 = 0;
-    const FULL: u32 = 1;
-    for faults in (0..1 << 2).map(Faults) {
+    const CODE_0: u32 = 0;
+    const MISFIT: u32 = 1;
+    const FULL: u32 = 2;
+    for faults in (0..1 << 3).map(Faults) {
         for _ in 0..60 {
-            let code = random.between(0, 3) as u8;
+            let code = if faults.has(CODE_0) { 0 } else { random.between(1, 3) as u8 };
             let size = 128 << code;
             let length = if faults.has(MISFIT) { random.pick(&[0, size - 1, size + 1, 2 * size]) } else { size };
             let data = random.bytes(length);

@@ -2,7 +2,7 @@
 
 use super::strips::damage;
 use crate::compare::Compare;
-use crate::paper::{stream_of, written_count, Eleven, CHECK_ORDER, LOCK_ENDS};
+use crate::paper::{sector_items, stream_of, written_count, Eleven, CHECK_ORDER, LOCK_ENDS};
 use crate::random::Random;
 
 /// Tracks with sync runs about 64 long, locks whole and broken, and starts about them.
@@ -55,7 +55,7 @@ pub fn tracks(compare: &mut Compare, random: &mut Random) {
         let mut items = Vec::new();
         for sector in 1..=3 {
             let data = random.bytes(128);
-            items.extend(crate::paper::make_sector([7, 0, sector, 0], &data, 242).expect("128 bytes"));
+            items.extend(sector_items([7, 0, sector, 0], &data));
         }
         let track = stream_of(&eleven, &items);
         let mut start = 0;

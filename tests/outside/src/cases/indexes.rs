@@ -10,7 +10,7 @@ use super::strips::damage;
 use super::{APART, WORKED};
 use crate::compare::Compare;
 use crate::paper::index::{index_track, MOST_ENTRIES};
-use crate::paper::{make_sector, stream_of, LOCK_ENDS};
+use crate::paper::{sector_items, stream_of, LOCK_ENDS};
 use crate::random::Random;
 use call::{library_index, Index};
 use pieces::{id, items_of, random_piece, small_data, Piece, A1};
@@ -136,13 +136,13 @@ pub fn random_fields(compare: &mut Compare, random: &mut Random) {
     compare.claim(&format!("no data, failing and good: {kinds:?}"), kinds.iter().all(|times| *times > 50));
 }
 
-/// The items of made sectors one after the other.
+/// The items of sectors of any length code, one after the other.
 fn made_sectors(ids: &[[u8; 4]], random: &mut Random) -> Vec<u16> {
     let sector = |id: &[u8; 4]| {
         let size = 128 << id[3];
         let fill = random.byte();
         let data = if random.one_in(4) { vec![fill; size] } else { random.bytes(size) };
-        make_sector(*id, &data, size + 114).expect("data as long as its code says")
+        sector_items(*id, &data)
     };
     ids.iter().flat_map(sector).collect()
 }

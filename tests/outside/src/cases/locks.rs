@@ -5,7 +5,7 @@ use ism::Refusal;
 use super::margins::shifted;
 use super::WORKED;
 use crate::compare::{profile, Compare};
-use crate::paper::{classes, make_sector, stream_of, Eleven, CHECK_ORDER};
+use crate::paper::{classes, sector_items, stream_of, Eleven, CHECK_ORDER};
 use crate::random::Random;
 
 /// Bits as data bytes, 0s behind them up to a whole byte.
@@ -58,8 +58,7 @@ pub fn full_sector(compare: &mut Compare, random: &mut Random) {
             let end = bytes_of(&("1".repeat(random.between(0, 7) as usize) + "00010100"));
             data[place..place + end.len()].copy_from_slice(&end);
         }
-        let items = make_sector([1, 0, 1, code], &data, 2_000).expect("data as long as its code says");
-        let stream = stream_of(&WORKED, &items);
+        let stream = stream_of(&WORKED, &sector_items([1, 0, 1, code], &data));
         let ends = classes(&WORKED, &stream);
         let marks: Vec<usize> = ends.match_indices(&("2".repeat(64) + "34343")).map(|(place, _)| place + 64).collect();
         compare.claim("a sector has two fields", marks.len() == 2);

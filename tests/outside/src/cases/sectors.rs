@@ -1,9 +1,11 @@
 //! The sector maker, and its sectors through writer and readers.
 
+use ism::{Refusal, SectorId};
+
 use super::margins::shifted;
 use super::WORKED;
 use crate::compare::{profile, Compare};
-use crate::paper::{make_sector, stream_of, written_bytes, Eleven, CHECK_ORDER};
+use crate::paper::{sector_items, stream_of, written_bytes, Eleven, CHECK_ORDER};
 use crate::random::Random;
 
 const SIZES: [usize; 4] = [128, 256, 512, 1024];
@@ -22,7 +24,37 @@ pub fn every_code(compare: &mut Compare, random: &mut Random) {
     }
 }
 
-/// Sectors of each size, made, written and read.
+/// Each length code with every length about its own, and rooms about what such a sector needs.
+pub fn own_length(compare: &mut Compare, random: &mut Random) {
+    for (code, size) in (0..=4).zip([128, 256, 512, 1024, 2048]) {
+        for length in size - 3..=size + 3 {
+            for room in [0, length + 113, length + 114, length + 115] {
+                compare.sector([random.byte(), random.byte(), random.byte(), code], &random.bytes(length), room);
+            }
+        }
+        let made = make(code, size, size + 114);
+        let expected = if (1..=3).contains(&code) { Ok(size + 114) } else { Err(Refusal::SectorSizeMismatch) };
+        compare.claim(&format!("code {code} with its own length gives {made:?}"), made == expected);
+    }
+}
+
+/// Request (xiii): code 0 is turned away whatever the data and the room, and nothing is stored.
+pub fn code_0(compare: &mut Compare, random: &mut Random) {
+    for length in (0..=300).chain([511, 512, 513, 1023, 1024, 1025, 4096]) {
+        for room in [0, length + 113, length + 114, 2_000] {
+            compare.sector([random.byte(), random.byte(), random.byte(), 0], &random.bytes(length), room);
+            let made = make(0, length, room);
+            compare.claim(&format!("{length} bytes under code 0"), made == Err(Refusal::SectorSizeMismatch));
+        }
+    }
+}
+
+/// A sector of zeros from the library's maker.
+fn make(code: u8, length: usize, room: usize) -> Result<usize, Refusal> {
+    ism::make_sector(SectorId { track: 1, side: 0, sector: 1, code }, &vec![0; length], &mut vec![0; room])
+}
+
+/// Sectors of each size, made but for the smallest, written and read.
 pub fn there_and_back(compare: &mut Compare, random: &mut Random) {
     for _ in 0..40 {
         let code = random.between(0, 3) as u8;
@@ -32,7 +64,7 @@ pub fn there_and_back(compare: &mut Compare, random: &mut Random) {
         for room in [0, size + 113, size + 114, size + 115] {
             compare.sector(id, &data, room);
         }
-        let items = make_sector(id, &data, size + 114).expect("data as long as its code says");
+        let items = sector_items(id, &data);
         let stream = stream_of(&WORKED, &items);
         compare.write(&WORKED, &items, stream.len());
         compare.read(&WORKED, &stream, size + 116);
@@ -49,7 +81,7 @@ pub fn found_within_margin(compare: &mut Compare, random: &mut Random) {
         let noise = random.bytes(size);
         let data = random.pick(&[noise, vec![0xFF; size], vec![0; size], vec![0x4E; size]]);
         let id = [random.byte(), random.byte(), random.byte(), code];
-        let items = make_sector(id, &data, size + 114).expect("data as long as its code says");
+        let items = sector_items(id, &data);
         let track = shifted(&eleven, &stream_of(&eleven, &items), random);
         let used = reads_next(compare, &eleven, &track, 0, &field(0xFE, &id));
         reads_next(compare, &eleven, &track, used, &field(0xFB, &data));
