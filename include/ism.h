@@ -60,7 +60,7 @@ extern "C" {
 #define ISM_ADRIFT 10u   /* no lock */
 #define ISM_SHORT 11u    /* the list ends before n bytes */
 #define ISM_MISCOUNT 12u /* n outside 1 to 1,030 */
-#define ISM_MISFIT 13u   /* length code above 3, or data not that long */
+#define ISM_MISFIT 13u   /* length code above 3, or data not that long; in the sector maker alone, code 0 too */
 #define ISM_GARBLED 14u  /* only from the strip program: garbled input; place: lowest faulty line, 0 if too long */
 #define ISM_CROWDED 15u  /* more than 32 sectors in a set or entries on a track */
 #define ISM_UNRULY 16u   /* a word that no item has after its previous bit; place: the lowest such word */
@@ -239,11 +239,14 @@ ism_answer ism_read_field(ism_profile profile, const uint16_t *intervals, size_t
  *   12 of 00, three marks A1, FE, track, side, sector, code, check, 22 of 4E,
  *   12 of 00, three marks A1, FB, the data, check, 54 of 4E
  *
- *   code       length code: 0, 1, 2, 3 for 128, 256, 512, 1,024 data bytes
+ *   code       length code: 1, 2, 3 for 256, 512, 1,024 data bytes
  *   data, n    the data bytes, exactly as many as the code says
  *   out, room  the items; n + 114 of them
  *   count      items
- *   refusals   ISM_MISFIT, ISM_FULL
+ *   refusals   ISM_MISFIT (code 0 or above 3, or data not that long), ISM_FULL
+ *
+ * Code 0, 128 data bytes, is not made any more. Old disks still read: ism_read_field, ism_index_track and ism_merge
+ * take such sectors as they take the others.
  */
 ism_answer ism_make_sector(uint8_t track, uint8_t side, uint8_t sector, uint8_t code, const uint8_t *data, size_t n,
                            uint16_t *out, size_t room);

@@ -97,7 +97,7 @@ pub struct SectorId {
     pub track: u8,
     pub side: u8,
     pub sector: u8,
-    /// 0, 1, 2, 3 for 128, 256, 512, 1,024 bytes
+    /// 0, 1, 2, 3 for 128, 256, 512, 1,024 bytes; [`make_sector`] takes no code 0, which old disks have
     pub code: u8,
 }
 
@@ -180,7 +180,7 @@ pub fn read_rest<'a>(profile: Profile, intervals: &'a [u16], bytes: u64, out: &m
 
 /// Makes the items of one sector at the front of `out` and gives their count, `data.len() + SECTOR_OVERHEAD`.
 ///
-/// Refusals in order: sector size mismatch, output too short.
+/// Refusals in order: sector size mismatch (length code 0 or above 3, or data not that long), output too short.
 pub fn make_sector(id: SectorId, data: &[u8], out: &mut [u16]) -> Result<usize, Refusal> {
     let SectorId { track, side, sector, code } = id;
     // SAFETY: each pointer comes with the length of its slice, and slices do not overlap

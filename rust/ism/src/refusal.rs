@@ -32,7 +32,7 @@ pub enum Refusal {
     EndsEarly,
     /// 12, miscount: the byte count is outside 1 to 1,030
     CountOutOfRange,
-    /// 13, misfit: length code above 3, or data not that long
+    /// 13, misfit: length code above 3, or data not that long; in the sector maker alone, code 0 too
     SectorSizeMismatch,
     /// 15, crowded: more than 32 sectors in a set or entries on a track
     TooManySectors,
@@ -127,7 +127,9 @@ impl fmt::Display for Refusal {
             Refusal::NoLock => write!(f, "no sync field with a mark behind it"),
             Refusal::EndsEarly => write!(f, "the intervals end before the bytes asked for"),
             Refusal::CountOutOfRange => write!(f, "the byte count is outside 1 to 1,030"),
-            Refusal::SectorSizeMismatch => write!(f, "the length code is above 3 or the data is not that long"),
+            Refusal::SectorSizeMismatch => {
+                write!(f, "the length code is above 3, or 0 in making a sector, or the data is not that long")
+            }
             Refusal::TooManySectors => write!(f, "more than 32 sectors"),
             Refusal::UnrulyWord { place } => write!(f, "word {place} is that of no item after its previous bit"),
             Refusal::SectorsAtOdds { sector } => {
