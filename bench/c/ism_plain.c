@@ -697,7 +697,7 @@ static uint16_t *start_field(uint16_t *out, uint16_t address_mark) {
 
 ism_answer NAME(make_sector)(uint8_t track, uint8_t side, uint8_t sector, uint8_t code, const uint8_t *data, size_t n,
                              uint16_t *out, size_t room) {
-    if (code > 3 || n != (size_t)128 << code) return refused(ISM_MISFIT, 0);
+    if (code < 1 || code > 3 || n != (size_t)128 << code) return refused(ISM_MISFIT, 0);
     if (room < n + 114) return refused(ISM_FULL, 0);
     out = start_field(out, 0xFE);
     *out++ = track;

@@ -1,6 +1,7 @@
 //! Random calls, on which every implementation must give the library's answer and leave the library's output: lists
 //! and streams that are accepted, damaged ones, profiles out of range, outputs that are short, exact and roomy.
 
+use bench::plain::put_sector;
 use ism::sys::{Fifo, FifoAnswer, Profile, Report, ReportRow};
 use ism::{CHECK, MARK_A1, MARK_C2, MAX_BYTES, MAX_INTERVALS};
 
@@ -379,14 +380,15 @@ fn add_reports(r: &mut Random, all: &[Implementation]) -> Result<(), String> {
     same(all, what, with_output(all, 0, |who, _| (who.add_reports)(a, b)))
 }
 
-/// The items of a track: sectors, fields alone and what is nearly one, in any order.
-fn fields(r: &mut Random, library: &Implementation) -> Vec<u16> {
+/// The items of a track: sectors, most of the code that is not made any more, fields alone and what is nearly one, in
+/// any order.
+fn fields(r: &mut Random) -> Vec<u16> {
     let mut list = Vec::new();
     for _ in 0..r.of(&[0, 1, 2, 3, 3, 34]) {
         let code = if r.one_in(20) { 1 + r.below(3) as u8 } else { 0 };
         let data: Vec<u8> = (0..128 << code).map(|_| r.below(256) as u8).collect();
         let mut sector = vec![0; data.len() + 114];
-        (library.make_sector)([r.below(256) as u8, 0, r.below(256) as u8, code], &data, &mut sector);
+        put_sector([r.below(256) as u8, 0, r.below(256) as u8, code], &data, &mut sector);
         let (id, field) = sector.split_at(43);
         list.extend(r.of(&[&sector[..], &sector, &sector, id, field]));
         while !list.is_empty() && r.one_in(2) {
@@ -400,7 +402,7 @@ fn fields(r: &mut Random, library: &Implementation) -> Vec<u16> {
 /// A list may be longer than the writer takes: it is written in parts, and their streams follow each other.
 fn index_track(r: &mut Random, all: &[Implementation], p: Profile) -> Result<(), String> {
     let mut track = Vec::new();
-    for part in fields(r, &all[0]).chunks(1_000) {
+    for part in fields(r).chunks(1_000) {
         let mut out = vec![0; 16 * part.len() + 2];
         let count = (all[0].write)(p, part, &mut out).count as usize;
         track.extend_from_slice(&out[..count]);

@@ -21,7 +21,7 @@ pub use index::plain_rust_index_track;
 pub use passes::plain_rust_merge;
 pub use reader::{plain_rust_read, plain_rust_read_field};
 pub use reports::{plain_rust_add_reports, plain_rust_drive_report};
-pub use writer::{plain_rust_make_sector, plain_rust_write};
+pub use writer::{plain_rust_make_sector, plain_rust_write, put_sector};
 
 use clearance::clearance_behind;
 pub(crate) use clearance::least_clearance;

@@ -253,13 +253,20 @@ const fn field_start(address_mark: u16) -> [u16; 16] {
 #[inline(never)]
 pub fn plain_rust_make_sector(id: [u8; 4], data: &[u8], out: &mut [u16]) -> Answer {
     let code = id[3];
-    if code > 3 || data.len() != 128 << code {
+    if !(1..=3).contains(&code) || data.len() != 128 << code {
         return refused(13, 0);
     }
     let count = data.len() + 114;
     if out.len() < count {
         return refused(9, 0);
     }
+    put_sector(id, data, out);
+    counted(count as u64)
+}
+
+/// The items of a sector, of any length code.
+#[inline(always)]
+pub fn put_sector(id: [u8; 4], data: &[u8], out: &mut [u16]) {
     let (header, rest) = out.split_at_mut(59);
     header[..16].copy_from_slice(&field_start(0xFE));
     header[16..20].copy_from_slice(&id.map(u16::from));
@@ -271,5 +278,4 @@ pub fn plain_rust_make_sector(id: [u8; 4], data: &[u8], out: &mut [u16]) -> Answ
     }
     rest[data.len()] = CHECK;
     rest[data.len() + 1..data.len() + 55].fill(0x4E);
-    counted(count as u64)
 }
