@@ -66,6 +66,6 @@ for line in windows(TOP, "class 2", b23_short, b34_short, seen[True]):
     print(line)
 for line in windows(TOP + STEP, "any other", b23_long, b34_long, seen[False]):
     print(line)
-legend = "dots: lengths in half clocks; red: how far the outermost may move and keep their class"
+legend = "dots: lengths in half clocks; red: the margin, by which each may move either way and keep its class"
 print(text(width // 2, below + 48, legend, size=12))
 print("</svg>")

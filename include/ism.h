@@ -2,10 +2,10 @@
  * ism.h - MFM flux intervals after the ISM chip (ISM ASIC specification, revision 4.1, July 1987).
  *
  * The library turns data bytes, mark bytes and check orders into the intervals between flux transitions, with write
- * precompensation, and turns measured intervals back into bytes. It also finds the address mark behind a sync field,
- * reads one field, makes the items of one sector, lists the sectors of a track, reports how worn a drive is, merges the
- * sectors of two passes over a track, exchanges bit images with drive emulators and models the chip's two-item FIFO
- * with its error register.
+ * precompensation, and turns measured intervals back into bytes. It also finds locks, where the classes of a mark stand
+ * behind a sync field, reads one field, makes the items of one sector, lists the sectors of a track, reports how worn a
+ * drive is, merges the sectors of two passes over a track, exchanges bit images with drive emulators and models the
+ * chip's two-item FIFO with its error register.
  *
  * Common to all functions
  *
@@ -18,8 +18,8 @@
  *   4 KB at most for ism_index_track with the index that it returns.
  *
  *   Every argument value is answered. A refusal comes back in `number` and `place`, changes no buffer, and leaves
- *   `count`, `used`, `holds`, `clearance`, the rows of a report and the entries of an index 0. When several causes hold
- *   at once, the first in the order listed at the function is answered.
+ *   `count`, `used`, `holds`, `clearance`, the rows of a report and every field of an index's entries 0. When several
+ *   causes hold at once, the first in the order listed at the function is answered.
  *
  *   On acceptance `number` and `place` are 0, the result fills the front of the output, and the rest of the output
  *   keeps its contents. Fields of an answer that a function does not give are 0.
@@ -197,10 +197,11 @@ ism_answer ism_write(ism_profile profile, const uint16_t *items, size_t n, uint1
 ism_answer ism_read(ism_profile profile, const uint16_t *intervals, size_t n, uint16_t *out, size_t room);
 
 /*
- * Finder: the first mark behind a sync field. A lock stands at place k if the 64 intervals before k are of class 2 and
- * those from k are of classes 3 4 3 4 3 (one A1 mark) or 3 2 3 4 3 4 2 3 4 3 (two C2 marks). In a stream that was
+ * Finder: the first lock. A lock stands at place k if the 64 intervals before k are of class 2 and those from k are of
+ * classes 3 4 3 4 3, as one A1 mark has them, or 3 2 3 4 3 4 2 3 4 3, as two C2 marks have them. In a stream that was
  * written from data bytes and check orders alone no lock stands anywhere, nor where every interval of it is moved by at
- * most the margin.
+ * most the margin. In one with marks a lock may also stand where no such mark was written: that of nine FF, mark C2,
+ * 80, 00 has one at 74, and no A1.
  *
  *   intervals, n  any number of intervals; narrow and wide ones break a run and are not refused
  *   start         the search begins here: all 64 must be at or after this place; any number
@@ -210,7 +211,7 @@ ism_answer ism_read(ism_profile profile, const uint16_t *intervals, size_t n, ui
  * The interval at the start counts as coming after class 2, whatever stands before it: the place found is that in the
  * list from the start on, and the start added. Where pairs differ, a later start may so find an earlier lock.
  *
- * To read the field behind the lock, its marks included, give ism_read_field the list from place k. To find the next
+ * To read the field at the lock, its marks included, give ism_read_field the list from place k. To find the next
  * lock, take this k as the new start. Both class the list as this search did, since k comes after class 2.
  */
 ism_answer ism_find(ism_profile profile, const uint16_t *intervals, size_t n, uint64_t start);
@@ -279,11 +280,13 @@ typedef struct {
  * The entries of a track, today in the order found; the order is left open and may change.
  *
  *   intervals, n  any number of intervals, narrow and wide ones too
- *   count         entries; those beyond the count are all 0
+ *   count         entries; every field of those beyond the count is 0 (the two bytes of padding behind the fields of
+ *                 an entry may hold anything)
  *   refusals      ISM_UNSET, ISM_CROSSED, ISM_CROWDED (a 33rd entry would be needed, whatever follows)
  *
  * To read a field, give ism_read_field the list from its place. An ID whose own data lock is lost takes the data behind
- * the next lock, if that reads as the data of its code.
+ * the next lock, if that reads as the data of its code. The distance of the two places tells: in a sector that
+ * ism_make_sector made, data_place is 278 to 295 more than id_place, whatever the ID.
  */
 ism_index ism_index_track(ism_profile profile, const uint16_t *intervals, size_t n);
 

@@ -28,7 +28,7 @@ pub struct IsmIndexEntry {
     pub holds: u8,
 }
 
-// Entries beyond the count are all 0.
+// The fields of entries beyond the count are 0.
 #[repr(C)]
 pub struct IsmIndex {
     pub number: u32,

@@ -10,7 +10,7 @@ pub struct IndexEntry {
     pub id: SectorId,
     /// the place of the ID's lock
     pub place: usize,
-    /// the data, or none where none was found
+    /// the data at the next lock behind the ID, or none where that is no data of its length code
     pub data: Option<DataField>,
 }
 
@@ -57,6 +57,10 @@ fn entry(e: &sys::IndexEntry) -> IndexEntry {
 
 /// The sectors of a track: each ID whose sum holds, with the data behind it. Each search for a lock is one of
 /// [`find_lock`](crate::find_lock).
+///
+/// An ID whose own data lock is lost takes the data behind the next lock, if that reads as the data of its length code.
+/// The distance of the two places tells: in a sector that [`make_sector`](crate::make_sector) made, the data's lock
+/// stands 278 to 295 intervals behind the ID's, whatever the ID.
 ///
 /// ```no_run
 /// # let profile = ism::Profile {

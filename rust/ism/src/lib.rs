@@ -144,7 +144,9 @@ pub fn read(profile: Profile, intervals: &[u16], out: &mut [u16]) -> Result<Stri
     Ok(Strip { items: answer.count as usize, clearance: answer.clearance })
 }
 
-/// The first place at which a mark stands behind 64 intervals of class 2, all of them at or after `start`.
+/// The first lock: the first place at which the classes of one A1 mark or of two C2 marks stand behind 64 intervals of
+/// class 2, all of them at or after `start`. In a stream with marks that need not be where such a mark was written; in
+/// one of data bytes and check orders alone there is none.
 ///
 /// The interval at `start` counts as coming after class 2, whatever stands before it: the place found is that in the
 /// list from there on, and `start` added.

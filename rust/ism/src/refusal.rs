@@ -124,7 +124,7 @@ impl fmt::Display for Refusal {
             Refusal::NotWholeBytes => write!(f, "the intervals do not end on a whole byte"),
             Refusal::MisplacedMark { place } => write!(f, "interval {place} is a mark's gap outside a mark byte"),
             Refusal::OutputTooShort => write!(f, "the output is shorter than the result"),
-            Refusal::NoLock => write!(f, "no sync field with a mark behind it"),
+            Refusal::NoLock => write!(f, "no lock: no sync field with the classes of a mark behind it"),
             Refusal::EndsEarly => write!(f, "the intervals end before the bytes asked for"),
             Refusal::CountOutOfRange => write!(f, "the byte count is outside 1 to 1,030"),
             Refusal::SectorSizeMismatch => {
