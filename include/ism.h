@@ -44,6 +44,27 @@ extern "C" {
 #endif
 
 /*
+ * Version: major x 10,000 + minor x 100 + patch. ISM_VERSION is this header's, ism_version() the linked library's.
+ *
+ *   patch  raised where no declaration of this header and no answer changes
+ *   minor  raised where something is added, or an answer changes; before 1.0.0 also for what raises the next
+ *   major  raised where a struct, a function's arguments or the meaning of a number changes
+ *
+ * What is added breaks nothing: a program that was compiled before it links and runs as it did. What raises the major
+ * number, or would from 1.0.0 on, also raises the interface's number, 9 today, and then a program that was compiled
+ * against the old header does not link: each file that includes this header asks for the symbol ism_interface_9, which
+ * a library of another interface does not have. Compile the program again. One that declares the functions by itself,
+ * as another language may, compares ism_version() first.
+ */
+#define ISM_VERSION_MAJOR 0u
+#define ISM_VERSION_MINOR 9u
+#define ISM_VERSION_PATCH 0u
+#define ISM_VERSION (ISM_VERSION_MAJOR * 10000u + ISM_VERSION_MINOR * 100u + ISM_VERSION_PATCH)
+
+uint32_t ism_version(void);
+uint32_t ism_interface_9(void); /* gives 9 */
+
+/*
  * Why a call was refused. `place` counts from 0, except for ISM_UNSET and ISM_GARBLED; where no place is named it is 0.
  */
 #define ISM_ACCEPTED 0u  /* not refused */
@@ -443,4 +464,19 @@ ism_fifo_answer ism_fifo_read_error(ism_fifo fifo);
 }
 #endif
 
+#endif
+
+/*
+ * Asks the linker for the interface, once in each file, also where sections that nothing uses are dropped. The header
+ * of another library that includes this one defines ISM_WITHOUT_LIBRARY meanwhile, so that a program can do without
+ * libism.a; a file that then includes this header itself asks.
+ */
+#if !defined(ISM_WITHOUT_LIBRARY) && !defined(ISM_INTERFACE_ASKED) && defined(__GNUC__)
+#define ISM_INTERFACE_ASKED
+#if defined(__has_attribute)
+#if __has_attribute(retain)
+__attribute__((retain))
+#endif
+#endif
+__attribute__((used)) static uint32_t (*const ism_interface_asked)(void) = ism_interface_9;
 #endif

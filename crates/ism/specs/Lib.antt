@@ -2,3 +2,4 @@ pub mod Answers
 pub mod Clearances
 pub mod Reports
 pub mod Indexes
+pub mod Version

@@ -19,6 +19,7 @@ pub mod image;
 pub mod index;
 pub mod passes;
 pub mod queue;
+pub mod version;
 
 #[repr(C)]
 pub struct IsmProfile {

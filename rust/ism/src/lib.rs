@@ -101,6 +101,13 @@ pub struct SectorId {
     pub code: u8,
 }
 
+/// The linked library's version: major x 10,000 + minor x 100 + patch. A library of another interface than this crate's
+/// does not link; one of another version may have more functions.
+pub fn version() -> u32 {
+    // SAFETY: a number out
+    unsafe { sys::ism_version() }
+}
+
 /// Half clocks by which every interval may be longer or shorter and still be read as written.
 pub fn margin(profile: Profile) -> Result<u64, Refusal> {
     // SAFETY: numbers in, numbers out

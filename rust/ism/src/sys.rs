@@ -99,6 +99,8 @@ pub struct FifoAnswer {
 }
 
 extern "C" {
+    pub fn ism_version() -> u32;
+    pub fn ism_interface_9() -> u32;
     pub fn ism_margin(profile: Profile) -> Answer;
     pub fn ism_class(profile: Profile, interval: u16, after_short: u32) -> Answer;
     pub fn ism_write(profile: Profile, items: *const u16, n: usize, out: *mut u16, room: usize) -> Answer;
@@ -136,3 +138,7 @@ extern "C" {
     pub fn ism_fifo_chip_take(fifo: Fifo) -> FifoAnswer;
     pub fn ism_fifo_read_error(fifo: Fifo) -> FifoAnswer;
 }
+
+/// A program does not link with a library of another interface, which has no such symbol.
+#[used]
+static INTERFACE_ASKED: unsafe extern "C" fn() -> u32 = ism_interface_9;
