@@ -4,8 +4,8 @@
  * The library turns data bytes, mark bytes and check orders into the intervals between flux transitions, with write
  * precompensation, and turns measured intervals back into bytes. It also finds locks, where the classes of a mark stand
  * behind a sync field, reads one field, makes the items of one sector, lists the sectors of a track, reports how worn a
- * drive is, merges the sectors of two passes over a track, exchanges bit images with drive emulators and models the
- * chip's two-item FIFO with its error register.
+ * drive is, says what holds a drive type's margin down, merges the sectors of two passes over a track, exchanges bit
+ * images with drive emulators and models the chip's two-item FIFO with its error register.
  *
  * Common to all functions
  *
@@ -18,8 +18,8 @@
  *   4 KB at most for ism_index_track with the index that it returns.
  *
  *   Every argument value is answered. A refusal comes back in `number` and `place`, changes no buffer, and leaves
- *   `count`, `used`, `holds`, `clearance`, the rows of a report and every field of an index's entries 0. When several
- *   causes hold at once, the first in the order listed at the function is answered.
+ *   `count`, `used`, `holds`, `clearance`, the rows of a report, every field of an index's entries and the limits of a
+ *   margin 0. When several causes hold at once, the first in the order listed at the function is answered.
  *
  *   On acceptance `number` and `place` are 0, the result fills the front of the output, and the rest of the output
  *   keeps its contents. Fields of an answer that a function does not give are 0.
@@ -57,7 +57,7 @@ extern "C" {
  * as another language may, compares ism_version() first.
  */
 #define ISM_VERSION_MAJOR 0u
-#define ISM_VERSION_MINOR 9u
+#define ISM_VERSION_MINOR 10u
 #define ISM_VERSION_PATCH 0u
 #define ISM_VERSION (ISM_VERSION_MAJOR * 10000u + ISM_VERSION_MINOR * 100u + ISM_VERSION_PATCH)
 
@@ -96,6 +96,7 @@ uint32_t ism_interface_9(void); /* gives 9 */
 #define ISM_MAX_FIELD_BYTES 1030u
 #define ISM_MAX_SECTORS 32u
 #define ISM_MAX_SET_BYTES 32864u
+#define ISM_MAX_LIMITS 10u
 
 /*
  * Items: 0 to 255 is a data byte, ISM_MARK_A1 and ISM_MARK_C2 are the two mark bytes, ISM_CHECK is a check order. No
@@ -151,6 +152,55 @@ typedef struct {
  *   refusals  ISM_UNSET, ISM_CROSSED
  */
 ism_answer ism_margin(ism_profile profile);
+
+/*
+ * What holds the margin down: each side of a window edge that forbids margin + 1, so that a bench sees which number to
+ * turn. The lengths below an edge are one side of it, and those above it, the edge itself among them, the other. b23
+ * and b34 have two sides after a cell of 2 units and two after any other. min and rpt count once, over both kinds;
+ * since no length is written below min or above rpt, they have one side each. A side is named when, and only when, some
+ * length written on that side, by some accepted list, crosses the edge if moved by margin + 1.
+ *
+ *   edge      ISM_EDGE_MIN, ISM_EDGE_B23, ISM_EDGE_B34 or ISM_EDGE_RPT
+ *   after     ISM_AFTER_BOTH (min and rpt), ISM_AFTER_SHORT or ISM_AFTER_LONG
+ *   above     1 for the lengths above the edge, 0 for those below
+ *   item      the lowest item, of data and mark bytes, whose list of one byte has such a length
+ *   interval  the first such interval in that list's stream, from 0
+ *   moved     its length, moved by exactly margin + 1
+ *
+ * The last three are evidence: write the item, put `moved` in place of the interval, and ism_read refuses the stream or
+ * reads it as another list.
+ *
+ * To raise the margin, turn each number that is named: down if the lengths above it are named, up if those below. No
+ * turn of a number helps where both of its sides are named, where its other side is only one half clock further, or
+ * where it is at the end of its range. examples/card.c tells these apart.
+ */
+#define ISM_EDGE_MIN 1u
+#define ISM_EDGE_B23 2u
+#define ISM_EDGE_B34 3u
+#define ISM_EDGE_RPT 4u
+
+#define ISM_AFTER_BOTH 0u
+#define ISM_AFTER_SHORT 1u /* after a cell of 2 units: b23_short, b34_short */
+#define ISM_AFTER_LONG 2u  /* after any other: b23_long, b34_long */
+
+typedef struct {
+    uint16_t edge, after, above, item, interval, moved;
+} ism_limit;
+
+typedef struct {
+    uint32_t number, place;
+    uint64_t count;
+    ism_limit limits[ISM_MAX_LIMITS];
+} ism_limits;
+
+/*
+ * The sides in the order min, b23, b34, rpt, after-short before after-long, the lengths below the edge before those
+ * above.
+ *
+ *   count     sides, 1 to ISM_MAX_LIMITS; the limits beyond the count are all 0
+ *   refusals  ISM_UNSET, ISM_CROSSED
+ */
+ism_limits ism_margin_limits(ism_profile profile);
 
 /*
  * Classes of an interval, as ism_class counts them. The edges b23 and b34 are b23_short and b34_short after an interval

@@ -54,6 +54,10 @@ pub fn other_entries() -> Vec<Entry> {
     // SAFETY: numbers in, numbers out
     vec![
         ("margin", Box::new(|| unsafe { ism_margin(PROFILE) })),
+        (
+            "margin_limits",
+            Box::new(|| Answer { number: unsafe { ism_margin_limits(PROFILE) }.number, ..nothing() }),
+        ),
         ("class", Box::new(|| unsafe { ism_class(PROFILE, 100, 1) })),
         (
             "add_reports",

@@ -38,6 +38,7 @@ use Rattle.merge.specs.Set.{isMisfitSet, sectorsIn}
 use Rattle.merge.specs.Rule.{roomRule as merge-room, mergeRule, mergeAnswer, mergeOutput}
 use Rattle.report.specs.Report.{reportRule, addRule}
 use Rattle.track.specs.Index.{crowdRule, indexRule}
+use Rattle.limits.specs.Limits.{limitsRule}
 use Rattle.demands.specs.Order.{accept, turn, at0, Answers}
 use Rattle.demands.specs.Causes.{stripOrder}
 use Rattle.demands.specs.Demand1.{Demand1}
@@ -82,13 +83,14 @@ unfolding bytesIn
 item-count words = length-of-bytes O words
 
 pub demand-1 : Demand1
-unfolding marginRule classRule writeRule listRule streamRule streamOf sectorRule isMisfitInMaker readRule stripRule
-    fieldRule checkedRule gatherRule deliverRule findRule searchRule reportRule addRule makeRule wordsRule readImageRule
-    roomRule indexRule crowdRule mergeRule merge-room isCrowded writeOutput readOutput fieldOutput sectorOutput
-    makeOutput readImageOutput mergeOutput mergeAnswer
+unfolding marginRule limitsRule classRule writeRule listRule streamRule streamOf sectorRule isMisfitInMaker readRule
+    stripRule fieldRule checkedRule gatherRule deliverRule findRule searchRule reportRule addRule makeRule wordsRule
+    readImageRule roomRule indexRule crowdRule mergeRule merge-room isCrowded writeOutput readOutput fieldOutput
+    sectorOutput makeOutput readImageOutput mergeOutput mergeAnswer
 demand-1 =
     record {
       margin = λ p. profile-first p _ answers-accepted;
+      margin-limits = λ p. profile-first p _ answers-accepted;
       class = λ p two d. profile-first p _ answers-accepted;
       writer = λ p items room.
           profile-first p _

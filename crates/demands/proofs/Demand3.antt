@@ -85,7 +85,7 @@ module _ (p : Profile) (accepts : AcceptedProfile p) where
   moved-has-cells ws ds a moved = cc (moved-has-classes ws ds moved, listed a .as-written, numbers-of-cells ws)
 
   -- a stream with other classes than the written one's is refused or read as another list
-  misread
+  pub misread
       : (b : ℕ) (ds output : List ℕ)
       → (classesOf p ds ≡ classesOf p (byteStream p (b ∷ [])) → ⊥)
       → (accepted-here : Bool)
@@ -114,7 +114,7 @@ module _ (p : Profile) (accepts : AcceptedProfile p) where
       rw (getD-set-other ls (x .place) k (x .moved) 0 (eqb-false k (x .place) e))
       (length-fits (kept p accepts) (x .byte ∷ []) k (rw length-set at h))
 
-  moved-beyond : (n : ℕ) (x : Broken p n) → Moved n (streamOf p (x .byte ∷ [])) (brokenStream x)
+  pub moved-beyond : (n : ℕ) (x : Broken p n) → Moved n (streamOf p (x .byte ∷ [])) (brokenStream x)
   moved-beyond n x =
       let stream = one-byte-is-written p (x .byte) (x .is-byte) in
       let near : Near n (brokenStream x) (streamOf p (x .byte ∷ [])) = rw stream (broken-stream-is-near x) in

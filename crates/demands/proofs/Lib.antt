@@ -12,3 +12,4 @@ pub mod UniqueImages
 pub mod Stretch
 pub mod UsedLaws
 pub mod HowNear
+pub mod HeldDown

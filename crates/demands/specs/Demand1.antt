@@ -23,6 +23,7 @@ use Rattle.merge.specs.Set.{setBytes, sectorsIn}
 use Rattle.merge.specs.Merge.{merged}
 use Rattle.merge.specs.Rule.{mergeRule, mergeAnswer, mergeOutput}
 use Rattle.track.specs.Index.{indexRule}
+use Rattle.limits.specs.Limits.{limitsRule}
 use Rattle.demands.specs.Order.{accept, Answers, Lent}
 use Rattle.demands.specs.Causes.{profileOrder, writerOrder, stripOrder, finderOrder, fieldOrder, makerOrder}
 use Rattle.demands.specs.ReportCauses.{reportOrder, addOrder}
@@ -33,6 +34,7 @@ use Rattle.demands.specs.MergeCauses.{mergeOrder, countedInBytes}
 pub record Demand1 : Type 0 where
   -- refused first, and accepted then: every operation by its order
   pub margin : (p : Profile) → Answers (profileOrder p accept) (marginRule p)
+  pub margin-limits : (p : Profile) → Answers (profileOrder p accept) (limitsRule p)
   pub class : (p : Profile) (two : Bool) (d : ℕ) → Answers (profileOrder p accept) (classRule p two d)
   pub writer : (p : Profile) (items : List ℕ) (room : ℕ) → Answers (writerOrder p items room) (writeRule p items room)
   pub strip-reader : (p : Profile) (ds : List ℕ) (room : ℕ) → Answers (stripOrder p ds room) (readRule p ds room)

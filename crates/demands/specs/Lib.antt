@@ -12,3 +12,4 @@ pub mod Settled
 pub mod UniqueImages
 pub mod Stretch
 pub mod HowNear
+pub mod HeldDown

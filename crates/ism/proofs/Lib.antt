@@ -1,1 +1,2 @@
 pub mod ClearanceLaws
+pub mod CardLaws

@@ -13,6 +13,7 @@ ghost use Rattle.ism.specs.Clearances.{classAnswerOf, stripAnswerOf};
 use refusal::Counted;
 use timing::Profile;
 
+pub mod card;
 pub mod disk;
 pub mod drive;
 pub mod image;

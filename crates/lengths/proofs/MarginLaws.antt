@@ -38,7 +38,7 @@ least-is-no-more (x ∷ []) (suc k) h = absurd (omega arith)
 least-is-no-more (x ∷ y ∷ ys) zero h = omega arith
 least-is-no-more (x ∷ y ∷ ys) (suc k) h = let rest = least-is-no-more (y ∷ ys) k (omega arith) in omega arith
 
-least-is-of-one : (xs : List ℕ) → 0 < length xs → (k : ℕ) × (k < length xs) × (getD xs k 0 ≡ leastOf xs)
+pub least-is-of-one : (xs : List ℕ) → 0 < length xs → (k : ℕ) × (k < length xs) × (getD xs k 0 ≡ leastOf xs)
 unfolding leastOf
 least-is-of-one [] h = absurd (omega arith)
 least-is-of-one (x ∷ []) h = (0, h, refl)
@@ -230,74 +230,76 @@ unfolding
     writtenSymbols symbolsOf symbolsFrom pairSymbols bitsOf allBits writtenBits isMark byteBits
 opened = tt
 
--- the nearest length on each side of an edge is one that a one-byte list has
-module _ {p : Profile} (k : Kept p) (n : ℕ) where
-  whole-swing : 2 * p .early .0 + swing p ≡ 2 * p .late .0
+-- the class on each side of an edge
+module _ {p : Profile} (k : Kept p) where
+  pub whole-swing : 2 * p .early .0 + swing p ≡ 2 * p .late .0
   whole-swing = let a = k .early-point in let b = k .late-point in let c = k .parts in omega arith
 
-  class-at-b23 : (two : Bool) → classOf p two (boundsOf p two .b23 .0) ≡ Three
+  pub class-at-b23 : (two : Bool) → classOf p two (boundsOf p two .b23 .0) ≡ Three
   class-at-b23 two = let s = strict k two in class-below-b34-is-three p two _ (less (s .second)) (le-refl _) (s .third)
 
-  class-below-b23 : (two : Bool) → classOf p two (boundsOf p two .b23 .0 - 1) ≡ Two
+  pub class-below-b23 : (two : Bool) → classOf p two (boundsOf p two .b23 .0 - 1) ≡ Two
   class-below-b23 two = let s = strict k two in class-below-b23-is-two p two _ (below (s .second)) (short (s .second))
 
-  class-at-b34 : (two : Bool) → classOf p two (boundsOf p two .b34 .0) ≡ Four
+  pub class-at-b34 : (two : Bool) → classOf p two (boundsOf p two .b34 .0) ≡ Four
   class-at-b34 two =
       let s = strict k two in
       class-below-rpt-is-four p two _ (less (lt-trans (s .second) (s .third))) (less (s .third)) (le-refl _) (s .fourth)
 
-  class-below-b34 : (two : Bool) → classOf p two (boundsOf p two .b34 .0 - 1) ≡ Three
+  pub class-below-b34 : (two : Bool) → classOf p two (boundsOf p two .b34 .0 - 1) ≡ Three
   class-below-b34 two =
       let s = strict k two in
       class-below-b34-is-three p two _ (below (lt-trans (s .second) (s .third))) (below (s .third)) (short (s .third))
 
-  class-below-min : (two : Bool) → classOf p two (p .min .0 - 1) ≡ Narrow
+  pub class-below-min : (two : Bool) → classOf p two (p .min .0 - 1) ≡ Narrow
   class-below-min two = let s = strict k two in class-below-min-is-narrow p two _ (short (s .first))
 
-  class-at-rpt : (two : Bool) → classOf p two (p .rpt .0) ≡ Wide
+  pub class-at-rpt : (two : Bool) → classOf p two (p .rpt .0) ≡ Wide
   class-at-rpt two =
       let s = strict k two in
       class-from-rpt-is-wide p two _ (less (lt-trans (s .second) (lt-trans (s .third) (s .fourth))))
       (less (lt-trans (s .third) (s .fourth))) (less (s .fourth)) (le-refl _)
 
+-- the nearest length on each side of an edge is one that a one-byte list has
+module _ {p : Profile} (k : Kept p) (n : ℕ) where
   broken-on : (i : ℕ) → i < 10 → getD (roomsOf p) i 0 < n → Broken p n
   unfolding roomsOf opened classOfUnits
   broken-on zero inside over =
-      broken-at k 0x03 7 n _ _ Narrow (lit< tt) (two-less _ _ _ _ _ whole-swing) (lit< tt)
+      broken-at k 0x03 7 n _ _ Narrow (lit< tt) (two-less _ _ _ _ _ (whole-swing k)) (lit< tt)
       (moved-down k 0x03 7 n _ _ (strict k true .first) (from-less _ _ _ (k .above-min)) (min-fits k) over)
-      (class-below-min false) (omega arith)
+      (class-below-min k false) (omega arith)
   broken-on (suc zero) inside over =
       broken-at k 0x00 0 n _ _ Three (lit< tt) (two-same _ _ _) (lit< tt)
-      (moved-up k 0x00 0 n _ _ (k .below-b23-short) (b23-fits k true) over) (class-at-b23 true) (omega arith)
+      (moved-up k 0x00 0 n _ _ (k .below-b23-short) (b23-fits k true) over) (class-at-b23 k true) (omega arith)
   broken-on (suc (suc zero)) inside over =
       broken-at k 0x01 7 n _ _ Two (lit< tt) (three-more _ _ _ _ _ (k .early-point)) (lit< tt)
       (moved-down k 0x01 7 n _ _ (b23-some k true) (k .above-b23-short) (b23-fits k true) over)
-      (class-below-b23 true) (omega arith)
+      (class-below-b23 k true) (omega arith)
   broken-on (suc (suc (suc zero))) inside over =
       broken-at k 0x02 8 n _ _ Three (lit< tt) (two-less _ _ _ _ _ (k .late-point)) (lit< tt)
       (moved-up k 0x02 8 n _ _ (less-than _ _ _ (k .below-b23-long) (b23-some k false)) (b23-fits k false) over)
-      (class-at-b23 false) (omega arith)
+      (class-at-b23 k false) (omega arith)
   broken-on (suc (suc (suc (suc zero)))) inside over =
       broken-at k 0x09 5 n _ _ Two (lit< tt) (three-same _ _ _) (lit< tt)
       (moved-down k 0x09 5 n _ _ (b23-some k false) (k .above-b23-long) (b23-fits k false) over)
-      (class-below-b23 false) (omega arith)
+      (class-below-b23 k false) (omega arith)
   broken-on (suc (suc (suc (suc (suc zero))))) inside over =
-      broken-at k 0x03 6 n _ _ Four (lit< tt) (three-more _ _ _ _ _ whole-swing) (lit< tt)
-      (moved-up k 0x03 6 n _ _ (k .below-b34-short) (b34-fits k true) over) (class-at-b34 true) (omega arith)
+      broken-at k 0x03 6 n _ _ Four (lit< tt) (three-more _ _ _ _ _ (whole-swing k)) (lit< tt)
+      (moved-up k 0x03 6 n _ _ (k .below-b34-short) (b34-fits k true) over) (class-at-b34 k true) (omega arith)
   broken-on (suc (suc (suc (suc (suc (suc zero)))))) inside over =
       broken-at k 0x0d 6 n _ _ Three (lit< tt) (four-more _ _ _ _ _ (k .early-point)) (lit< tt)
       (moved-down k 0x0d 6 n _ _ (b34-some k true) (k .above-b34-short) (b34-fits k true) over)
-      (class-below-b34 true) (omega arith)
+      (class-below-b34 k true) (omega arith)
   broken-on (suc (suc (suc (suc (suc (suc (suc zero))))))) inside over =
       broken-at k 0x01 8 n _ _ Four (lit< tt) (three-more _ _ _ _ _ (k .late-point)) (lit< tt)
-      (moved-up k 0x01 8 n _ _ (k .below-b34-long) (b34-fits k false) over) (class-at-b34 false) (omega arith)
+      (moved-up k 0x01 8 n _ _ (k .below-b34-long) (b34-fits k false) over) (class-at-b34 k false) (omega arith)
   broken-on (suc (suc (suc (suc (suc (suc (suc (suc zero)))))))) inside over =
       broken-at k 0x05 6 n _ _ Three (lit< tt) (four-same _ _ _) (lit< tt)
       (moved-down k 0x05 6 n _ _ (b34-some k false) (k .above-b34-long) (b34-fits k false) over)
-      (class-below-b34 false) (omega arith)
+      (class-below-b34 k false) (omega arith)
   broken-on (suc (suc (suc (suc (suc (suc (suc (suc (suc zero))))))))) inside over =
-      broken-at k 0x1b 5 n _ _ Wide (lit< tt) (four-more _ _ _ _ _ whole-swing) (lit< tt)
-      (moved-up k 0x1b 5 n _ _ (k .below-rpt) (strict k true .last) over) (class-at-rpt true) (omega arith)
+      broken-at k 0x1b 5 n _ _ Wide (lit< tt) (four-more _ _ _ _ _ (whole-swing k)) (lit< tt)
+      (moved-up k 0x1b 5 n _ _ (k .below-rpt) (strict k true .last) over) (class-at-rpt k true) (omega arith)
   broken-on (suc (suc (suc (suc (suc (suc (suc (suc (suc (suc i)))))))))) inside over = absurd (omega (arith, inside))
 
   pub above-margin-is-broken : marginOf p < n → Broken p n

@@ -55,7 +55,7 @@ kept-leaves-room k =
     }
 
 -- the class of a cell is 2 where it has 2 units
-two-by-units : {p : Profile} {l u : ℕ} {two : Bool} → Window p l two u → isTwo (classOfUnits u) ≡ eqb u 2
+pub two-by-units : {p : Profile} {l u : ℕ} {two : Bool} → Window p l two u → isTwo (classOfUnits u) ≡ eqb u 2
 unfolding classOfUnits
 two-by-units (two-short low high) = refl
 two-by-units (two-long low high) = refl

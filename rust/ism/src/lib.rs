@@ -21,6 +21,7 @@
 
 mod fifo;
 mod index;
+mod limits;
 mod passes;
 mod refusal;
 mod report;
@@ -28,6 +29,7 @@ pub mod sys;
 
 pub use fifo::{Fifo, FifoMode};
 pub use index::{index_track, DataField, Index, IndexEntry};
+pub use limits::{margin_limits, After, Edge, Limit, Limits, Side, MAX_LIMITS};
 pub use passes::{merge, sectors, Sector, SectorSet, Sectors, MAX_SECTORS, MAX_SET_BYTES};
 pub use refusal::Refusal;
 pub use report::{drive_report, Report};

@@ -34,6 +34,28 @@ pub struct Answer {
     pub clearance: u32,
 }
 
+/// `ism_limit`
+#[repr(C)]
+#[derive(Clone, Copy, Debug, Default, PartialEq, Eq)]
+pub struct Limit {
+    pub edge: u16,
+    pub after: u16,
+    pub above: u16,
+    pub item: u16,
+    pub interval: u16,
+    pub moved: u16,
+}
+
+/// `ism_limits`
+#[repr(C)]
+#[derive(Clone, Copy, Debug, PartialEq, Eq)]
+pub struct Limits {
+    pub number: u32,
+    pub place: u32,
+    pub count: u64,
+    pub limits: [Limit; 10],
+}
+
 /// `ism_report_row`: the intervals of one class
 #[repr(C)]
 #[derive(Clone, Copy, Debug, Default, PartialEq, Eq)]
@@ -102,6 +124,7 @@ extern "C" {
     pub fn ism_version() -> u32;
     pub fn ism_interface_9() -> u32;
     pub fn ism_margin(profile: Profile) -> Answer;
+    pub fn ism_margin_limits(profile: Profile) -> Limits;
     pub fn ism_class(profile: Profile, interval: u16, after_short: u32) -> Answer;
     pub fn ism_write(profile: Profile, items: *const u16, n: usize, out: *mut u16, room: usize) -> Answer;
     pub fn ism_read(profile: Profile, intervals: *const u16, n: usize, out: *mut u16, room: usize) -> Answer;

@@ -5,6 +5,7 @@ pub mod clearances;
 pub mod faults;
 pub mod fields;
 pub mod fifo;
+pub mod held_down;
 pub mod indexes;
 pub mod limits;
 pub mod locks;

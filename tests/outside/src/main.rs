@@ -54,6 +54,13 @@ fn library() {
     compare.group("pairs: what they are for", 0x17, cases::pairs::larger_margin);
     compare.group("pairs: search from every start", 0x18, cases::pairs::every_start);
     compare.group("pairs: searches by hand", 0x19, cases::pairs::searches_by_hand);
+    compare.group("held down: by hand", 0x1A, cases::held_down::by_hand);
+    compare.group("held down: every side", 0x1B, cases::held_down::every_side);
+    compare.group("held down: every tie", 0x1C, cases::held_down::every_tie);
+    compare.group("held down: random profiles", 0x1D, cases::held_down::random_profiles);
+    compare.group("held down: evidence", 0x1E, cases::held_down::evidence);
+    compare.group("held down: longer lists", 0x1F, cases::held_down::longer_lists);
+    compare.group("held down: the drawing", 0x23, cases::held_down::drawing);
     compare.group("every list up to two items", 0x20, strips::every_short_list);
     compare.group("every number as an item", 0x21, strips::every_number);
     compare.group("random lists", 0x22, strips::random_lists);
@@ -144,6 +151,7 @@ fn library() {
 fn check_coverage(compare: &Compare) {
     let orders: &[(&str, &[u32])] = &[
         ("ism_margin", &[0, 1, 2]),
+        ("ism_margin_limits", &[0, 1, 2]),
         ("ism_class", &[0, 1, 2]),
         ("ism_drive_report", &[0, 1, 2, 4]),
         ("ism_add_reports", &[0, 4]),
@@ -161,7 +169,7 @@ fn check_coverage(compare: &Compare) {
     println!("answers seen, refusal number and times (0 is acceptance):");
     for (name, numbers) in orders.iter().copied() {
         let counts: Vec<String> = numbers.iter().map(|n| format!("{n}: {}", compare.seen(name, *n))).collect();
-        println!("  {name:16} {}", counts.join("  "));
+        println!("  {name:17} {}", counts.join("  "));
         if numbers.iter().any(|n| compare.seen(name, *n) < 20) {
             println!("outside: some answer of {name} was seen fewer than 20 times");
             exit(1);

@@ -5,6 +5,7 @@
 
 mod cells;
 pub mod fifo;
+pub mod held;
 pub mod image;
 pub mod index;
 mod items;

@@ -79,6 +79,7 @@ fn is_unset_at(compare: &mut Compare, eleven: &Eleven, place: u32) {
     let unset = Err(Refused { number: 1, place });
     compare.claim(&format!("{eleven:?} is unset at {place}"), library_margin(eleven) == unset);
     compare.margin(eleven);
+    compare.margin_limits(eleven);
     compare.class(eleven, 58);
     compare.write(eleven, &[0x1A1], 20);
     compare.read(eleven, &[58; 10], 1);

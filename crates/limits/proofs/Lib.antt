@@ -1,0 +1,10 @@
+pub mod SearchLaws
+pub mod OneByteLaws
+pub mod GatherLaws
+pub mod EdgeLaws
+pub mod NearestLaws
+pub mod KnownLaws
+pub mod SideLaws
+pub mod FoundLaws
+pub mod CrossLaws
+pub mod RoomLaws
