@@ -12,17 +12,22 @@ use crate::row;
 use timing::Class;
 use timing::Cursor;
 
-// A report with an interval of this class more.
-fn renew(mut rows: Report, class: Class, interval: u16) -> Report
+// A report with an interval of this class more. Each arm renews a row at a place that the compiler knows, so that the
+// rows stay in registers.
+fn renew(rows: Report, class: Class, interval: u16) -> Report
     requires { ⌜ isOverlarge (addRow (rowAt rows (classNumber class - 1)) (rowOf (interval ∷ []))) ≡ false ⌝ }
     ensures { λ r. ⌜
         r ≡ set rows (classNumber class - 1) (addRow (rowAt rows (classNumber class - 1)) (rowOf (interval ∷ []))) ⌝ }
 {
-    let at = class.number() - 1;
     let d = interval as u64;
     let one = [1, d, d, d];
-    rows[at] = row::add(rows[at], one);
-    rows
+    match class {
+        Class::Narrow => [row::add(rows[0], one), rows[1], rows[2], rows[3], rows[4]],
+        Class::Two => [rows[0], row::add(rows[1], one), rows[2], rows[3], rows[4]],
+        Class::Three => [rows[0], rows[1], row::add(rows[2], one), rows[3], rows[4]],
+        Class::Four => [rows[0], rows[1], rows[2], row::add(rows[3], one), rows[4]],
+        Class::Wide => [rows[0], rows[1], rows[2], rows[3], row::add(rows[4], one)],
+    }
 }
 
 // The report of a list that is not overlong, from where the classing stands on.
