@@ -9,6 +9,7 @@ pub mod held_down;
 pub mod indexes;
 pub mod limits;
 pub mod locks;
+pub mod long_lists;
 pub mod margins;
 pub mod merges;
 pub mod old_disks;

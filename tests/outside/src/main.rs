@@ -44,6 +44,7 @@ fn library() {
     compare.group("published check values", 0x02, settled::check_values);
     compare.group("examples of the chip", 0x03, settled::by_the_chip);
     compare.group("null pointers of length 0", 0x04, limits::null_pointers);
+    compare.group("version", 0x05, settled::version);
     compare.group("profile ranges", 0x10, profiles::ranges);
     compare.group("random profiles", 0x11, profiles::random_profiles);
     compare.group("classes", 0x12, profiles::classes);
@@ -119,10 +120,18 @@ fn library() {
     compare.group("faults together: field reader", 0x93, faults::field);
     compare.group("faults together: sector maker", 0x94, faults::maker);
     compare.group("a fault at each place", 0x95, faults::at_each_place);
+    compare.group("long lists: written", 0xD0, cases::long_lists::written);
+    compare.group("long lists: images", 0xD1, cases::long_lists::images);
+    compare.group("long lists: strips", 0xD2, cases::long_lists::read);
+    compare.group("long lists: fields", 0xD3, cases::long_lists::fields);
+    compare.group("long lists: leads", 0xD4, cases::long_lists::leads);
+    compare.group("long lists: reports", 0xD5, cases::long_lists::reports);
+    compare.group("long lists: searches", 0xD6, cases::long_lists::searches);
     compare.group("merge: sets by hand", 0xB0, cases::merges::by_hand);
     compare.group("merge: every choice of a copy", 0xB1, cases::merges::every_choice);
     compare.group("merge: every size", 0xB2, cases::merges::every_size);
     compare.group("merge: largest sets", 0xB3, cases::merges::largest);
+    compare.group("merge: one bit apart", 0xB7, cases::merges::one_bit_apart);
     compare.group("merge: misfit sectors", 0xB4, cases::merges::misfits);
     compare.group("merge: faults together", 0xB5, cases::merges::faults);
     compare.group("merge: random sets", 0xB6, cases::merges::random_sets);
@@ -141,6 +150,7 @@ fn library() {
     compare.group("index: random classes", 0xC9, cases::indexes::random_classes);
     compare.group("index: damaged sectors", 0xCA, cases::indexes::damaged_sectors);
     compare.group("index: made tracks", 0xCB, cases::indexes::made_tracks);
+    compare.group("index: distances of the locks", 0xBF, cases::indexes::distances);
     compare.group("index: long tracks", 0xCC, cases::indexes::long_tracks);
     compare.group("old disks moved over", 0xD0, cases::old_disks::moved_over);
     check_coverage(&compare);

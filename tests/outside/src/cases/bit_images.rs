@@ -162,7 +162,8 @@ pub fn random_images(compare: &mut Compare, random: &mut Random) {
     }
 }
 
-fn damage(words: &mut Vec<u16>, random: &mut Random) {
+/// One change to an image: a word changed, lost, doubled or exchanged.
+pub fn damage(words: &mut Vec<u16>, random: &mut Random) {
     if words.is_empty() {
         words.push(random.next() as u16);
         return;

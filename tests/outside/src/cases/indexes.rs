@@ -187,6 +187,20 @@ pub fn made_tracks(compare: &mut Compare, random: &mut Random) {
     }
 }
 
+/// The locks of a made sector's fields are 278 to 295 intervals apart, whatever its ID: the least, the most, and others.
+pub fn distances(compare: &mut Compare, random: &mut Random) {
+    let told = [([170, 82, 181, 2], Some(278)), ([0, 0, 62, 0], Some(295))];
+    let others = random_ids(300, 3, random).into_iter().map(|id| (id, None));
+    for (id, distance) in told.into_iter().chain(others) {
+        let track = stream_of(&WORKED, &made_sectors(&[id], random));
+        compare.index(&WORKED, &track);
+        let entry = library_index(&WORKED, &track).entries[0];
+        let apart = entry.data_place - entry.id_place;
+        compare.claim(&format!("{id:?}: its locks are {apart} apart"), distance.is_none_or(|told| told == apart));
+        compare.claim(&format!("{id:?}: 278 to 295, not {apart}"), (278..=295).contains(&apart));
+    }
+}
+
 /// Long tracks: places beyond 65,536 and 131,072, and thousands of locks that read as nothing.
 pub fn long_tracks(compare: &mut Compare, random: &mut Random) {
     let sector = stream_of(&WORKED, &items_of(&[id(1, 0), small_data()]));

@@ -147,6 +147,9 @@ pub fn marks(compare: &mut Compare, random: &mut Random) {
         }
         unlocked(compare, &WORKED, &list(&[0x1C2]), 0);
     }
+    // a lock need not be a mark: here the classes 3 4 3 4 3 stand behind 64 of class 2, and no A1 was written
+    let behind_ones = [vec![0xFF; 9], vec![0x1C2, 0x80, 0x00]].concat();
+    locked(compare, &stream_of(&WORKED, &behind_ones), 0, 74);
     for _ in 0..2_000 {
         let eleven = random.true_profile();
         let behind = [(); 4].map(|_| random.pick(&[0x1C2, 0x1C2, 0x1A1, 0xC2, 0xA1, 0xFF, 0x00]));

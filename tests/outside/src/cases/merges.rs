@@ -111,6 +111,23 @@ pub fn largest(compare: &mut Compare, random: &mut Random) {
     }
 }
 
+/// Two good copies of a sector of each size, one bit of the second changed: at the front, at the end or anywhere.
+pub fn one_bit_apart(compare: &mut Compare, random: &mut Random) {
+    for code in 0..=3 {
+        let size = SIZES[usize::from(code)];
+        let anywhere = [(); 40].map(|_| random.index(size));
+        for place in [0, size - 1].into_iter().chain(anywhere) {
+            let first = sector(random.byte(), code, true, random);
+            let mut second = first.clone();
+            second.data[place] ^= 1 << random.between(0, 7);
+            compare.merge(&first.bytes(), &second.bytes(), 3 + size);
+            second.holds = false;
+            compare.merge(&first.bytes(), &second.bytes(), 3 + size);
+            compare.merge(&second.bytes(), &first.bytes(), 3 + size);
+        }
+    }
+}
+
 /// Sets that do not parse to their end, alone and as the other set, short and beyond the 32nd sector.
 pub fn misfits(compare: &mut Compare, random: &mut Random) {
     for count in [0, 1, 31, 32, 33, 40] {

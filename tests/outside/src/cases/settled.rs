@@ -156,6 +156,13 @@ fn check_bytes(items: &[u16]) -> Vec<u16> {
     read
 }
 
+/// The library has this program's version, as the wrapper's.
+pub fn version(compare: &mut Compare, _: &mut Random) {
+    let parts = env!("CARGO_PKG_VERSION").split('.').map(|part| part.parse::<u32>().expect("a number"));
+    let number = parts.fold(0, |number, part| 100 * number + part);
+    compare.claim(&format!("the library is of version {number}"), ism::version() == number);
+}
+
 /// Check values printed elsewhere: CRC-16 with all ones of "123456789", and the register behind three marks A1.
 pub fn check_values(compare: &mut Compare, _: &mut Random) {
     compare.claim("paper's CRC of 123456789", crc_of(b"123456789") == 0x29B1);

@@ -211,7 +211,9 @@ fn written_bytes(program: &mut Program, random: &mut Random) {
             let checks = "crc\n".repeat(count / 2) + &bytes_line("data", &data[..1]).repeat(count % 2);
             let foreign = bytes_line("mark", &[0x00]) + &bytes_line("data", &data[1..]);
             let behind = bytes_line("data", &data[1..]) + &bytes_line("mark", &[0x77]);
-            for lines in [whole, with_check, marks, checks, foreign, behind] {
+            // eight cells a byte, the longest output
+            let zeros = bytes_line("data", &vec![0x00; count]);
+            for lines in [whole, with_check, marks, checks, foreign, behind, zeros] {
                 program.run((profile_line(&eleven) + &lines).as_bytes());
             }
         }

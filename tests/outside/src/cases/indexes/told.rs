@@ -176,6 +176,9 @@ pub fn search_after_id(compare: &mut Compare, random: &mut Random) {
     for (length, found) in [(7, None), (8, None), (9, Some((1, true))), (10, Some((1, true)))] {
         let behind = Piece { sync: vec![0; length], ..small_data() };
         tell(compare, random, "sync close behind the ID", &[id_ending_in(0), behind], &[(0, found)]);
+        let other = Piece { sync: vec![0; length], ..id(2, 0) };
+        let entries: &[Told] = if found.is_some() { &[(0, None), (1, None)] } else { &[(0, None)] };
+        tell(compare, random, "another ID close behind the ID", &[id_ending_in(0), other], entries);
     }
 }
 
