@@ -80,7 +80,8 @@ pub fn every_side(compare: &mut Compare, random: &mut Random) {
     }
 }
 
-/// Every order and tie of the three points, with every edge up to two half clocks from each of its ends.
+/// Every order and tie of the three points, with each B23 and B34 at both ends and in the middle of where it can be, and
+/// Min and Rpt up to two half clocks from the end of theirs.
 pub fn every_tie(compare: &mut Compare, _: &mut Random) {
     let points = (0..3u16)
         .flat_map(|early| (early..3).flat_map(move |normal| (normal..3).map(move |late| [early, normal, late])));
@@ -90,8 +91,7 @@ pub fn every_tie(compare: &mut Compare, _: &mut Random) {
             let (d, three, four) = (e + l, t1 + t0, t1 + 2 * t0);
             for choice in 0..3u16.pow(6) {
                 let step = |digit: u32| choice / 3u16.pow(digit) % 3;
-                let near =
-                    |digit: u32, least: u16, most: u16| [least, least.midpoint(most), most][step(digit) as usize];
+                let near = |digit: u32, least: u16, most: u16| [least, (least + most) / 2, most][step(digit) as usize];
                 let eleven = [
                     t1,
                     t0,
