@@ -6,9 +6,10 @@ use mathlib.Core.List.{List, [], _∷_}
 use native.Mathlib.Omega.{arith}
 use lib.ListN.{length, getD, take, drop}
 use lib.Seq.{drop-cons}
+use Rattle.lists.proofs.SpanLaws.{least-of-none, least-of-one, least-is-no-more as list-least-is-no-more}
+use Rattle.lists.proofs.SpanLaws.{least-is-of-one as list-least-is-of-one}
 use Rattle.timing.specs.Class.{cursorPast, cursorAfter}
 use Rattle.timing.specs.declared.cursor.Cursor.{Cursor}
-use Rattle.report.proofs.SpanLaws.{least-of-none, least-of-one, spanned}
 use Rattle.clearance.specs.Clearance.{clearanceIn, clearancesFrom, leastFrom}
 
 -- the turn of a loop over a list: the interval at a place, and those after it
@@ -51,14 +52,14 @@ module _ (c : Cursor) (ds : List ℕ) where
   unfolding leastFrom
   least-is-no-more k h =
       let there : k < length (clearancesFrom c ds) = rw clearances-count h in
-      rw (clearance-at c ds k h) at (spanned (clearancesFrom c ds) .none-below k there)
+      rw (clearance-at c ds k h) at (list-least-is-no-more (clearancesFrom c ds) k there)
 
   pub least-is-of-one
       : 0 < length ds
       → (k : ℕ) × (k < length ds) × (clearanceIn (cursorAfter c (take k ds)) (getD ds k 0) ≡ leastFrom c ds)
   unfolding leastFrom
   least-is-of-one some =
-      let (k, there, same) = spanned (clearancesFrom c ds) .low-is-there (rw clearances-count some) in
+      let (k, there, same) = list-least-is-of-one (clearancesFrom c ds) (rw clearances-count some) in
       let h : k < length ds = rw clearances-count at there in
       (k, h, cc (clearance-at c ds k h))
 

@@ -2,6 +2,8 @@ pub mod CursorLaws
 pub mod MostLaws
 pub mod LeastLaws
 pub mod Cleared
+pub mod AgreeLaws
+pub mod AnswerLaws
 pub mod AloneLaws
 pub mod NearestLaws
 pub mod SeenLaws

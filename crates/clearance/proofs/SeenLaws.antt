@@ -8,14 +8,14 @@ use mathlib.Core.List.{List, [], _∷_, _++_}
 use native.Mathlib.Omega.{arith}
 use lib.ListN.{length, getD, drop}
 use Rattle.lists.specs.Place.{everywhere}
+use Rattle.lists.specs.Span.{least}
 use Rattle.lists.proofs.BoolLaws.{both}
+use Rattle.lists.proofs.SpanLaws.{least-of-one, least-of-two}
 use Rattle.timing.specs.Class.{classIn, isTwo, behind, cursorPast, cursorAfter}
 use Rattle.timing.specs.machine.Edges.{isSteady}
 use Rattle.timing.specs.declared.cursor.Cursor.{Cursor}
 use Rattle.timing.proofs.ClassLaws.{cursor-after-cons}
 use Rattle.timing.proofs.SteadyLaws.{steady-stays}
-use Rattle.report.specs.Row.{least}
-use Rattle.report.proofs.SpanLaws.{least-of-one, least-of-two}
 use Rattle.intervals.specs.machine.Either.{isSure}
 use Rattle.intervals.proofs.EitherLaws.{sure-past, past-is-behind, cursor-after-either}
 use Rattle.clearance.specs.Clearance.{clearanceIn, clearancesFrom, leastFrom}

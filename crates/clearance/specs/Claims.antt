@@ -1,4 +1,5 @@
--- Document 02, (vi): what holds of clearances. No lemmas here.
+-- Document 02, (vi): what holds of clearances, and what the field reader's first entry hangs on with them. No lemmas
+-- here.
 use Prim.Native.Nat.{ℕ, _≤_, _<_}
 use mathlib.Core.Path.{_≡_}
 use mathlib.Core.Bool.{Bool}
@@ -8,7 +9,9 @@ use Rattle.timing.specs.Profile.{profileRule}
 use Rattle.timing.specs.Class.{cursorOf, atStart, cursorAfter}
 use Rattle.timing.specs.declared.Profile.{Profile}
 use Rattle.timing.specs.declared.cursor.Cursor.{Cursor}
+use Rattle.fields.specs.FieldRule.{fieldRule, fieldReading, fieldOutput}
 use Rattle.clearance.specs.Clearance.{IsClearance, clearanceIn, clearanceOf, leastClearance}
+use Rattle.clearance.specs.Answers.{fieldWithClearance}
 
 -- where the classing of a list stands before its interval k
 abbrev pub cursorAt : Profile → List ℕ → ℕ → Cursor
@@ -36,3 +39,14 @@ pub record Cleared (p : Profile) : Type 0 where
 
 abbrev pub ClearancesMeanIt : Type 0
 ClearancesMeanIt = (p : Profile) → profileRule p .number ≡ 0 → Cleared p
+
+-- document 01, "Finding and reading a field", of all that the first entry gives: two lists that agree in the used
+-- intervals get equal answers, the clearance too, under the same profile and n, where one of them is accepted and the
+-- outputs are equally long
+abbrev pub UsedIntervalsDecideAll : Type 0
+UsedIntervalsDecideAll =
+    (p : Profile) (n : ℕ) (ds es old : List ℕ)
+    → fieldRule p ds n (length old) .number ≡ 0
+    → take (fieldReading p ds n (length old) .used) es ≡ take (fieldReading p ds n (length old) .used) ds
+    → (fieldWithClearance p es n (length old) ≡ fieldWithClearance p ds n (length old))
+    × (fieldOutput p es n old ≡ fieldOutput p ds n old)

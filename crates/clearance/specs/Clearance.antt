@@ -5,12 +5,12 @@ use Prim.Native.Nat.{ℕ, suc, _+_, _-_, _≤_, min}
 use mathlib.Core.Path.{_≡_}
 use mathlib.Core.Bool.{Bool}
 use mathlib.Core.List.{List, [], _∷_}
+use Rattle.lists.specs.Span.{least}
 use Rattle.timing.specs.Class.{cursorOf, atStart, classIn, cursorPast}
 use Rattle.timing.specs.declared.Profile.{Profile}
 use Rattle.timing.specs.declared.Class.{Class}
 use Rattle.timing.specs.declared.Class.the-variants.{Narrow, Two, Three, Four, Wide}
 use Rattle.timing.specs.declared.cursor.Cursor.{Cursor}
-use Rattle.report.specs.Row.{least}
 
 -- ---- what it means
 

@@ -1,3 +1,4 @@
 pub mod Clearance
+pub mod Answers
 pub mod Claims
 pub mod machine

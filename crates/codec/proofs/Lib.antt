@@ -1,6 +1,6 @@
 pub mod PenLaws
 pub mod RestLaws
-pub mod TrackLaws
+pub mod BytesLaws
 pub mod StreamLaws
 pub mod WriterLaws
 pub mod ReaderLaws

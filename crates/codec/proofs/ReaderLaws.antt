@@ -33,7 +33,7 @@ use Rattle.intervals.specs.Cells.{edgeRule, cellsRead}
 use Rattle.intervals.specs.machine.Pass.{Passed, passed}
 use Rattle.intervals.specs.declared.Pass.{Pass}
 use Rattle.intervals.proofs.ClassCellLaws.{cells-at-most-classes}
-use Rattle.intervals.proofs.NearLaws.{nearCells, units-of-near-cells, classes-are-near, near-are-cells}
+use Rattle.intervals.proofs.TakenAsLaws.{takenCells, units-of-taken-cells, classes-are-taken-as, taken-are-cells}
 use Rattle.intervals.proofs.PassLaws.{pass-over-all}
 use Rattle.codec.specs.Reader.{itemsOfStream, readRule, readOutput}
 
@@ -77,12 +77,12 @@ module _ (p : Profile) (ds old : List ℕ) where
         abbrev pass : Passed
         pass = passed 51202 (unitsFrom (atStart p) ds)
 
-        cells : nearCells (atStart p) ds ≡ cs
+        cells : takenCells (atStart p) ds ≡ cs
         unfolding edgeRule cellsRead
         cells =
             sym
-            (near-are-cells 0
-            (rw (classes-from-start p ds) (classes-are-near (atStart p) ds (accepted-ascends p accepts))) fair)
+            (taken-are-cells 0
+            (rw (classes-from-start p ds) (classes-are-taken-as (atStart p) ds (accepted-ascends p accepts))) fair)
 
         few-cells : length cs ≤ 51202
         unfolding cellsRead
@@ -94,7 +94,7 @@ module _ (p : Profile) (ds old : List ℕ) where
         unfolding passed freshReading
         whole =
             let most = few-cells in
-            rw (← units-of-near-cells (atStart p) ds, cells)
+            rw (← units-of-taken-cells (atStart p) ds, cells)
             (pass-over-all cs 51202 0 freshReading (omega arith) (omega arith))
 
         module _ (r : Pass) (read : r ≡ pass .end) where

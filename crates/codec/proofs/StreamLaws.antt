@@ -28,10 +28,10 @@ use Rattle.lengths.proofs.NeighbourLaws.{lengths-by-neighbours}
 use Rattle.lengths.proofs.RunLaws.{written-cells-are-short}
 use Rattle.lengths.proofs.StreamLaws.{stream-is-as-long-as-its-cells}
 use Rattle.codec.specs.machine.Pen.{Drawing, drawing, storedLate, ended, passed, drawn, Fits}
-use Rattle.codec.specs.machine.Track.{Writing, writing, freshTrack, wordDrawn, wrote, closingWord, Holds}
+use Rattle.codec.specs.machine.Bytes.{Writing, writing, freshTrack, wordDrawn, wrote, closingWord, Holds}
 use Rattle.codec.proofs.PenLaws.{drawn-of-append, drawn-length, fits-before, output-by-cells, cells-by-cells}
 use Rattle.codec.proofs.PenLaws.{lengths-one-late}
-use Rattle.codec.proofs.TrackLaws.{wrote-length, wrote-is-drawn, last-half-cell-is-last-bit}
+use Rattle.codec.proofs.BytesLaws.{wrote-length, wrote-is-drawn, last-half-cell-is-last-bit}
 
 -- ---- the closing word
 

@@ -1,2 +1,5 @@
+-- Machines, not meaning.
+-- Half cells to lengths
 pub mod Pen
-pub mod Track
+-- Written bytes to half cells
+pub mod Bytes

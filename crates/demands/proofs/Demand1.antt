@@ -10,7 +10,6 @@ use lib.ListN.{length, drop}
 use lib.Dec.{ltb}
 use Rattle.lists.specs.Place.{anywhere}
 use Rattle.refusal.specs.Answer.{accepted, refused}
-use Rattle.refusal.proofs.AnswerLaws.{first-refusal-accepts}
 use Rattle.timing.specs.Class.{classesOf, classRule}
 use Rattle.timing.specs.declared.Profile.{Profile}
 use Rattle.timing.specs.declared.Class.{Class}
@@ -28,8 +27,8 @@ use Rattle.intervals.specs.Cells.{edgeRule, cellsRead}
 use Rattle.codec.specs.Writer.{streamRule, writeRule, writeOutput}
 use Rattle.codec.specs.Reader.{itemsOfStream, readRule, readOutput}
 use Rattle.fields.specs.Lock.{lockAt, firstLock, lockFrom, countedFrom, searchRule, findRule}
-use Rattle.fields.specs.Field.{fieldStop}
-use Rattle.fields.specs.FieldRule.{gatherRule, deliverRule, checkedRule, fieldRule, fieldOutput}
+use Rattle.fields.specs.Field.{fieldStop, fieldStray}
+use Rattle.fields.specs.FieldRule.{fieldRule, fieldOutput}
 use Rattle.fields.proofs.FirstLockLaws.{lock-from-found, adrift-has-no-lock}
 use Rattle.fields.proofs.FieldLaws.{field-items-count}
 use Rattle.sectors.specs.Sector.{isMisfitInMaker, sectorRule, sectorOutput}
@@ -42,9 +41,13 @@ use Rattle.limits.specs.Limits.{limitsRule}
 use Rattle.demands.specs.Order.{accept, turn, at0, Answers}
 use Rattle.demands.specs.Causes.{stripOrder}
 use Rattle.demands.specs.Demand1.{Demand1}
+use Rattle.fifo.specs.Sides.{Processor, Chip}
+use Rattle.demands.proofs.ProgramLaws.{program-in-turn, program-refuses}
+use Rattle.demands.proofs.FifoLaws.{put-in-turn, takes-refuse-nothing}
+use Rattle.demands.proofs.RestLaws.{field-answer, field-rest, whole-list}
 use Rattle.demands.proofs.OrderLaws.{turn-by-test, turn-before, profile-first, means-below, last-below, means-or}
 use Rattle.demands.proofs.OrderLaws.{means-either, means-at, answers-accepted, answers-here, answers-later}
-use Rattle.demands.proofs.OrderLaws.{first-refusal-of-first, NoCauseOf, not-answered, told-after, told-by-test}
+use Rattle.demands.proofs.OrderLaws.{NoCauseOf, not-answered, told-after, told-by-test}
 use Rattle.demands.proofs.OrderLaws.{told-once-accepted, told-room, told-if-room, told-bytes, settled-is-lent}
 use Rattle.demands.proofs.OrderLaws.{means-equal}
 use Rattle.demands.proofs.StopLaws.{edges-in-turn, stop-in-turn}
@@ -84,9 +87,9 @@ item-count words = length-of-bytes O words
 
 pub demand-1 : Demand1
 unfolding marginRule limitsRule classRule writeRule listRule streamRule streamOf sectorRule isMisfitInMaker readRule
-    stripRule fieldRule checkedRule gatherRule deliverRule findRule searchRule reportRule addRule makeRule wordsRule
-    readImageRule roomRule indexRule crowdRule mergeRule merge-room isCrowded writeOutput readOutput fieldOutput
-    sectorOutput makeOutput readImageOutput mergeOutput mergeAnswer
+    stripRule fieldRule findRule searchRule reportRule addRule makeRule wordsRule readImageRule roomRule indexRule
+    crowdRule mergeRule merge-room isCrowded writeOutput readOutput fieldOutput sectorOutput makeOutput
+    readImageOutput mergeOutput mergeAnswer
 demand-1 =
     record {
       margin = λ p. profile-first p _ answers-accepted;
@@ -108,8 +111,7 @@ demand-1 =
           let cs = classesOf p ds in
           profile-first p _
           (turn-by-test (means-either n 1 1030 n)
-          (rw (← first-refusal-of-first (fieldStop cs n) _ _)
-          (stop-in-turn cs _ _ (turn-before 7 _ _ (means-at _ _) (last-below room n _)) n)));
+          (stop-in-turn cs _ _ (turn-by-test (means-at _ _) (last-below room n _)) n));
       maker = λ track side sector code bytes room.
           turn-by-test (means-or (means-equal code 0) (means-at _ _)) (last-below room _ _);
       drive-report = λ p ds. profile-first p _ (last-below 51202 _ _);
@@ -125,6 +127,14 @@ demand-1 =
           turn-by-test (means-or (means-at _ _) (means-at _ _))
           (turn-by-test (means-or (means-either 32 _ 32 _) (means-below 32 _))
           (turn-by-test (means-at _ _) (last-below room _ _)));
+      processor-put = put-in-turn Processor;
+      chip-put = put-in-turn Chip;
+      fifo-takes = takes-refuse-nothing;
+      program = program-in-turn;
+      program-refuses = program-refuses;
+      field-answer = field-answer;
+      field-rest = field-rest;
+      whole-list = whole-list;
       writer-output = λ p items old.
           settled-is-lent _ _ old (told-after (profileRule p) (told-after (listRule items) (told-room _ _ refl)));
       strip-output = λ p ds old.
@@ -137,8 +147,8 @@ demand-1 =
           settled-is-lent _ _ old
           (told-after (profileRule p)
           (told-by-test (outside 1 1030 n) 11 _
-          (told-once-accepted (gatherRule cs n) (λ gathers.
-          told-room n _ (field-items-count cs n (first-refusal-accepts (fieldStop cs n) _ gathers .0))))));
+          (told-once-accepted (fieldStop cs n) (λ stops.
+          told-by-test (fieldStray cs n) 7 _ (told-room n _ (field-items-count cs n stops))))));
       maker-output = λ track side sector code bytes old.
           settled-is-lent _ _ old (told-by-test (isMisfitInMaker code bytes) 12 _ (told-room _ _ refl));
       image-output = λ items old.

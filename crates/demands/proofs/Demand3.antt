@@ -23,7 +23,8 @@ use Rattle.lengths.proofs.NearLaws.{Near, near-of-each, near-at, near-itself, n
 use Rattle.lengths.specs.Margin.{marginOf, marginRule}
 use Rattle.lengths.proofs.WindowLaws.{near-stream-has-classes}
 use Rattle.lengths.proofs.MiddleLaws.{search-is-behind}
-use Rattle.lengths.proofs.MarginLaws.{Broken, margin-leaves-room, above-margin-is-broken}
+use Rattle.lengths.proofs.MarginLaws.{margin-leaves-room}
+use Rattle.lengths.proofs.WitnessLaws.{Broken, above-margin-is-broken}
 use Rattle.lengths.proofs.BrokenLaws.{brokenStream, broken-stream-is-near, broken-stream-has-other-classes}
 use Rattle.lengths.proofs.KindLaws.{length-fits}
 use Rattle.lengths.proofs.PapersMargin.{margin-is-the-papers, one-byte-is-written}

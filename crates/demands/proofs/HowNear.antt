@@ -17,12 +17,13 @@ use Rattle.items.specs.Written.{written}
 use Rattle.symbols.specs.Cells.{writtenCells}
 use Rattle.lengths.specs.Stream.{byteStream, streamOf}
 use Rattle.lengths.specs.Units.{classOfUnits}
-use Rattle.lengths.proofs.KindLaws.{Window, two-short, two-long, three-short, three-long, four-short, four-long}
-use Rattle.lengths.proofs.KindLaws.{window-at, stream-has-windows, length-fits}
+use Rattle.lengths.proofs.KindLaws.{CellLength, two-short, two-long, three-short, three-long, four-short, four-long}
+use Rattle.lengths.proofs.KindLaws.{cell-length-at, stream-has-cells, length-fits}
 use Rattle.lengths.specs.Margin.{afterTwo}
 use Rattle.lengths.proofs.NearLaws.{Near, near-of-each, near-itself}
 use Rattle.lengths.proofs.WindowLaws.{near-length-has-class, near-stream-is-passed}
-use Rattle.lengths.proofs.MarginLaws.{Broken, margin-leaves-room, above-margin-is-broken}
+use Rattle.lengths.proofs.MarginLaws.{margin-leaves-room}
+use Rattle.lengths.proofs.WitnessLaws.{Broken, above-margin-is-broken}
 use Rattle.lengths.proofs.PapersMargin.{one-byte-is-written}
 use Rattle.clearance.specs.Clearance.{clearanceIn, clearanceOf, leastClearance}
 use Rattle.clearance.specs.Claims.{cursorAt}
@@ -37,14 +38,14 @@ use Rattle.demands.proofs.Demand3.{stated-is-the-margin, demand-3}
 use Rattle.demands.proofs.UsedLaws.{strip-has-intervals, field-has-intervals}
 
 -- the class that a window's cell has is one with edges
-inner-of-window : {p : Profile} {l u : ℕ} {two : Bool} → Window p l two u → Inner (classOfUnits u)
+inner-of-cell : {p : Profile} {l u : ℕ} {two : Bool} → CellLength p l two u → Inner (classOfUnits u)
 unfolding classOfUnits
-inner-of-window (two-short low high) = tt
-inner-of-window (two-long low high) = tt
-inner-of-window (three-short low high) = tt
-inner-of-window (three-long low high) = tt
-inner-of-window (four-short low high) = tt
-inner-of-window (four-long low high) = tt
+inner-of-cell (two-short low high) = tt
+inner-of-cell (two-long low high) = tt
+inner-of-cell (three-short low high) = tt
+inner-of-cell (three-long low high) = tt
+inner-of-cell (four-short low high) = tt
+inner-of-cell (four-long low high) = tt
 
 module _ (p : Profile) (accepts : AcceptedProfile p) where
   module _
@@ -59,7 +60,7 @@ module _ (p : Profile) (accepts : AcceptedProfile p) where
           let room = rw (← stated-is-the-margin p accepts) at (margin-leaves-room (kept p accepts)) in
           let there : k < length (streamOf p items) = rw (← moved .as-many) h in
           let window =
-          window-at 2 (writtenCells (written items)) _ (stream-has-windows (kept p accepts) (written items)) k there in
+          cell-length-at 2 (writtenCells (written items)) _ (stream-has-cells (kept p accepts) (written items)) k there in
           let near : Near (stated p) changed (streamOf p items) =
           near-of-each (stated p) changed (streamOf p items) (moved .as-many) (λ j inside.
           let there : j < length changed = rw (moved .as-many) inside in
@@ -70,7 +71,7 @@ module _ (p : Profile) (accepts : AcceptedProfile p) where
           let shorter = moved .no-shorter k h in
           let here = near-length-has-class room (getD changed k 0) window (omega arith) (omega arith) in
           rw (near-stream-is-passed room (kept p accepts) (written items) changed near k (omega arith))
-          (kept-is-cleared p two accepts (getD changed k 0) (stated p - c) (rw here (inner-of-window window))
+          (kept-is-cleared p two accepts (getD changed k 0) (stated p - c) (rw here (inner-of-cell window))
           (λ d up down. cc (near-length-has-class room d window (omega arith) (omega arith))))
 
       pub within-the-margin : Moved (stated p) (streamOf p items) changed

@@ -1,6 +1,9 @@
 pub mod OrderLaws
 pub mod UnreadLaws
 pub mod StopLaws
+pub mod ProgramLaws
+pub mod FifoLaws
+pub mod RestLaws
 pub mod Demand1
 pub mod SettledCases
 pub mod ListLaws

@@ -88,18 +88,6 @@ pub turn-before
 turn-before n rule later (holds cause) rest = rw (eqb·suc-zero n) (answers-here cause)
 turn-before n rule later (fails none) rest = answers-later none rest
 
--- of three answers the first refusal, however they are taken together
-pub first-refusal-of-first
-    : (a b c : Answer) → firstRefusal a (firstRefusal b c) ≡ firstRefusal (firstRefusal a b) c
-first-refusal-of-first a b c = split (eqb (a .number) 0) refl
-  where
-    split
-        : (t : Bool)
-        → eqb (a .number) 0 ≡ t
-        → cond t (firstRefusal b c) a ≡ firstRefusal (cond t b a) c
-    split true e = refl
-    split false e = rw e
-
 -- ---- what a test means
 
 -- a test that has a place
@@ -123,6 +111,18 @@ means-equal a b =
     elim (eqb a b) as (λ t. eqb a b ≡ t → Means 0 (at0 (a ≡ b)) t) [
       | true ↦ λ e. holds (eqb-true a b e, refl)
       | false ↦ λ e. fails (λ k c. eqb-false a b e (c .0))
+    ] refl
+
+-- a test of a number, and what comes later where it is not above
+pub turn-if-above
+    : {n : ℕ} {order : Order} {later : Answer} (a b : ℕ)
+    → (b ≤ a → Answers order later)
+    → Answers (turn (suc n) (at0 (a < b)) order) (refuseIf (ltb a b) (suc n) 0 later)
+turn-if-above {n} {order} {later} a b rest =
+    elim (ltb a b) as (λ t.
+    ltb a b ≡ t → Answers (turn (suc n) (at0 (a < b)) order) (refuseIf t (suc n) 0 later)) [
+      | true ↦ λ e. answers-here (ltb-true a b e, refl)
+      | false ↦ λ e. let most = ltb-false a b e in answers-later (λ k c. omega (arith, most, c .0)) (rest most)
     ] refl
 
 -- one test or the other

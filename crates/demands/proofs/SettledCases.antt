@@ -9,6 +9,7 @@ use Rattle.items.specs.Written.{itemBytes, writtenFrom, written}
 use Rattle.symbols.specs.Bits.{byteBits, withGaps, markBits, writtenBits, allBits, bitsOf}
 use Rattle.symbols.specs.Cells.{pairSymbols, symbolsFrom, symbolsOf, writtenSymbols}
 use Rattle.lists.specs.Place.{anywhere, lowest}
+use Rattle.lists.specs.Span.{least}
 use Rattle.timing.specs.Profile.{unset, swing, advance, delay, isTrueShort, isTrueLong, isTrue, profileRule}
 use Rattle.timing.specs.Class.{cursorOf, atStart, classIn, behind, cursorPast, classesFrom, classOf, classesOf}
 use Rattle.timing.specs.declared.Class.{Class}
@@ -16,7 +17,7 @@ use Rattle.timing.specs.declared.Class.the-variants.{Narrow, Two, Three, Four, 
 use Rattle.lengths.specs.Lengths.{point, symbolAfter, cellLength, lengthsFrom, lengthsOf}
 use Rattle.items.specs.Rule.{listRule}
 use Rattle.lengths.specs.Stream.{byteStream, streamOf}
-use Rattle.lengths.specs.Margin.{roomsOf, leastOf, marginOf, marginRule}
+use Rattle.lengths.specs.Margin.{roomsOf, marginOf, marginRule}
 use Rattle.lengths.proofs.PapersMargin.{margin-is-the-papers}
 use Rattle.codec.specs.Writer.{streamRule, writeRule}
 use Rattle.demands.specs.Settled.{worked, SettledCases}
@@ -35,7 +36,7 @@ pub settled-cases : SettledCases
 unfolding isMark isCheck itemBytes writtenFrom written byteBits withGaps markBits writtenBits allBits bitsOf
     pairSymbols symbolsFrom symbolsOf writtenSymbols anywhere lowest unset
     swing advance delay isTrueShort isTrueLong isTrue profileRule cursorOf atStart classIn behind cursorPast
-    classesFrom classOf classesOf point symbolAfter cellLength lengthsFrom lengthsOf byteStream streamOf roomsOf leastOf marginOf marginRule
+    classesFrom classOf classesOf point symbolAfter cellLength lengthsFrom lengthsOf byteStream streamOf roomsOf least marginOf marginRule
     isByte isItem isForeign bytesOf writtenBytes listRule streamRule writeRule
 settled-cases =
     record {

@@ -11,6 +11,7 @@ use lib.Seq.{take-length}
 use Rattle.lists.specs.Place.{anywhere, lowest}
 use Rattle.lists.proofs.PlaceLaws.{lowest-of-none}
 use Rattle.refusal.specs.Answer.{Answer, refused, firstRefusal}
+use Rattle.refusal.proofs.AnswerLaws.{first-refusal-of-first}
 use Rattle.timing.specs.declared.Class.{Class}
 use Rattle.timing.specs.declared.Class.the-variants.{Narrow, Wide}
 use Rattle.symbols.specs.Bits.{O}
@@ -21,7 +22,7 @@ use Rattle.demands.specs.Order.{Order, turn, at0, Nowhere, Answers}
 use Rattle.demands.specs.Causes.{isUnread, FirstUnread, Fewer}
 use Rattle.demands.proofs.UnreadLaws.{IsFirst, frontBits, Met, all-read, met-narrow, met-wide, edges-met, Stops}
 use Rattle.demands.proofs.UnreadLaws.{enough, fewer, field-stops}
-use Rattle.demands.proofs.OrderLaws.{answers-here, answers-later, first-refusal-of-first}
+use Rattle.demands.proofs.OrderLaws.{answers-here, answers-later}
 
 module _
     (cs : List Class) (Cause : Class → ℕ → Type 0) (here : (d : Class) → IsFirst d cs → Cause d (lowest isUnread cs))

@@ -19,7 +19,7 @@ use Rattle.codec.specs.Reader.{readRule}
 use Rattle.fields.specs.Field.{fieldCells, fieldUsed}
 use Rattle.fields.proofs.FieldLaws.{field-bits-enough}
 use Rattle.fields.proofs.ReaderLaws.{answer-is-its-rule}
-use Rattle.fields.specs.FieldRule.{gatherRule, checkedRule, fieldRule, fieldReading}
+use Rattle.fields.specs.FieldRule.{fieldRule, fieldReading}
 use Rattle.demands.proofs.ReadLaws.{passed-of-accepted}
 
 -- ---- a strip
@@ -45,11 +45,11 @@ pub field-has-intervals
     : (p : Profile) (ds : List ℕ) (n room : ℕ)
     → fieldReading p ds n room .answer .number ≡ 0
     → 0 < fieldReading p ds n room .used
-unfolding fieldReading fieldRule checkedRule gatherRule fieldUsed
+unfolding fieldReading fieldRule fieldUsed
 field-has-intervals p ds n room h =
     let accepts : fieldRule p ds n room .number ≡ 0 = rw answer-is-its-rule at h in
     let after-2 = first-refusal-accepts (profileRule p) _ accepts .1 in
     let after-12 = refuse-if-accepts (outside 1 1030 n) 11 0 _ after-2 .1 in
-    let stops = first-refusal-accepts _ _ (first-refusal-accepts _ _ after-12 .0) .0 in
+    let stops = first-refusal-accepts _ _ after-12 .0 in
     let bits = field-bits-enough (classesOf p ds) n stops in
     rw (eq-eqb _ 0 accepts) (bits-have-cells (fieldCells (classesOf p ds) n) (omega arith))

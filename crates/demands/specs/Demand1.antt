@@ -2,9 +2,10 @@
 -- accepted then, every other input. That no duty is laid on the caller is in the contracts: no entry has a `requires`.
 -- No lemmas here.
 use Prim.Native.Nat.{ℕ}
+use mathlib.Core.Path.{_≡_}
 use mathlib.Core.Bool.{Bool}
 use mathlib.Core.List.{List}
-use lib.ListN.{length}
+use lib.ListN.{length, drop}
 use Rattle.timing.specs.Class.{classesOf, classRule}
 use Rattle.timing.specs.declared.Profile.{Profile}
 use Rattle.items.specs.Written.{written}
@@ -13,8 +14,8 @@ use Rattle.lengths.specs.Margin.{marginRule}
 use Rattle.codec.specs.Writer.{writeRule, writeOutput}
 use Rattle.codec.specs.Reader.{itemsOfStream, readRule, readOutput}
 use Rattle.fields.specs.Lock.{findRule}
-use Rattle.fields.specs.Field.{fieldItems}
-use Rattle.fields.specs.FieldRule.{fieldRule, fieldOutput}
+use Rattle.fields.specs.Field.{fieldUsed, fieldItems}
+use Rattle.fields.specs.FieldRule.{fieldRule, fieldReading, fieldOutput, fieldRest, restPlace}
 use Rattle.sectors.specs.Sector.{sectorItems, sectorRule, sectorOutput}
 use Rattle.report.specs.Report.{Report, reportRule, addRule}
 use Rattle.images.specs.Image.{imageOf, bytesIn}
@@ -24,12 +25,19 @@ use Rattle.merge.specs.Merge.{merged}
 use Rattle.merge.specs.Rule.{mergeRule, mergeAnswer, mergeOutput}
 use Rattle.track.specs.Index.{indexRule}
 use Rattle.limits.specs.Limits.{limitsRule}
+use Rattle.fifo.specs.State.{State}
+use Rattle.fifo.specs.Sides.{Processor, Chip}
+use Rattle.fifo.specs.Rules.{Put, ChipPut, ruleOf}
+use Rattle.strip.specs.Output.{refusalText}
+use Rattle.strip.specs.Program.{programRule, programText}
 use Rattle.demands.specs.Order.{accept, Answers, Lent}
 use Rattle.demands.specs.Causes.{profileOrder, writerOrder, stripOrder, finderOrder, fieldOrder, makerOrder}
 use Rattle.demands.specs.ReportCauses.{reportOrder, addOrder}
 use Rattle.demands.specs.ImageCauses.{imageMakerOrder, imageReaderOrder}
 use Rattle.demands.specs.IndexCauses.{indexOrder}
 use Rattle.demands.specs.MergeCauses.{mergeOrder, countedInBytes}
+use Rattle.demands.specs.FifoCauses.{PutsInTurn, TakesRefuseNothing}
+use Rattle.demands.specs.ProgramCauses.{programOrder}
 
 pub record Demand1 : Type 0 where
   -- refused first, and accepted then: every operation by its order
@@ -50,6 +58,24 @@ pub record Demand1 : Type 0 where
   pub image-reader : (words : List ℕ) (room : ℕ) → Answers (imageReaderOrder words room) (readImageRule words room)
   pub track-index : (p : Profile) (ds : List ℕ) → Answers (indexOrder p ds) (indexRule p ds)
   pub merge : (first second : List ℕ) (room : ℕ) → Answers (mergeOrder first second room) (mergeRule first second room)
+  pub processor-put : (n : ℕ) (s : State) → PutsInTurn Processor n s (ruleOf (Put n) s)
+  pub chip-put : (n : ℕ) (s : State) → PutsInTurn Chip n s (ruleOf (ChipPut n) s)
+  pub fifo-takes : TakesRefuseNothing
+  pub program : (text : List ℕ) → Answers (programOrder text) (programRule text)
+  -- a refusal of the program prints `refused`, number, place, and nothing else
+  pub program-refuses
+      : (text : List ℕ) → (programRule text .number ≡ 0 → ⊥) → programText text ≡ refusalText (programRule text)
+  -- the number, place and count that the field reader gives are those of its order; its second entry hands back the
+  -- rest of the caller's own list, and on a refusal the whole of it
+  pub field-answer : (p : Profile) (ds : List ℕ) (n room : ℕ) → fieldReading p ds n room .answer ≡ fieldRule p ds n room
+  pub field-rest
+      : (p : Profile) (ds : List ℕ) (n room : ℕ)
+      → fieldRule p ds n room .number ≡ 0
+      → fieldRest p ds n room ≡ drop (fieldUsed (classesOf p ds) n) ds
+  pub whole-list
+      : (p : Profile) (ds : List ℕ) (n room : ℕ) (start : ℕ × ℕ)
+      → (fieldRule p ds n room .number ≡ 0 → ⊥)
+      → (fieldRest p ds n room ≡ ds) × (restPlace p ds n room start ≡ start)
   -- a refusal alters nothing the caller lent: every operation that lends a buffer
   pub writer-output
       : (p : Profile) (items old : List ℕ)

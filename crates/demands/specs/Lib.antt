@@ -4,6 +4,8 @@ pub mod ReportCauses
 pub mod ImageCauses
 pub mod IndexCauses
 pub mod MergeCauses
+pub mod FifoCauses
+pub mod ProgramCauses
 pub mod Demand1
 pub mod Streams
 pub mod Demand2

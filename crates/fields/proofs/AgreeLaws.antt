@@ -12,10 +12,11 @@ use Rattle.timing.proofs.ClassLaws.{classes-of-take}
 use Rattle.symbols.specs.Bits.{O}
 use Rattle.fields.specs.Field.{bitsWanted, fieldStop, fieldCells, fieldUsed, fieldBits, fieldItems, fieldHolds}
 use Rattle.fields.specs.Field.{fieldStray, fieldStrayPlace}
-use Rattle.fields.specs.FieldRule.{gatherRule, checkedRule, fieldRule, fieldReading, fieldOutput}
+use Rattle.fields.specs.FieldRule.{fieldRule, fieldReading, fieldOutput}
+use Rattle.fields.specs.machine.Gather.{gatherRule, checkedRule}
 use Rattle.fields.specs.Claims.{UsedIntervalsDecide}
 use Rattle.fields.proofs.TakenLaws.{SameFront, used-decide}
-use Rattle.fields.proofs.RuleLaws.{gather-stops-nowhere, gather-accepts}
+use Rattle.fields.proofs.RuleLaws.{rule-is-checked, gather-stops-nowhere, gather-accepts}
 
 -- ---- what hangs on the cells and the stop
 
@@ -55,8 +56,10 @@ same-front p ds es n used whole is agree =
     (used-decide (drop used (classesOf p es)) (classesOf p ds) (bitsWanted n) O 0 whole)
 
 pub two-lists-that-agree : UsedIntervalsDecide
-unfolding fieldReading fieldOutput fieldRule checkedRule fieldHolds
+unfolding fieldReading fieldOutput checkedRule fieldHolds
 two-lists-that-agree p n ds es old accepts agree =
     let whole = gather-stops-nowhere (classesOf p ds) n (gather-accepts p ds n (length old) accepts) in
     let same = same-front p ds es n _ whole (used-by-answer p ds n (length old) accepts) agree in
-    (rw (same-gather n same, same-used n same, same-items n same), rw (same-gather n same, same-items n same))
+    let rule : fieldRule p es n (length old) ≡ fieldRule p ds n (length old) =
+    rw (rule-is-checked p es n (length old), rule-is-checked p ds n (length old), same-gather n same) in
+    (rw (rule, same-used n same, same-items n same), rw (rule, same-items n same))

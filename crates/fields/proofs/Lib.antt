@@ -7,7 +7,7 @@ pub mod EnoughLaws
 pub mod FieldLaws
 pub mod AgreeLaws
 pub mod FieldPassLaws
-pub mod NearFieldLaws
+pub mod TakenFieldLaws
 pub mod RuleLaws
 pub mod ReaderLaws
 pub mod MarksLaws

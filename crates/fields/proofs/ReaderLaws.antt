@@ -20,10 +20,10 @@ use Rattle.timing.specs.declared.Profile.{Profile}
 use Rattle.timing.specs.declared.Class.{Class}
 use Rattle.timing.proofs.ClassLaws.{classes-length}
 use Rattle.fields.specs.Field.{fieldUsed, fieldItems, fieldHolds}
-use Rattle.fields.specs.FieldRule.{FieldAnswer, fieldTurnedAway, checkedReading, checkedOutput, fieldRule}
-use Rattle.fields.specs.FieldRule.{fieldReading, fieldOutput, answerWith}
+use Rattle.fields.specs.FieldRule.{FieldAnswer, fieldTurnedAway, fieldRule, fieldReading, fieldOutput, answerWith}
+use Rattle.fields.specs.machine.Gather.{checkedReading, checkedOutput}
 use Rattle.fields.proofs.FieldLaws.{field-used-at-most, field-items-count}
-use Rattle.fields.proofs.RuleLaws.{gather-stops-nowhere, gather-accepts}
+use Rattle.fields.proofs.RuleLaws.{rule-is-checked, gather-stops-nowhere, gather-accepts}
 
 -- the answer is the rule's, whatever comes with it
 pub answer-is-its-rule : (a : Answer) (used : ℕ) (holds : Bool) → answerWith a used holds .answer ≡ a
@@ -38,8 +38,8 @@ pub checked-reads
     → profileRule p .number ≡ 0
     → outside 1 1030 n ≡ false
     → checkedReading (classesOf p ds) n room ≡ fieldReading p ds n room
-unfolding fieldReading fieldRule checkedReading
-checked-reads p ds n room fair h = rw (eq-eqb _ 0 fair, h)
+unfolding fieldReading checkedReading
+checked-reads p ds n room fair h = rw (rule-is-checked p ds n room, eq-eqb _ 0 fair, h)
 
 module _ (p : Profile) (ds : List ℕ) (n : ℕ) (old : List ℕ) where
   abbrev Settles : FieldAnswer → List ℕ → Type 0
@@ -60,8 +60,9 @@ module _ (p : Profile) (ds : List ℕ) (n : ℕ) (old : List ℕ) where
     pub checked-settles
         : outside 1 1030 n ≡ false
         → Settles (checkedReading (classesOf p ds) n (length old)) (checkedOutput (classesOf p ds) n old)
-    unfolding fieldOutput fieldRule checkedOutput
-    checked-settles h = (checked-reads p ds n (length old) fair h, rw (eq-eqb _ 0 fair, h))
+    unfolding fieldOutput checkedOutput
+    checked-settles h =
+        (checked-reads p ds n (length old) fair h, rw (rule-is-checked p ds n (length old), eq-eqb _ 0 fair, h))
 
 pub count-in-range : (n : ℕ) → outside 1 1030 n ≡ false → (1 ≤ n) × (n ≤ 1030)
 count-in-range n h =

@@ -29,7 +29,7 @@ use Rattle.symbols.proofs.BytesLaws.{length-of-bits, items-of-whole-bytes, whol
 use Rattle.symbols.proofs.ReadingLaws.{read-append, last-of-snoc, beginsWithOne, no-one-after-zero}
 use Rattle.fields.specs.Field.{bitsWanted, fieldStop, fieldCells, fieldUsed, fieldBits, fieldItems, holdsAfter}
 use Rattle.fields.specs.Field.{fieldHolds, fieldStray}
-use Rattle.fields.specs.FieldRule.{gatherRule, deliverRule, checkedRule, fieldRule, fieldReading, fieldOutput}
+use Rattle.fields.specs.FieldRule.{fieldRule, fieldReading, fieldOutput}
 use Rattle.fields.proofs.EnoughLaws.{classesOfCells, shortBy, OfCells, used-of-cells}
 use Rattle.fields.proofs.FieldLaws.{field-bits-few, field-bits-enough}
 
@@ -113,7 +113,7 @@ module _ (us vs : List ℕ) (xs : List Cell) (reads : readBits xs ≡ O ∷ allB
         (in-range : outside 1 1030 n ≡ false)
       where
         rule-accepts : (room : ℕ) → n ≤ room → fieldRule p ds n room ≡ accepted n
-        unfolding fieldRule checkedRule gatherRule deliverRule
+        unfolding fieldRule
         rule-accepts room h =
             rw (eq-eqb _ 0 accepts, in-range, same, stops-nowhere, none-is-stray, le-ltb room n h)
 

@@ -1,42 +1,27 @@
 -- Document 01, "Turned-away numbers", field: 1, 2, 12, then 5, 6 or 11 as first met, 8, 9. No lemmas here.
 use Prim.Native.Nat.{ℕ, _+_, _*_}
-use mathlib.Core.Path.{_≡_}
 use mathlib.Core.Bool.{Bool, false, cond}
 use mathlib.Core.List.{List}
 use lib.Dec.{eqb, ltb}
 use lib.ListN.{length, drop}
-use Rattle.lists.specs.Filled.{storedAt}
 use Rattle.refusal.specs.Table.{numberOf, placeOf}
 use Rattle.refusal.specs.Answer.{Answer, accepted, refused, refuseIf, firstRefusal, settled}
 use Rattle.timing.specs.Profile.{outside, profileRule}
 use Rattle.timing.specs.Class.{classesOf}
 use Rattle.timing.specs.declared.Profile.{Profile}
-use Rattle.timing.specs.declared.Class.{Class}
 use Rattle.fields.specs.Field.{fieldStop, fieldUsed, fieldItems, fieldHolds, fieldStray, fieldStrayPlace}
 use Rattle.fields.specs.declared.reader.FieldRead.{FieldRead}
 use Rattle.fields.specs.declared.reader.FieldRead.the-variants.{Field, Refused}
 
--- 5, 6 or 11 as first met, then 8; else the number of intervals used
-unfoldable pub gatherRule : List Class → ℕ → Answer
-gatherRule cs n =
-    firstRefusal (fieldStop cs n)
-    (refuseIf (fieldStray cs n) 8 (fieldStrayPlace cs n)
-    (accepted (fieldUsed cs n)))
-
--- what the pass leaves in its buffer and tells of the register, where it is accepted
-abbrev pub GathersItems : List Class → ℕ → List ℕ → List ℕ → Type 0
-GathersItems cs n old new = gatherRule cs n .number ≡ 0 → new ≡ storedAt old 0 (fieldItems cs n)
-
-abbrev pub TellsSum : List Class → ℕ → Bool → Type 0
-TellsSum cs n holds = gatherRule cs n .number ≡ 0 → holds ≡ fieldHolds cs n
-
--- 9; else the number of items
-unfoldable pub deliverRule : ℕ → ℕ → Answer
-deliverRule n room = refuseIf (ltb room n) 9 0 (accepted n)
-
--- what is answered under an accepted profile, of a count in range
-unfoldable pub checkedRule : List Class → ℕ → ℕ → Answer
-checkedRule cs n room = firstRefusal (gatherRule cs n) (deliverRule n room)
+-- the field reader's number, place and count
+unfoldable pub fieldRule : Profile → List ℕ → ℕ → ℕ → Answer
+fieldRule p ds n room =
+    firstRefusal (profileRule p)
+    (refuseIf (outside 1 1030 n) 12 0
+    (firstRefusal (fieldStop (classesOf p ds) n)
+    (refuseIf (fieldStray (classesOf p ds) n) 8 (fieldStrayPlace (classesOf p ds) n)
+    (refuseIf (ltb room n) 9 0
+    (accepted n)))))
 
 -- with the number of intervals used, and whether the register is zero after the items: 0 and no on a refusal
 pub record FieldAnswer : Type 0 where
@@ -56,27 +41,6 @@ fieldAnswer (Refused r) = fieldTurnedAway (refused (numberOf r) (placeOf r))
 abbrev pub answerWith : Answer → ℕ → Bool → FieldAnswer
 answerWith a used holds =
     cond (eqb (a .number) 0) (record { answer = a; used = used; holds = holds }) (fieldTurnedAway a)
-
--- the answer and the output for items that are ready
-unfoldable pub deliverReading : ℕ → ℕ → Bool → ℕ → FieldAnswer
-deliverReading n used holds room = answerWith (deliverRule n room) used holds
-
-unfoldable pub deliverOutput : List ℕ → List ℕ → List ℕ
-deliverOutput items old = settled (deliverRule (length items) (length old)) items old
-
--- the answer and the output under an accepted profile, of a count in range
-unfoldable pub checkedReading : List Class → ℕ → ℕ → FieldAnswer
-checkedReading cs n room = answerWith (checkedRule cs n room) (fieldUsed cs n) (fieldHolds cs n)
-
-unfoldable pub checkedOutput : List Class → ℕ → List ℕ → List ℕ
-checkedOutput cs n old = settled (checkedRule cs n (length old)) (fieldItems cs n) old
-
--- the field reader's number, place and count
-unfoldable pub fieldRule : Profile → List ℕ → ℕ → ℕ → Answer
-fieldRule p ds n room =
-    firstRefusal (profileRule p)
-    (refuseIf (outside 1 1030 n) 12 0
-    (checkedRule (classesOf p ds) n room))
 
 unfoldable pub fieldReading : Profile → List ℕ → ℕ → ℕ → FieldAnswer
 fieldReading p ds n room =

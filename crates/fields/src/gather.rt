@@ -8,7 +8,7 @@ ghost use Rattle.timing.specs.Profile.{profileRule};
 ghost use Rattle.timing.specs.Class.{classesOf};
 ghost use Rattle.items.specs.Written.{freshCheck, afterBytes};
 ghost use Rattle.half_cells.specs.machine.Candidate.{candidate};
-ghost use Rattle.fields.specs.FieldRule.{gatherRule, GathersItems, TellsSum};
+ghost use Rattle.fields.specs.machine.Gather.{gatherRule, GathersItems, TellsSum};
 ghost use Rattle.fields.specs.machine.End.{fieldPassed, itemsPassed, endRule};
 use half_cells::words_to_bytes;
 use intervals::Pass;

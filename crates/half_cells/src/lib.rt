@@ -1,5 +1,7 @@
 // What a byte's half cells say. Its word has 16, clock and data bits in turn, so that the data bits stand at the even
-// places; x has the data bit before the byte as well, at place 16.
+// places; x has the data bit before the byte as well, at place 16. The definitions are this code; what they mean is said
+// by laws above: of reading, `word-verdict` in `symbols/proofs/WordLaws` (a gap out of place, its place, the item), of
+// images, `owner-is-candidate` and `ruly-where-candidate-has` in `images/proofs/ReadLaws`.
 ghost use Prim.Native.Nat.{_<_};
 ghost use mathlib.Core.Path.{_≡_};
 ghost use mathlib.Core.List.{map};

@@ -1,7 +1,7 @@
 pub mod CellLaws
 pub mod ClassCellLaws
 pub mod EitherLaws
-pub mod NearLaws
+pub mod TakenAsLaws
 pub mod PassLaws
 pub mod FoursLaws
 pub mod BlockLaws

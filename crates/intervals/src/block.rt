@@ -1,22 +1,16 @@
-// A pass by blocks of intervals: their units at once, and then the reading machine, by fours or cell by cell.
-ghost use Prim.Native.Nat.{_+_, _*_, _^_, _≤_, _<_};
+// A pass by blocks of intervals: their units at once, and then the reading machine.
+ghost use Prim.Native.Nat.{_+_, _^_, _≤_, _<_};
 ghost use mathlib.Core.Path.{_≡_};
 ghost use mathlib.Core.Bool.{_&&_};
 ghost use lib.Dec.{ltb};
 ghost use lib.ListN.{length};
 ghost use Rattle.lists.specs.Filled.{storedAt};
 ghost use Rattle.timing.specs.Class.{cursorAfter};
-ghost use Rattle.timing.specs.machine.Edges.{unitsFrom};
-ghost use Rattle.symbols.specs.machine.Step.{AllCells};
-ghost use Rattle.intervals.specs.machine.Pass.{passFrom};
 ghost use Rattle.intervals.specs.machine.Blocks.{atFirst, passOn, wordsOf, Reaches};
 use crate::Pass;
-use crate::fours::all_fit;
-use crate::fours::shift_fours;
-use crate::fours::store;
+use crate::shift::shift_units;
 use crate::units::units_of;
 use lists::at_most;
-use lists::put;
 use symbols::Reading;
 use timing::Cursor;
 use timing::Profile;
@@ -24,109 +18,10 @@ use timing::Profile;
 // As many intervals as are classed at once, so that it is done in vector instructions.
 const BLOCK: usize = 64;
 
-// So many fours.
-const FOURS: usize = 16;
-
 // How far a pass by blocks came, and where the classing stands.
 pub struct Progress {
     pub pass: Pass,
     pub cursor: Cursor,
-}
-
-// Cells of so many units, the first at place `from`, until so many bytes are whole or no cell is left. Bytes are counted
-// only where one is closed, which keeps the loop short. Code words are stored from place `to` on, where there is room.
-fn shift_in(
-    start: Reading,
-    units: &[u8],
-    from: usize,
-    most: u32,
-    to: usize,
-    out: &mut [u16],
-) -> Pass
-    requires { ⌜ start .words < most ⌝ }
-    requires { ⌜ (from + length (now units) < 2 ^ 64) × (to + length (now units) < 2 ^ 64) ⌝ }
-    ensures end { λ r. ⌜ r ≡ passFrom most from start (now (units .entry)) .end ⌝ }
-    ensures output { λ _. ⌜
-        now (out .exit) ≡ storedAt (now (out .entry)) to (passFrom most from start (now (units .entry)) .words) ⌝ }
-{
-    let mut m = start;
-    let mut store_at = to;
-    let mut k: usize = 0;
-    while k < units.len() {
-        let next = m.shift(units[k]);
-        let place = from + k;
-        k += 1;
-        if next.is_whole() {
-            put(out, store_at, next.word());
-            store_at += 1;
-            m = next.close((place % 4294967296) as u32);
-            if most <= m.words {
-                return Pass {
-                    reading: m,
-                    used: place + 1,
-                };
-            }
-        } else {
-            m = next;
-        }
-    }
-    Pass {
-        reading: m,
-        used: from + k,
-    }
-}
-
-// Cells that leave bytes to read: by fours, for whose words there is room, and cell by cell what is over and, for its
-// place, where a gap is out of place.
-fn shift_block(
-    m: Reading,
-    units: &[u8],
-    words: &mut [u32],
-    from: usize,
-    most: u32,
-    to: usize,
-    out: &mut [u16],
-) -> Pass
-    requires { ⌜ AllCells (now units) × (m .held ≤ 16) × (m .words + length (now words) < most) ⌝ }
-    requires { ⌜ 4 * length (now words) ≤ length (now units) ⌝ }
-    requires { ⌜ (from + length (now units) < 2 ^ 64) × (to + length (now units) < 2 ^ 64) ⌝ }
-    ensures end { λ r. ⌜ r ≡ passFrom most from m (now (units .entry)) .end ⌝ }
-    ensures output { λ _. ⌜
-        now (out .exit) ≡ storedAt (now (out .entry)) to (passFrom most from m (now (units .entry)) .words) ⌝ }
-{
-    let cells = 4 * words.len();
-    let fours = shift_fours(m, &units[..cells], words);
-    let count = fours.count;
-    if all_fit(&words[..count]) {
-        store(&words[..count], to, out);
-        let reading = fours.reading;
-        return shift_in(
-            reading,
-            &units[cells..],
-            from + cells,
-            most,
-            to + count,
-            out,
-        );
-    }
-    shift_in(m, units, from, most, to, out)
-}
-
-// The end of a field cell by cell.
-fn shift_units(m: Reading, units: &[u8], from: usize, most: u32, to: usize, out: &mut [u16]) -> Pass
-    requires { ⌜ length (now units) ≤ 64 ⌝ }
-    requires { ⌜ AllCells (now units) × (m .held ≤ 16) × (m .words < most) ⌝ }
-    requires { ⌜ (from + length (now units) < 2 ^ 64) × (to + length (now units) < 2 ^ 64) ⌝ }
-    ensures end { λ r. ⌜ r ≡ passFrom most from m (now (units .entry)) .end ⌝ }
-    ensures output { λ _. ⌜
-        now (out .exit) ≡ storedAt (now (out .entry)) to (passFrom most from m (now (units .entry)) .words) ⌝ }
-{
-    let n = units.len() / 4;
-    if n < (most - m.words) as usize {
-        let mut words = [0u32; FOURS];
-        return shift_block(m, units, &mut words[..n], from, most, to, out);
-    }
-    shift_in(m, units, from, most, to, out)
 }
 
 // The intervals of a block, whose units have as many places.

@@ -12,6 +12,7 @@ use timing::Profile;
 pub mod block;
 pub mod edges;
 mod fours;
+mod shift;
 mod units;
 
 pub use units::all_sure;

@@ -1,2 +1,1 @@
-pub mod ClearanceLaws
 pub mod CardLaws

@@ -1,13 +1,12 @@
 -- The C interface: a profile and an answer as they cross it. No lemmas here.
 use Prim.Native.Nat.{ℕ}
-use mathlib.Core.Bool.{Bool, true, false, cond}
 use mathlib.Core.List.{List, [], _∷_}
-use lib.Dec.{eqb}
+use Rattle.lists.specs.YesNo.{asNumber}
 use Rattle.refusal.specs.Answer.{Answer}
-use Rattle.fields.specs.FieldRule.{FieldAnswer}
 use Rattle.merge.specs.Rule.{MergeAnswer}
 use Rattle.timing.specs.Numbers.{fromNumbers}
 use Rattle.timing.specs.declared.Profile.{Profile}
+use Rattle.clearance.specs.Answers.{ClearAnswer, ClearFieldAnswer}
 use Rattle.ism.specs.declared.IsmProfile.{IsmProfile}
 use Rattle.ism.specs.declared.IsmAnswer.{IsmAnswer}
 
@@ -25,21 +24,28 @@ abbrev pub answerOf : Answer → IsmAnswer
 answerOf a =
     record { number = a .number; place = a .place; count = a .count; used = 0; holds = 0; clearance = 0 }
 
--- a yes or no as a number
-abbrev pub asNumber : Bool → ℕ
-asNumber true = 1
-asNumber false = 0
-
--- the field reader's, with the intervals used and whether the register is zero
-abbrev pub fieldAnswerOf : FieldAnswer → IsmAnswer
-fieldAnswerOf f =
+-- a class or a strip, with its clearance
+abbrev pub clearAnswerOf : ClearAnswer → IsmAnswer
+clearAnswerOf a =
     record {
-      number = f .answer .number;
-      place = f .answer .place;
-      count = f .answer .count;
-      used = f .used;
-      holds = asNumber (f .holds);
-      clearance = 0;
+      number = a .answer .number;
+      place = a .answer .place;
+      count = a .answer .count;
+      used = 0;
+      holds = 0;
+      clearance = a .clearance;
+    }
+
+-- a field, with the intervals used, whether the register is zero, and the clearance
+abbrev pub clearFieldAnswerOf : ClearFieldAnswer → IsmAnswer
+clearFieldAnswerOf f =
+    record {
+      number = f .reading .answer .number;
+      place = f .reading .answer .place;
+      count = f .reading .answer .count;
+      used = f .reading .used;
+      holds = asNumber (f .reading .holds);
+      clearance = f .clearance;
     }
 
 -- the merge's, with the bytes stored
@@ -52,16 +58,4 @@ givenMerge m =
       used = m .stored;
       holds = 0;
       clearance = 0;
-    }
-
--- an answer with a clearance, which is 0 on a refusal
-abbrev pub withClearance : ℕ → IsmAnswer → IsmAnswer
-withClearance e a =
-    record {
-      number = a .number;
-      place = a .place;
-      count = a .count;
-      used = a .used;
-      holds = a .holds;
-      clearance = cond (eqb (a .number) 0) e 0;
     }

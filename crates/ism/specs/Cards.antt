@@ -3,13 +3,13 @@ use Prim.Native.Nat.{ℕ}
 use mathlib.Core.List.{List, map}
 use lib.ListN.{take, replicate}
 use Rattle.lists.specs.Filled.{filled}
+use Rattle.lists.specs.YesNo.{asNumber}
 use Rattle.refusal.specs.Answer.{Answer}
 use Rattle.limits.specs.declared.side.Edge.{Edge}
 use Rattle.limits.specs.declared.side.Edge.the-variants.{Min, B23, B34, Rpt}
 use Rattle.limits.specs.declared.side.Kind.{Kind}
 use Rattle.limits.specs.declared.side.Kind.the-variants.{Both, Short, Long}
 use Rattle.limits.specs.declared.Limit.{Limit}
-use Rattle.ism.specs.Answers.{asNumber}
 use Rattle.ism.specs.declared.card.IsmLimit.{IsmLimit}
 use Rattle.ism.specs.declared.card.IsmLimits.{IsmLimits}
 

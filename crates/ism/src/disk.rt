@@ -2,15 +2,15 @@
 ghost use mathlib.Core.Path.{_≡_};
 ghost use lib.ListN.{length};
 ghost use Rattle.fields.specs.Lock.{findRule};
-ghost use Rattle.fields.specs.FieldRule.{fieldAnswer, fieldOutput};
+ghost use Rattle.fields.specs.FieldRule.{fieldOutput};
 ghost use Rattle.sectors.specs.Sector.{sectorRule, sectorOutput};
-ghost use Rattle.ism.specs.Answers.{profileOf, answerOf, fieldAnswerOf};
-ghost use Rattle.ism.specs.Clearances.{fieldAnswerFor};
+ghost use Rattle.clearance.specs.Answers.{clearFieldAnswer, fieldWithClearance};
+ghost use Rattle.ism.specs.Answers.{profileOf, answerOf, clearFieldAnswerOf};
 use crate::IsmAnswer;
 use crate::IsmProfile;
 use crate::answer;
 use crate::profile;
-use crate::with_clearance;
+use clearance::ClearFieldRead;
 use fields::reader::FieldRead;
 
 #[no_mangle]
@@ -20,9 +20,10 @@ pub extern "C" fn ism_find(p: IsmProfile, intervals: &[u16], start: u64) -> IsmA
     answer(fields::finder::find_lock(profile(p), intervals, start as usize))
 }
 
-fn field_answer(read: FieldRead) -> IsmAnswer
-    ensures { λ r. ⌜ r ≡ fieldAnswerOf (fieldAnswer read) ⌝ }
+fn field_answer(field: ClearFieldRead) -> IsmAnswer
+    ensures { λ r. ⌜ r ≡ clearFieldAnswerOf (clearFieldAnswer field) ⌝ }
 {
+    let read = field.read;
     match read {
         FieldRead::Field { count, used, holds } => IsmAnswer {
             number: 0,
@@ -30,7 +31,7 @@ fn field_answer(read: FieldRead) -> IsmAnswer
             count: count as u64,
             used: used as u64,
             holds: holds as u32,
-            clearance: 0,
+            clearance: field.clearance as u32,
         },
         FieldRead::Refused(refusal) => IsmAnswer {
             number: refusal.number(),
@@ -38,7 +39,7 @@ fn field_answer(read: FieldRead) -> IsmAnswer
             count: 0,
             used: 0,
             holds: 0,
-            clearance: 0,
+            clearance: field.clearance as u32,
         },
     }
 }
@@ -51,17 +52,13 @@ pub extern "C" fn ism_read_field(
     out: &mut [u16],
 ) -> IsmAnswer
     ensures answer { λ r. ⌜
-        r ≡ fieldAnswerFor (profileOf p) (now (intervals .entry)) bytes (length (now (out .entry))) ⌝ }
+        r ≡ clearFieldAnswerOf
+        (fieldWithClearance (profileOf p) (now (intervals .entry)) bytes (length (now (out .entry)))) ⌝ }
     ensures output { λ _. ⌜
         now (out .exit) ≡ fieldOutput (profileOf p) (now (intervals .entry)) bytes (now (out .entry)) ⌝ }
 {
-    let q = profile(p);
-    let field = field_answer(fields::reader::read_field(q, intervals, bytes as usize, out));
-    if field.number != 0 {
-        return field;
-    }
-    let used = field.used as usize;
-    with_clearance(field, clearance::least(q, &intervals[..used]))
+    let field = clearance::read_field(profile(p), intervals, bytes as usize, out);
+    field_answer(field)
 }
 
 #[no_mangle]

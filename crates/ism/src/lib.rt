@@ -1,6 +1,5 @@
 // The C interface, as include/ism.h declares it. Each function hands its arguments to the library and its answer
-// back: nothing is computed here. An answer that was accepted gets its clearance after that. The index alone is
-// gathered here, one search at a time, since its entries are kept as they are handed back.
+// back: nothing is computed here.
 ghost use mathlib.Core.Path.{_≡_};
 ghost use lib.Dec.{ltb};
 ghost use lib.ListN.{length};
@@ -8,8 +7,9 @@ ghost use Rattle.refusal.specs.Answer.{countedAnswer};
 ghost use Rattle.lengths.specs.Margin.{marginRule};
 ghost use Rattle.codec.specs.Writer.{writeRule, writeOutput};
 ghost use Rattle.codec.specs.Reader.{readOutput};
-ghost use Rattle.ism.specs.Answers.{profileOf, answerOf, withClearance};
-ghost use Rattle.ism.specs.Clearances.{classAnswerOf, stripAnswerOf};
+ghost use Rattle.clearance.specs.Answers.{clearAnswer, classWithClearance, stripWithClearance};
+ghost use Rattle.ism.specs.Answers.{profileOf, answerOf, clearAnswerOf};
+use clearance::ClearCount;
 use refusal::Counted;
 use timing::Profile;
 
@@ -70,38 +70,28 @@ fn profile(p: IsmProfile) -> Profile
 fn answer(counted: Counted) -> IsmAnswer
     ensures { λ r. ⌜ r ≡ answerOf (countedAnswer counted) ⌝ }
 {
-    match counted {
-        Counted::Count(count) => IsmAnswer {
-            number: 0,
-            place: 0,
-            count: count as u64,
-            used: 0,
-            holds: 0,
-            clearance: 0,
-        },
-        Counted::Refused(refusal) => IsmAnswer {
-            number: refusal.number(),
-            place: refusal.place(),
-            count: 0,
-            used: 0,
-            holds: 0,
-            clearance: 0,
-        },
+    IsmAnswer {
+        number: counted.number(),
+        place: counted.place(),
+        count: counted.count() as u64,
+        used: 0,
+        holds: 0,
+        clearance: 0,
     }
 }
 
-// An answer that was accepted, with its clearance.
-fn with_clearance(given: IsmAnswer, clearance: u16) -> IsmAnswer
-    requires { ⌜ given .number ≡ 0 ⌝ }
-    ensures { λ r. ⌜ r ≡ withClearance clearance given ⌝ }
+// A class or a strip, with its clearance.
+fn clear_answer(given: ClearCount) -> IsmAnswer
+    ensures { λ r. ⌜ r ≡ clearAnswerOf (clearAnswer given) ⌝ }
 {
+    let counted = given.counted;
     IsmAnswer {
-        number: given.number,
-        place: given.place,
-        count: given.count,
-        used: given.used,
-        holds: given.holds,
-        clearance: clearance as u32,
+        number: counted.number(),
+        place: counted.place(),
+        count: counted.count() as u64,
+        used: 0,
+        holds: 0,
+        clearance: given.clearance as u32,
     }
 }
 
@@ -114,14 +104,9 @@ pub extern "C" fn ism_margin(p: IsmProfile) -> IsmAnswer
 
 #[no_mangle]
 pub extern "C" fn ism_class(p: IsmProfile, interval: u16, two: u32) -> IsmAnswer
-    ensures { λ r. ⌜ r ≡ classAnswerOf (profileOf p) (ltb 0 two) interval ⌝ }
+    ensures { λ r. ⌜ r ≡ clearAnswerOf (classWithClearance (profileOf p) (ltb 0 two) interval) ⌝ }
 {
-    let q = profile(p);
-    let class = answer(timing::class_number(q, interval, 0 < two));
-    if class.number != 0 {
-        return class;
-    }
-    with_clearance(class, clearance::of_interval(q, interval, 0 < two))
+    clear_answer(clearance::class_number(profile(p), interval, 0 < two))
 }
 
 #[no_mangle]
@@ -135,13 +120,10 @@ pub extern "C" fn ism_write(p: IsmProfile, items: &[u16], out: &mut [u16]) -> Is
 
 #[no_mangle]
 pub extern "C" fn ism_read(p: IsmProfile, intervals: &[u16], out: &mut [u16]) -> IsmAnswer
-    ensures answer { λ r. ⌜ r ≡ stripAnswerOf (profileOf p) (now (intervals .entry)) (length (now (out .entry))) ⌝ }
+    ensures answer { λ r. ⌜
+        r ≡ clearAnswerOf (stripWithClearance (profileOf p) (now (intervals .entry)) (length (now (out .entry)))) ⌝ }
     ensures output { λ _. ⌜ now (out .exit) ≡ readOutput (profileOf p) (now (intervals .entry)) (now (out .entry)) ⌝ }
 {
-    let q = profile(p);
-    let strip = answer(codec::reader::read(q, intervals, out));
-    if strip.number != 0 {
-        return strip;
-    }
-    with_clearance(strip, clearance::least(q, intervals))
+    let strip = clearance::read(profile(p), intervals, out);
+    clear_answer(strip)
 }

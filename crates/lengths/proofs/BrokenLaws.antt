@@ -20,7 +20,8 @@ use Rattle.lengths.specs.Stream.{byteStream}
 use Rattle.lengths.specs.Margin.{afterTwo, marginOf}
 use Rattle.lengths.proofs.NearLaws.{Near, near-itself, near-with-one-moved}
 use Rattle.lengths.proofs.WindowLaws.{near-stream-is-passed}
-use Rattle.lengths.proofs.MarginLaws.{Broken, margin-leaves-room}
+use Rattle.lengths.proofs.MarginLaws.{margin-leaves-room}
+use Rattle.lengths.proofs.WitnessLaws.{Broken}
 
 module _ {p : Profile} {n : ℕ} (x : Broken p n) where
   abbrev stream : List ℕ

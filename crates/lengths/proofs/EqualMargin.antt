@@ -6,14 +6,15 @@ use mathlib.Core.Path.{_≡_, refl, sym, ap, _∙_}
 use native.Mathlib.Omega.{arith}
 use lib.Dec.{lit<}
 use Rattle.lists.specs.Place.{anywhere, lowest}
+use Rattle.lists.specs.Span.{least}
+use Rattle.lists.proofs.SpanLaws.{least-is-no-more}
 use Rattle.refusal.specs.Answer.{Answer}
 use Rattle.timing.specs.Profile.{unset, swing, advance, delay, isTrueShort, isTrueLong, isTrue, profileRule}
 use Rattle.timing.specs.EqualPairs.{Nine, paired, nineRule, renumbered}
 use Rattle.timing.specs.declared.Profile.{Profile}
 use Rattle.timing.proofs.EqualPairs.{equal-pairs}
-use Rattle.lengths.specs.Margin.{roomsOf, leastOf, marginOf, marginRule}
+use Rattle.lengths.specs.Margin.{roomsOf, marginOf, marginRule}
 use Rattle.lengths.specs.Claims.{EqualPairsKeepTheMargin, PairsWidenTheMargin, drive}
-use Rattle.lengths.proofs.MarginLaws.{least-is-no-more}
 use Rattle.lengths.proofs.PapersMargin.{margin-is-the-papers}
 
 accepted-stays : (a : Answer) → a .number ≡ 0 → renumbered a .number ≡ 0
@@ -39,7 +40,7 @@ at-b34 m b34 below above = omega arith
 
 pub pairs-widen-the-margin : PairsWidenTheMargin
 unfolding anywhere lowest unset swing advance delay isTrueShort isTrueLong isTrue profileRule
-    roomsOf leastOf marginOf marginRule
+    roomsOf least marginOf marginRule
 pairs-widen-the-margin =
     record {
       unequal = refl;

@@ -6,6 +6,8 @@ pub mod KindLaws
 pub mod WindowLaws
 pub mod MiddleLaws
 pub mod MarginLaws
+pub mod EdgeLaws
+pub mod WitnessLaws
 pub mod ShiftLaws
 pub mod PointLaws
 pub mod BrokenLaws

@@ -21,7 +21,7 @@ use Rattle.symbols.specs.Cells.{writtenCells}
 use Rattle.lengths.specs.Stream.{byteStream}
 use Rattle.lengths.specs.Units.{classOfUnits}
 use Rattle.lengths.proofs.NearLaws.{Near}
-use Rattle.lengths.proofs.KindLaws.{Window, two-long, three-long, four-long, Windows, stream-has-windows}
+use Rattle.lengths.proofs.KindLaws.{CellLength, two-long, three-long, four-long, CellLengths, stream-has-cells}
 use Rattle.lengths.proofs.WindowLaws.{Spare, near-lengths-have-classes}
 
 three-is-not-two : Three ≡ Two → ⊥
@@ -43,7 +43,7 @@ module _ {p : Profile} {m : ℕ} (s : Spare p m) where
     -- one that is no more than m from a length that is written after a longer cell
     first-read
         : {l u : ℕ} (us : List ℕ)
-        → Window p l false u
+        → CellLength p l false u
         → d ≤ l + m
         → l ≤ d + m
         → ((two : Bool) → two ≡ eqb u 2 → classesFrom (cursorOf p two) ds ≡ map classOfUnits us)
@@ -86,10 +86,10 @@ module _ {p : Profile} {m : ℕ} (s : Spare p m) where
   -- a stream from a place on, whatever cell stands before it
   pub read-from-middle
       : (us ls ds : List ℕ) (two : Bool)
-      → Windows p two us ls
+      → CellLengths p two us ls
       → Near m ds ls
       → Behind (classesFrom (cursorOf p true) ds) (map classOfUnits us)
-  unfolding Windows Near
+  unfolding CellLengths Near
   read-from-middle us ls ds true w n = in-step (near-lengths-have-classes s us ls ds true w n)
   read-from-middle [] [] [] false w n = in-step (classes-none (cursorOf p true))
   read-from-middle [] [] (d ∷ ds) false w n = absurd n
@@ -103,16 +103,16 @@ module _ {p : Profile} {m : ℕ} (s : Spare p m) where
 
 -- ---- from a place on
 
-windows-drop
+cell-lengths-drop
     : (p : Profile) (us ls : List ℕ) (k : ℕ) (two : Bool)
-    → Windows p two us ls
-    → (before : Bool) × Windows p before (drop k us) (drop k ls)
-unfolding Windows
-windows-drop p us ls zero two w = (two, w)
-windows-drop p [] [] (suc k) two w = (two, w)
-windows-drop p [] (l ∷ ls) (suc k) two w = absurd w
-windows-drop p (u ∷ us) [] (suc k) two w = absurd w
-windows-drop p (u ∷ us) (l ∷ ls) (suc k) two w = windows-drop p us ls k (eqb u 2) (w .1)
+    → CellLengths p two us ls
+    → (before : Bool) × CellLengths p before (drop k us) (drop k ls)
+unfolding CellLengths
+cell-lengths-drop p us ls zero two w = (two, w)
+cell-lengths-drop p [] [] (suc k) two w = (two, w)
+cell-lengths-drop p [] (l ∷ ls) (suc k) two w = absurd w
+cell-lengths-drop p (u ∷ us) [] (suc k) two w = absurd w
+cell-lengths-drop p (u ∷ us) (l ∷ ls) (suc k) two w = cell-lengths-drop p us ls k (eqb u 2) (w .1)
 
 near-drop : (m : ℕ) (ds ls : List ℕ) (k : ℕ) → Near m ds ls → Near m (drop k ds) (drop k ls)
 unfolding Near
@@ -138,7 +138,7 @@ pub search-is-behind
     → Behind (classesOf p (drop start ds)) (drop start (map classOfUnits (writtenCells ws)))
 unfolding classesOf atStart
 search-is-behind {p} {m} s k ws ds n start =
-    let (before, w) = windows-drop p (writtenCells ws) (byteStream p ws) start true (stream-has-windows k ws) in
+    let (before, w) = cell-lengths-drop p (writtenCells ws) (byteStream p ws) start true (stream-has-cells k ws) in
     rw (← map-drop start (writtenCells ws))
     (read-from-middle s (drop start (writtenCells ws)) (drop start (byteStream p ws)) (drop start ds) before w
     (near-drop m ds (byteStream p ws) start n))

@@ -19,9 +19,10 @@ use Rattle.symbols.specs.Cells.{writtenCells}
 use Rattle.lengths.specs.Stream.{byteStream, streamOf}
 use Rattle.lengths.specs.Margin.{Keeps, marginOf}
 use Rattle.lengths.specs.Claims.{MarginIsThePapers}
-use Rattle.lengths.proofs.KindLaws.{window-at, stream-has-windows}
+use Rattle.lengths.proofs.KindLaws.{cell-length-at, stream-has-cells}
 use Rattle.lengths.proofs.WindowLaws.{near-length-has-class}
-use Rattle.lengths.proofs.MarginLaws.{margin-leaves-room, Broken, above-margin-is-broken}
+use Rattle.lengths.proofs.MarginLaws.{margin-leaves-room}
+use Rattle.lengths.proofs.WitnessLaws.{Broken, above-margin-is-broken}
 
 -- ---- a list of one data byte is accepted, and it is what is written
 
@@ -53,7 +54,7 @@ margin-is-the-papers p ok =
     record {
       keeps =
           λ items listed i h d above below.
-          let w = window-at 2 (writtenCells (written items)) _ (stream-has-windows k (written items)) i h in
+          let w = cell-length-at 2 (writtenCells (written items)) _ (stream-has-cells k (written items)) i h in
           near-length-has-class s d w above below ∙ sym (near-length-has-class s _ w (omega arith) (omega arith));
       largest =
           λ n keeps. elim (decLe n (marginOf p)) [

@@ -23,9 +23,9 @@ use Rattle.lengths.specs.Stream.{byteStream, streamOf}
 use Rattle.lengths.specs.Units.{classOfUnits}
 use Rattle.lengths.specs.Margin.{afterTwo, TrueProfile}
 use Rattle.lengths.specs.Claims.{TrueByLengths}
-use Rattle.lengths.proofs.KindLaws.{window-at, stream-has-windows}
+use Rattle.lengths.proofs.KindLaws.{cell-length-at, stream-has-cells}
 use Rattle.lengths.proofs.WindowLaws.{kept-leaves-room, near-length-has-class}
-use Rattle.lengths.proofs.MarginLaws.{opened, two-same, two-less, three-same, three-more, four-same, four-more}
+use Rattle.lengths.proofs.WitnessLaws.{opened, two-same, two-less, three-same, three-more, four-same, four-more}
 use Rattle.lengths.proofs.PapersMargin.{one-byte-is-accepted, written-one}
 
 true-has-lengths : (p : Profile) → InRange p → isTrue p ≡ true → TrueProfile p
@@ -37,7 +37,7 @@ true-has-lengths p within passes =
       late-last = k .late-last;
       in-windows = λ items listed i h.
           near-length-has-class (kept-leaves-room k) _
-          (window-at 2 (writtenCells (written items)) _ (stream-has-windows k (written items)) i h)
+          (cell-length-at 2 (writtenCells (written items)) _ (stream-has-cells k (written items)) i h)
           (omega arith) (omega arith);
     }
 

@@ -20,8 +20,8 @@ use Rattle.lengths.specs.Stream.{byteStream}
 use Rattle.lengths.specs.Units.{classOfUnits}
 use Rattle.lengths.specs.Margin.{afterTwo}
 use Rattle.lengths.proofs.NearLaws.{Near}
-use Rattle.lengths.proofs.KindLaws.{Window, two-short, two-long, three-short, three-long, four-short, four-long}
-use Rattle.lengths.proofs.KindLaws.{Windows, stream-has-windows}
+use Rattle.lengths.proofs.KindLaws.{CellLength, two-short, two-long, three-short, three-long, four-short, four-long}
+use Rattle.lengths.proofs.KindLaws.{CellLengths, stream-has-cells}
 
 -- m fits between every length and the edges of its class: on each side of an edge
 pub record Spare (p : Profile) (m : ℕ) : Type 0 where
@@ -55,7 +55,7 @@ kept-leaves-room k =
     }
 
 -- the class of a cell is 2 where it has 2 units
-pub two-by-units : {p : Profile} {l u : ℕ} {two : Bool} → Window p l two u → isTwo (classOfUnits u) ≡ eqb u 2
+pub two-by-units : {p : Profile} {l u : ℕ} {two : Bool} → CellLength p l two u → isTwo (classOfUnits u) ≡ eqb u 2
 unfolding classOfUnits
 two-by-units (two-short low high) = refl
 two-by-units (two-long low high) = refl
@@ -67,7 +67,7 @@ two-by-units (four-long low high) = refl
 module _ {p : Profile} {m : ℕ} (s : Spare p m) where
   pub near-length-has-class :
       (d : ℕ) {l u : ℕ} {two : Bool}
-      → Window p l two u
+      → CellLength p l two u
       → d ≤ l + m
       → l ≤ d + m
       → classOf p two d ≡ classOfUnits u
@@ -88,7 +88,7 @@ module _ {p : Profile} {m : ℕ} (s : Spare p m) where
   -- behind it the classing goes by the cell that was written
   near-length-is-passed :
       (d : ℕ) {l u : ℕ} {two : Bool}
-      → Window p l two u
+      → CellLength p l two u
       → d ≤ l + m
       → l ≤ d + m
       → cursorOf p (isTwo (classOf p two d)) ≡ cursorOf p (eqb u 2)
@@ -97,10 +97,10 @@ module _ {p : Profile} {m : ℕ} (s : Spare p m) where
 
   pub near-lengths-have-classes :
       (us ls ds : List ℕ) (two : Bool)
-      → Windows p two us ls
+      → CellLengths p two us ls
       → Near m ds ls
       → classesFrom (cursorOf p two) ds ≡ map classOfUnits us
-  unfolding Windows Near
+  unfolding CellLengths Near
   near-lengths-have-classes [] [] [] two w n = classes-none (cursorOf p two)
   near-lengths-have-classes [] [] (d ∷ ds) two w n = absurd n
   near-lengths-have-classes [] (l ∷ ls) ds two w n = absurd w
@@ -115,12 +115,12 @@ module _ {p : Profile} {m : ℕ} (s : Spare p m) where
   -- and where it stands before each
   near-lengths-are-passed :
       (before : ℕ) (us ls ds : List ℕ)
-      → Windows p (eqb before 2) us ls
+      → CellLengths p (eqb before 2) us ls
       → Near m ds ls
       → (k : ℕ)
       → k ≤ length ls
       → cursorAfter (cursorOf p (eqb before 2)) (take k ds) ≡ cursorOf p (eqb (getD (before ∷ us) k 2) 2)
-  unfolding Windows Near
+  unfolding CellLengths Near
   near-lengths-are-passed before us ls ds w n zero h = cursor-after-none _
   near-lengths-are-passed before us [] ds w n (suc k) h = absurd (omega arith)
   near-lengths-are-passed before [] (l ∷ ls) ds w n (suc k) h = absurd w
@@ -136,7 +136,7 @@ module _ {p : Profile} {m : ℕ} (s : Spare p m) where
     pub near-stream-has-classes : classesOf p ds ≡ map classOfUnits (writtenCells ws)
     unfolding classesOf atStart
     near-stream-has-classes =
-        near-lengths-have-classes (writtenCells ws) (byteStream p ws) ds true (stream-has-windows k ws) n
+        near-lengths-have-classes (writtenCells ws) (byteStream p ws) ds true (stream-has-cells k ws) n
 
     pub near-stream-is-passed :
         (i : ℕ)
@@ -144,4 +144,4 @@ module _ {p : Profile} {m : ℕ} (s : Spare p m) where
         → cursorAfter (atStart p) (take i ds) ≡ cursorOf p (afterTwo (writtenCells ws) i)
     unfolding atStart
     near-stream-is-passed =
-        near-lengths-are-passed 2 (writtenCells ws) (byteStream p ws) ds (stream-has-windows k ws) n
+        near-lengths-are-passed 2 (writtenCells ws) (byteStream p ws) ds (stream-has-cells k ws) n

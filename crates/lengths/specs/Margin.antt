@@ -1,12 +1,13 @@
 -- Document 01, "Profile", and document 02, (ix): when a profile is true, and the margin. No lemmas here. Both speak of
 -- all lengths that any accepted list can have, after each kind of cell; the tests of the crate `timing` and the least of
 -- ten rooms are proved to be the same (`Claims`).
-use Prim.Native.Nat.{ℕ, _+_, _-_, _*_, _≤_, _<_, min}
+use Prim.Native.Nat.{ℕ, _+_, _-_, _*_, _≤_, _<_}
 use mathlib.Core.Path.{_≡_}
 use mathlib.Core.Bool.{Bool}
 use mathlib.Core.List.{List, [], _∷_}
 use lib.Dec.{eqb}
 use lib.ListN.{length, getD}
+use Rattle.lists.specs.Span.{least}
 use Rattle.refusal.specs.Answer.{Answer, accepted, firstRefusal}
 use Rattle.timing.specs.Profile.{swing, advance, delay, profileRule}
 use Rattle.timing.specs.Class.{classOf}
@@ -75,13 +76,8 @@ roomsOf p =
     ∷ (p .rpt .0 - 1 - (four + swing p))
     ∷ []
 
-unfoldable pub leastOf : List ℕ → ℕ
-leastOf [] = 0
-leastOf (d ∷ []) = d
-leastOf (d ∷ e ∷ ds) = min d (leastOf (e ∷ ds))
-
 unfoldable pub marginOf : Profile → ℕ
-marginOf p = leastOf (roomsOf p)
+marginOf p = least (roomsOf p)
 
 -- the margin operation: 1, 2, then the margin
 unfoldable pub marginRule : Profile → Answer

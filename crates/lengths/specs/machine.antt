@@ -1,1 +1,2 @@
+-- Machine, not meaning.
 pub mod LengthTable

@@ -16,7 +16,7 @@ use Rattle.items.specs.Written.{written}
 use Rattle.symbols.specs.Cells.{writtenCells}
 use Rattle.lengths.specs.Stream.{streamOf}
 use Rattle.lengths.specs.Margin.{afterTwo, marginOf}
-use Rattle.lengths.proofs.KindLaws.{Window, window-at, stream-has-windows}
+use Rattle.lengths.proofs.KindLaws.{CellLength, cell-length-at, stream-has-cells}
 use Rattle.limits.specs.Sides.{counts, edgeOf, reaches, crosses, beyond}
 use Rattle.limits.specs.Limits.{oneMore, CrossesAt, MovedBy}
 use Rattle.limits.specs.declared.side.Side.{Side}
@@ -74,9 +74,9 @@ module _ {p : Profile} (k : Kept p) where
     abbrev l : ℕ
     l = getD (streamOf p items) place 0
 
-    window : Window p l two (getD (writtenCells (written items)) place 0)
+    window : CellLength p l two (getD (writtenCells (written items)) place 0)
     unfolding streamOf
-    window = window-at 2 (writtenCells (written items)) _ (stream-has-windows k (written items)) place (c .in-stream)
+    window = cell-length-at 2 (writtenCells (written items)) _ (stream-has-cells k (written items)) place (c .in-stream)
 
     asked : (counts (s .after) two ≡ true) × (reaches (s .above) (edgeAt p s) (oneMore p) l ≡ true)
     unfolding crosses

@@ -13,7 +13,7 @@ use Rattle.timing.specs.declared.Profile.{Profile}
 use Rattle.timing.proofs.ProfileLaws.{Kept}
 use Rattle.symbols.specs.Cells.{writtenCells}
 use Rattle.lengths.specs.Stream.{byteStream}
-use Rattle.lengths.proofs.KindLaws.{Window, Windows, stream-has-windows}
+use Rattle.lengths.proofs.KindLaws.{CellLength, CellLengths, stream-has-cells}
 use Rattle.lengths.proofs.WindowLaws.{kept-leaves-room, near-length-has-class, two-by-units}
 use Rattle.lengths.proofs.PapersMargin.{written-one, one-byte-is-written}
 use Rattle.limits.specs.Sides.{crosses}
@@ -28,7 +28,7 @@ module _ {p : Profile} (k : Kept p) (s : Side) where
   n = oneMore p
 
   -- behind a written length the next is asked after the kind that was written
-  asked-as-written : {l u : ℕ} {two : Bool} → Window p l two u → isTwo (classOf p two l) ≡ eqb u 2
+  asked-as-written : {l u : ℕ} {two : Bool} → CellLength p l two u → isTwo (classOf p two l) ≡ eqb u 2
   asked-as-written w =
       ap isTwo (near-length-has-class (kept-leaves-room k) _ w (omega arith) (omega arith)) ∙ two-by-units w
 
@@ -88,9 +88,9 @@ module _ {p : Profile} (k : Kept p) (s : Side) where
 
   scans
       : (item from before : ℕ) (us ls : List ℕ)
-      → Windows p (eqb before 2) us ls
+      → CellLengths p (eqb before 2) us ls
       → Scanned item from before us ls (seenFrom p s n item (eqb before 2) from ls)
-  unfolding seenFrom Windows
+  unfolding seenFrom CellLengths
   scans item from before [] [] w = nowhere (λ i h c. absurd (omega (arith, h)))
   scans item from before [] (l ∷ ls) w = absurd w
   scans item from before (u ∷ us) [] w = absurd w
@@ -134,7 +134,7 @@ module _ {p : Profile} (k : Kept p) (s : Side) where
     one-list : OneList item (seenIn p s n item)
     one-list =
         rw (one-byte-is-written p item byte)
-        (in-words _ (scans item 0 2 cells stream (stream-has-windows k (item ∷ []))))
+        (in-words _ (scans item 0 2 cells stream (stream-has-cells k (item ∷ []))))
 
   -- ---- all lists
 

@@ -10,7 +10,7 @@ use Rattle.timing.specs.declared.Profile.{Profile}
 use Rattle.symbols.specs.Cells.{writtenCells}
 use Rattle.lengths.specs.Stream.{byteStream}
 use Rattle.lengths.specs.Margin.{afterTwo, marginOf}
-use Rattle.lengths.proofs.KindLaws.{Window}
+use Rattle.lengths.proofs.KindLaws.{CellLength}
 use Rattle.lengths.proofs.PapersMargin.{written-one, one-byte-is-written}
 use Rattle.limits.specs.Sides.{counts, edgeOf, reaches, crosses, beyond}
 use Rattle.limits.specs.Limits.{oneMore, CrossesAt}
@@ -33,7 +33,7 @@ pub record Known (p : Profile) (s : Side) (nearest : ℕ) : Type 0 where
   pub none-nearer
       : (two : Bool) {l u : ℕ}
       → counts (s .after) two ≡ true
-      → Window p l two u
+      → CellLength p l two u
       → On (s .above) (edgeAt p s) l
       → Nearer (s .above) nearest l
   pub margin-stays : Stays (s .above) (marginOf p) (edgeAt p s) nearest
@@ -67,11 +67,11 @@ module _ (p : Profile) (there l : ℕ) where
   long-divides = for-long (λ t. Divides p t there l)
 
 module _ {p : Profile} where
-  pub short-window : {l u : ℕ} (two : Bool) → two ≡ true → Window p l two u → Window p l true u
-  short-window {l} {u} = for-short (λ t. Window p l t u → Window p l true u) (λ w. w)
+  pub short-cell-length : {l u : ℕ} (two : Bool) → two ≡ true → CellLength p l two u → CellLength p l true u
+  short-cell-length {l} {u} = for-short (λ t. CellLength p l t u → CellLength p l true u) (λ w. w)
 
-  pub long-window : {l u : ℕ} (two : Bool) → not two ≡ true → Window p l two u → Window p l false u
-  long-window {l} {u} = for-long (λ t. Window p l t u → Window p l false u) (λ w. w)
+  pub long-cell-length : {l u : ℕ} (two : Bool) → not two ≡ true → CellLength p l two u → CellLength p l false u
+  long-cell-length {l} {u} = for-long (λ t. CellLength p l t u → CellLength p l false u) (λ w. w)
 
   pub shown-by
       : (s : Side) (b place l : ℕ)

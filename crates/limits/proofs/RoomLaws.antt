@@ -11,7 +11,7 @@ use borrow.Author.Tests.{lt-ltb, le-leb}
 use Rattle.timing.specs.declared.Profile.{Profile}
 use Rattle.timing.proofs.ProfileLaws.{Kept}
 use Rattle.lengths.specs.Margin.{roomsOf, marginOf}
-use Rattle.lengths.proofs.MarginLaws.{least-is-of-one}
+use Rattle.lists.proofs.SpanLaws.{least-is-of-one}
 use Rattle.limits.specs.Sides.{sides, reaches}
 use Rattle.limits.specs.Limits.{oneMore, ifSeen, limitsFrom, limitsOf}
 use Rattle.limits.specs.machine.Search.{searched}

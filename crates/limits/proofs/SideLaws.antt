@@ -9,10 +9,11 @@ use Rattle.timing.specs.declared.Profile.{Profile}
 use Rattle.timing.proofs.ProfileLaws.{Kept}
 use Rattle.lengths.specs.Margin.{marginOf}
 use Rattle.lengths.proofs.WindowLaws.{Spare}
-use Rattle.lengths.proofs.MarginLaws.{opened, margin-leaves-room, whole-swing}
-use Rattle.lengths.proofs.MarginLaws.{two-same, two-less, three-same, three-more, four-same, four-more}
-use Rattle.lengths.proofs.MarginLaws.{class-below-min, class-at-b23, class-below-b23}
-use Rattle.lengths.proofs.MarginLaws.{class-at-b34, class-below-b34, class-at-rpt}
+use Rattle.lengths.proofs.MarginLaws.{margin-leaves-room}
+use Rattle.lengths.proofs.WitnessLaws.{opened, whole-swing}
+use Rattle.lengths.proofs.WitnessLaws.{two-same, two-less, three-same, three-more, four-same, four-more}
+use Rattle.lengths.proofs.EdgeLaws.{class-below-min, class-at-b23, class-below-b23}
+use Rattle.lengths.proofs.EdgeLaws.{class-at-b34, class-below-b34, class-at-rpt}
 use Rattle.limits.specs.Sides.{crosses}
 use Rattle.limits.specs.declared.side.Side.{Side}
 use Rattle.limits.specs.declared.side.Edge.{Edge}
@@ -27,7 +28,7 @@ use Rattle.limits.proofs.NearestLaws.{b23-long-below-nearest, b23-long-
 use Rattle.limits.proofs.NearestLaws.{b34-short-below-nearest, b34-short-above-nearest}
 use Rattle.limits.proofs.NearestLaws.{b34-long-below-nearest, b34-long-above-nearest}
 use Rattle.limits.proofs.KnownLaws.{Known, shown-by, on-left, on-right}
-use Rattle.limits.proofs.KnownLaws.{short-window, long-window, short-divides, long-divides}
+use Rattle.limits.proofs.KnownLaws.{short-cell-length, long-cell-length, short-divides, long-divides}
 
 abbrev side : Edge → Kind → Bool → Side
 side edge after above = record { edge = edge; after = after; above = above }
@@ -51,7 +52,7 @@ module _ {p : Profile} (k : Kept p) where
   known-b23-short-below =
       record {
         shows = shown-by _ 0x00 0 _ (lit< tt) (lit< tt) (two-same _ _ _);
-        none-nearer = λ two counted w. b23-short-below-nearest k (short-window two counted w);
+        none-nearer = λ two counted w. b23-short-below-nearest k (short-cell-length two counted w);
         margin-stays = spare .below-b23-short;
         divides = λ two l counted on.
             short-divides p _ l (b23-divides-up p true l _ on (class-at-b23 k true)) two counted;
@@ -62,7 +63,7 @@ module _ {p : Profile} (k : Kept p) where
   known-b23-short-above =
       record {
         shows = shown-by _ 0x01 7 _ (lit< tt) (lit< tt) (three-more _ _ _ _ _ (k .early-point));
-        none-nearer = λ two counted w. b23-short-above-nearest k (short-window two counted w);
+        none-nearer = λ two counted w. b23-short-above-nearest k (short-cell-length two counted w);
         margin-stays = spare .above-b23-short;
         divides = λ two l counted on.
             short-divides p _ l (b23-divides-down p true l _ on (class-below-b23 k true)) two counted;
@@ -75,7 +76,7 @@ module _ {p : Profile} (k : Kept p) where
       let low = k .above-min in
       record {
         shows = shown-by _ 0x02 8 _ (lit< tt) (lit< tt) (two-less _ _ _ _ _ (k .late-point));
-        none-nearer = λ two counted w. b23-long-below-nearest k (long-window two counted w);
+        none-nearer = λ two counted w. b23-long-below-nearest k (long-cell-length two counted w);
         margin-stays = on-right _ _ _ _ (omega (arith, parts, low)) (spare .below-b23-long);
         divides = λ two l counted on.
             long-divides p _ l (b23-divides-up p false l _ on (class-at-b23 k false)) two counted;
@@ -86,7 +87,7 @@ module _ {p : Profile} (k : Kept p) where
   known-b23-long-above =
       record {
         shows = shown-by _ 0x09 5 _ (lit< tt) (lit< tt) (three-same _ _ _);
-        none-nearer = λ two counted w. b23-long-above-nearest k (long-window two counted w);
+        none-nearer = λ two counted w. b23-long-above-nearest k (long-cell-length two counted w);
         margin-stays = spare .above-b23-long;
         divides = λ two l counted on.
             long-divides p _ l (b23-divides-down p false l _ on (class-below-b23 k false)) two counted;
@@ -97,7 +98,7 @@ module _ {p : Profile} (k : Kept p) where
   known-b34-short-below =
       record {
         shows = shown-by _ 0x03 6 _ (lit< tt) (lit< tt) (three-more _ _ _ _ _ (whole-swing k));
-        none-nearer = λ two counted w. b34-short-below-nearest k (short-window two counted w);
+        none-nearer = λ two counted w. b34-short-below-nearest k (short-cell-length two counted w);
         margin-stays = spare .below-b34-short;
         divides = λ two l counted on.
             short-divides p _ l (b34-divides-up p true l _ on (class-at-b34 k true)) two counted;
@@ -108,7 +109,7 @@ module _ {p : Profile} (k : Kept p) where
   known-b34-short-above =
       record {
         shows = shown-by _ 0x0d 6 _ (lit< tt) (lit< tt) (four-more _ _ _ _ _ (k .early-point));
-        none-nearer = λ two counted w. b34-short-above-nearest k (short-window two counted w);
+        none-nearer = λ two counted w. b34-short-above-nearest k (short-cell-length two counted w);
         margin-stays = spare .above-b34-short;
         divides = λ two l counted on.
             short-divides p _ l (b34-divides-down p true l _ on (class-below-b34 k true)) two counted;
@@ -119,7 +120,7 @@ module _ {p : Profile} (k : Kept p) where
   known-b34-long-below =
       record {
         shows = shown-by _ 0x01 8 _ (lit< tt) (lit< tt) (three-more _ _ _ _ _ (k .late-point));
-        none-nearer = λ two counted w. b34-long-below-nearest k (long-window two counted w);
+        none-nearer = λ two counted w. b34-long-below-nearest k (long-cell-length two counted w);
         margin-stays = spare .below-b34-long;
         divides = λ two l counted on.
             long-divides p _ l (b34-divides-up p false l _ on (class-at-b34 k false)) two counted;
@@ -130,7 +131,7 @@ module _ {p : Profile} (k : Kept p) where
   known-b34-long-above =
       record {
         shows = shown-by _ 0x05 6 _ (lit< tt) (lit< tt) (four-same _ _ _);
-        none-nearer = λ two counted w. b34-long-above-nearest k (long-window two counted w);
+        none-nearer = λ two counted w. b34-long-above-nearest k (long-cell-length two counted w);
         margin-stays = spare .above-b34-long;
         divides = λ two l counted on.
             long-divides p _ l (b34-divides-down p false l _ on (class-below-b34 k false)) two counted;

@@ -11,7 +11,7 @@ use Rattle.merge.specs.Set.{isMisfitSet, sectorsIn, setOf, setWithin}
 use Rattle.merge.specs.Merge.{numbers, howMany, inEither, isCrowded, atOddsAt}
 use Rattle.merge.specs.Rule.{roomRule, mergeRule}
 use Rattle.merge.specs.Claims.{Takes}
-use Rattle.merge.specs.Index.{checkedRule}
+use Rattle.merge.specs.machine.Index.{checkedRule}
 use Rattle.merge.proofs.RuleLaws.{Fits, accepted-numbers, accepted-sets-fit}
 use Rattle.merge.proofs.SettleLaws.{merge-rule-in-steps}
 

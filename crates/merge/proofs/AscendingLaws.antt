@@ -8,7 +8,7 @@ use lib.ListN.{length, drop, getD, length-append}
 use Rattle.lists.specs.Place.{anywhere}
 use Rattle.merge.specs.Set.{setBytes, sectorsIn}
 use Rattle.merge.specs.Merge.{numbers, taken, asList, takenAt, atOdds, atOddsAt}
-use Rattle.merge.specs.Index.{shown, Indexed, Within}
+use Rattle.merge.specs.machine.Index.{shown, Indexed, Within}
 use Rattle.merge.proofs.NumberLaws.{numbers-from, numbers-end, nowhere-at-number}
 use Rattle.merge.proofs.OutputLaws.{bytes-of-append}
 use Rattle.merge.proofs.ChoiceLaws.{entries-at-odds}

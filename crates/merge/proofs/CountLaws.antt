@@ -10,7 +10,7 @@ use Rattle.sectors.specs.Sector.{sectorSize}
 use Rattle.sectors.proofs.SectorCounts.{size-at-most-1024}
 use Rattle.merge.specs.Set.{isMisfitSet, sectorsIn}
 use Rattle.merge.specs.Merge.{Nothing, One, Twice, numbers, isThere, inEither, howMany}
-use Rattle.merge.specs.Index.{sectorAt, shown, Indexed, entryInEither}
+use Rattle.merge.specs.machine.Index.{sectorAt, shown, Indexed, entryInEither}
 use Rattle.merge.proofs.NumberLaws.{counts-agree}
 use Rattle.merge.proofs.FormLaws.{fits-is-some, read-holds}
 

@@ -14,7 +14,7 @@ use lib.Seq.{getD-set-same, getD-set-other}
 use Rattle.sectors.specs.Sector.{sectorSize}
 use Rattle.merge.specs.Set.{Sector, sectorOf, withFirst, setOf, isNone, orEmpty, sectorsIn}
 use Rattle.merge.specs.Merge.{Held, Nothing, One, Twice, withCopy, heldOf}
-use Rattle.merge.specs.Index.{sectorAt, endOf, shown, Within, Indexed, entryWith}
+use Rattle.merge.specs.machine.Index.{sectorAt, endOf, shown, Within, Indexed, entryWith}
 use Rattle.merge.proofs.SetLaws.{set-of-none}
 use Rattle.merge.proofs.PlaceLaws.{Whole, whole-or-misfit}
 

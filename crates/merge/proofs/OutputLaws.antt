@@ -11,7 +11,7 @@ use Rattle.sectors.specs.Sector.{sectorSize}
 use Rattle.sectors.proofs.SectorCounts.{size-at-most-1024}
 use Rattle.merge.specs.Set.{Sector, sectorOf, sectorBytes, setBytes}
 use Rattle.merge.specs.Merge.{Held, Nothing, One, Twice, better, taken, asList}
-use Rattle.merge.specs.Index.{sectorAt, endOf, shown, takesSecond}
+use Rattle.merge.specs.machine.Index.{sectorAt, endOf, shown, takesSecond}
 use Rattle.merge.proofs.ChoiceLaws.{zero-shows-nothing, place-shows-one}
 
 -- ---- bytes

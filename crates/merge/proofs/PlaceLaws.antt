@@ -16,7 +16,7 @@ use Rattle.refusal.proofs.AnswerLaws.{number-is-not-zero}
 use Rattle.refusal.specs.Answer.{Answer, accepted, refused}
 use Rattle.sectors.specs.Sector.{sectorSize}
 use Rattle.merge.specs.Set.{Sector, withFirst, setOf}
-use Rattle.merge.specs.Index.{sectorAt, endRule, countRule}
+use Rattle.merge.specs.machine.Index.{sectorAt, endRule, countRule}
 use Rattle.merge.proofs.SetLaws.{set-from-place, short-end-is-no-set}
 
 module _ (set : List ℕ) (start : ℕ) where

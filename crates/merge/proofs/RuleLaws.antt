@@ -14,7 +14,7 @@ use Rattle.refusal.specs.Answer.{Answer, accepted, refuseIf, firstRefusal}
 use Rattle.refusal.proofs.AnswerLaws.{refuse-if-accepts}
 use Rattle.merge.specs.Set.{Sector, setOf, isNone, orEmpty, isMisfitSet, sectorsIn}
 use Rattle.merge.specs.Merge.{numbers, merged, howMany, inEither, atOddsAt}
-use Rattle.merge.specs.Index.{countRule, setsRule, numbersRule, Indexed, entryInEither}
+use Rattle.merge.specs.machine.Index.{countRule, setsRule, numbersRule, Indexed, entryInEither}
 use Rattle.merge.proofs.NumberLaws.{numbers-length}
 use Rattle.merge.proofs.CountLaws.{entries-count-numbers}
 use Rattle.merge.proofs.MergedLaws.{merged-count}

@@ -11,7 +11,7 @@ use lib.ListN.{length, drop, getD, length-drop}
 use lib.Seq.{drop-cons, drop-drop}
 use Rattle.sectors.specs.Sector.{sectorSize}
 use Rattle.merge.specs.Set.{sectorOf, withFirst, setWithin, setOf}
-use Rattle.merge.specs.Index.{sectorAt}
+use Rattle.merge.specs.machine.Index.{sectorAt}
 
 -- ---- on lists
 

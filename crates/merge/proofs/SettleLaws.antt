@@ -14,7 +14,7 @@ use Rattle.refusal.proofs.AnswerLaws.{number-is-not-zero, refusal-decides}
 use Rattle.merge.specs.Set.{sectorsIn, isMisfitSet}
 use Rattle.merge.specs.Merge.{isCrowded, atOddsAt, howMany, inEither, numbers}
 use Rattle.merge.specs.Rule.{mergeRule, MergeAnswer, mergeAnswer, mergeOutput}
-use Rattle.merge.specs.Index.{setsRule, numbersRule, checkedRule, Settles}
+use Rattle.merge.specs.machine.Index.{setsRule, numbersRule, checkedRule, Settles}
 
 module _ (first second : List ℕ) where
   -- ---- an earlier rule, then a later one

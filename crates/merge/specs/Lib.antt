@@ -1,5 +1,5 @@
 pub mod Set
 pub mod Merge
 pub mod Rule
-pub mod Index
 pub mod Claims
+pub mod machine

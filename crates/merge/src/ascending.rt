@@ -7,7 +7,7 @@ ghost use Rattle.lists.specs.Place.{anywhere};
 ghost use Rattle.lists.specs.Filled.{storedAt};
 ghost use Rattle.merge.specs.Set.{setBytes, sectorsIn};
 ghost use Rattle.merge.specs.Merge.{numbers, merged, atOddsAt};
-ghost use Rattle.merge.specs.Index.{Indexed};
+ghost use Rattle.merge.specs.machine.Index.{Indexed};
 use crate::output::put_taken;
 use crate::output::taken_size;
 

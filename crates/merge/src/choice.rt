@@ -7,7 +7,7 @@ ghost use lib.ListN.{length};
 ghost use Rattle.lists.specs.Place.{lowest};
 ghost use Rattle.merge.specs.Set.{sectorsIn};
 ghost use Rattle.merge.specs.Merge.{numbers, sameBytes, disagree, atOdds, atOddsAt};
-ghost use Rattle.merge.specs.Index.{sectorAt, endOf, shown, Within, Indexed, takesSecond};
+ghost use Rattle.merge.specs.machine.Index.{sectorAt, endOf, shown, Within, Indexed, takesSecond};
 
 // Looks at every byte: a loop that could end early would go byte by byte.
 fn same_bytes(a: &[u8], b: &[u8]) -> bool

@@ -7,7 +7,7 @@ ghost use lib.ListN.{length, replicate};
 ghost use Rattle.refusal.specs.Answer.{countedAnswer};
 ghost use Rattle.merge.specs.Set.{setOf, isMisfitSet};
 ghost use Rattle.merge.specs.Merge.{howMany, numbers};
-ghost use Rattle.merge.specs.Index.{endRule, countRule, entryWith, entryInEither, Indexed};
+ghost use Rattle.merge.specs.machine.Index.{endRule, countRule, entryWith, entryInEither, Indexed};
 use refusal::Counted;
 use refusal::Refusal;
 

@@ -6,7 +6,7 @@ ghost use lib.ListN.{length};
 ghost use Rattle.refusal.specs.Answer.{accepted, refuseIf, verdictAnswer, countedAnswer};
 ghost use Rattle.merge.specs.Set.{sectorsIn};
 ghost use Rattle.merge.specs.Rule.{roomRule, mergedAnswer, mergeAnswer, mergeOutput};
-ghost use Rattle.merge.specs.Index.{Indexed, setsRule, numbersRule, checkedRule, Settles};
+ghost use Rattle.merge.specs.machine.Index.{Indexed, setsRule, numbersRule, checkedRule, Settles};
 use ascending::merged_size;
 use ascending::write_merged;
 use choice::lowest_at_odds;
@@ -17,10 +17,10 @@ use refusal::Counted;
 use refusal::Refusal;
 use refusal::Verdict;
 
-pub mod ascending;
-pub mod choice;
-pub mod index;
-pub mod output;
+mod ascending;
+mod choice;
+mod index;
+mod output;
 
 // How many sectors the merged set has and how many bytes it takes.
 pub enum Merged {

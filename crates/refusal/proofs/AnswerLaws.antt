@@ -91,6 +91,18 @@ first-refusal-accepts a b h = by-test (eqb (a .number) 0) refl h
 pub first-refusal-passes : (a b : Answer) → a .number ≡ 0 → firstRefusal a b ≡ b
 first-refusal-passes a b h = rw (eq-eqb _ 0 h)
 
+-- of three answers the first refusal, however they are taken together
+pub first-refusal-of-first
+    : (a b c : Answer) → firstRefusal a (firstRefusal b c) ≡ firstRefusal (firstRefusal a b) c
+first-refusal-of-first a b c = split (eqb (a .number) 0) refl
+  where
+    split
+        : (t : Bool)
+        → eqb (a .number) 0 ≡ t
+        → cond t (firstRefusal b c) a ≡ firstRefusal (cond t b a) c
+    split true e = refl
+    split false e = rw e
+
 -- where a test in its turn let the input pass, it failed, and the later tests accept
 pub refuse-if-accepts
     : (t : Bool) (n p : ℕ) (later : Answer)

@@ -1,6 +1,7 @@
 // Document 01, "Turned-away numbers": why an input is refused, with the place that the table gives to it.
 ghost use mathlib.Core.Path.{_≡_};
 ghost use Rattle.refusal.specs.Table.{numberOf, placeOf};
+ghost use Rattle.refusal.specs.Answer.{countedAnswer};
 
 pub enum Refusal {
     // 1, unset: which of the profile's numbers, from 1
@@ -99,6 +100,38 @@ impl Refusal {
             Refusal::TooManySectors => 0,
             Refusal::UnrulyWord(at) => at,
             Refusal::SectorsAtOdds(sector) => sector,
+        }
+    }
+}
+
+impl Counted {
+    // The number in document 01's table; 0 for a count.
+    pub fn number(self) -> u32
+        ensures { λ r. ⌜ r ≡ countedAnswer self .number ⌝ }
+    {
+        match self {
+            Counted::Count(_) => 0,
+            Counted::Refused(refusal) => refusal.number(),
+        }
+    }
+
+    // The place in document 01's table; 0 for a count.
+    pub fn place(self) -> u32
+        ensures { λ r. ⌜ r ≡ countedAnswer self .place ⌝ }
+    {
+        match self {
+            Counted::Count(_) => 0,
+            Counted::Refused(refusal) => refusal.place(),
+        }
+    }
+
+    // What was counted; 0 for a refusal.
+    pub fn count(self) -> usize
+        ensures { λ r. ⌜ r ≡ countedAnswer self .count ⌝ }
+    {
+        match self {
+            Counted::Count(count) => count,
+            Counted::Refused(_) => 0,
         }
     }
 }

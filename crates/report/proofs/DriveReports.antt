@@ -7,21 +7,24 @@ use mathlib.Core.Path.{_≡_, refl, sym, ap, ap₂, _∙_}
 use mathlib.Core.Bool.{true}
 use mathlib.Core.List.{List, [], _∷_, _++_, append-nil}
 use Rattle.lists.specs.Place.{anywhere, lowest}
+use Rattle.lists.specs.Sum.{sumOf}
+use Rattle.lists.specs.Span.{least, greatest}
 use Rattle.refusal.specs.Answer.{accepted}
 use Rattle.timing.specs.Profile.{unset, swing, advance, delay, isTrueShort, isTrueLong, isTrue, profileRule}
 use Rattle.timing.specs.Class.{cursorOf, atStart, classIn, behind, cursorPast, classesFrom, endsInTwo, classesOf}
 use Rattle.timing.specs.declared.Profile.{Profile}
 use Rattle.timing.specs.declared.cursor.Cursor.{Cursor}
 use Rattle.timing.proofs.ClassLaws.{classes-from-start, classes-none, classes-length, cursor-starts-anew}
-use Rattle.report.specs.Row.{countIn, least, greatest, total, rowOf, addRow}
+use Rattle.report.specs.Row.{countIn, rowOf, addRow}
 use Rattle.report.specs.Report.{Report, rowAt, ofClass, reportBy, reportOf, reportFrom, addReports, addRule}
-use Rattle.report.specs.Report.{added}
+use Rattle.report.specs.Report.{reportRule, reported, added}
 use Rattle.report.specs.Claims.{allJoined, allAdded, AllEndInTwo, apart, Regrouped, DriveReports}
 use Rattle.report.proofs.AddLaws.{add-reports-comm, add-reports-assoc, later-rows-fit}
 use Rattle.report.proofs.SumLaws.{row-of-sum, row-of-sum-fits, sum-is-accepted, added-if-accepted}
 use Rattle.report.proofs.ReportLaws.{report-by-append, report-from-append, report-from-start, report-of-none}
 use Rattle.report.proofs.WholeLaws.{counts-add-up, sums-add-up}
 use Rattle.report.proofs.SpanLaws.{spanned}
+use Rattle.report.proofs.RefusalLaws.{given-if-accepted, zeros-if-refused}
 
 -- ---- no interval
 
@@ -44,7 +47,7 @@ joined p ds es two =
 -- one more of class 2 in the second list than in the lists joined
 not-joined
     : reportOf apart (120 ∷ 90 ∷ []) ≡ addReports (reportOf apart (120 ∷ [])) (reportOf apart (90 ∷ [])) → ⊥
-unfolding reportOf reportBy ofClass rowOf least greatest total addReports addRow
+unfolding reportOf reportBy ofClass rowOf least greatest sumOf addReports addRow
     cursorOf atStart classIn behind cursorPast classesFrom classesOf
 not-joined same =
     let counts : _≡_ {A = ℕ} 0 1 = ap (λ (r : Report). countIn (rowAt r 1)) same in
@@ -98,9 +101,13 @@ unfolding anywhere lowest unset swing advance delay isTrueShort isTrueLong isTru
 apart-is-accepted = refl
 
 pub drive-reports : DriveReports
-unfolding reportOf addRule added
+unfolding reportOf reported addRule added
 drive-reports =
     record {
+      given-report = λ p ds. given-if-accepted (reportRule p ds) _;
+      given-sum = λ a b. given-if-accepted (addRule a b) _;
+      no-report = λ p ds. zeros-if-refused (reportRule p ds) _;
+      no-sum = λ a b. zeros-if-refused (addRule a b) _;
       joined-there = report-from-append;
       joined = joined;
       not-joined = (apart-is-accepted, not-joined);

@@ -3,7 +3,7 @@ use Prim.Native.Nat.{ℕ, _≤_}
 use mathlib.Core.Path.{_≡_, sym}
 use mathlib.Core.List.{List}
 use lib.ListN.{length}
-use borrow.Author.Tests.{eq-eqb, ltb-false}
+use borrow.Author.Tests.{eq-eqb, ne-eqb, ltb-false}
 use Rattle.refusal.specs.Answer.{Answer}
 use Rattle.refusal.specs.Answer.{verdictAnswer}
 use Rattle.refusal.specs.declared.Refusal.{Refusal}
@@ -20,6 +20,13 @@ module _ (v : Verdict) (rule : Answer) (report : Report) (e : verdictAnswer v �
 
   pub accepted-gives-report : v ≡ Accepted → report ≡ ifAccepted rule report
   accepted-gives-report q = rw (eq-eqb _ 0 (verdict-accepts v rule e q))
+
+module _ (rule : Answer) (report : Report) where
+  pub given-if-accepted : rule .number ≡ 0 → ifAccepted rule report ≡ report
+  given-if-accepted accepts = rw (eq-eqb _ 0 accepts)
+
+  pub zeros-if-refused : (rule .number ≡ 0 → ⊥) → ifAccepted rule report ≡ noReport
+  zeros-if-refused refuses = rw (ne-eqb _ 0 refuses)
 
 -- a list that has a report is not overlong
 pub reported-list-is-short : (p : Profile) (ds : List ℕ) → reportRule p ds .number ≡ 0 → length ds ≤ 51202

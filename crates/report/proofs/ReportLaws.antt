@@ -1,20 +1,19 @@
 -- The report of lists joined is their reports added, since the intervals of a class in both are those in the first and
 -- then those in the second. Rests on no axiom.
-use Prim.Native.Nat.{ℕ, suc, _*_, _≤_, zero-le}
+use Prim.Native.Nat.{ℕ, _≤_}
 use mathlib.Core.Path.{_≡_, refl, ap, _∙_}
 use mathlib.Core.Bool.{Bool, true, false, cond}
 use mathlib.Core.List.{List, [], _∷_, _++_}
-use native.Mathlib.Nat.{mul-suc}
 use native.Mathlib.Omega.{arith}
 use lib.Dec.{eqb}
-use lib.ListN.{length, getD}
+use lib.ListN.{length}
 use Rattle.timing.specs.Class.{classesFrom, cursorAfter, classNumber, atStart}
 use Rattle.timing.specs.declared.Profile.{Profile}
 use Rattle.timing.specs.declared.Class.{Class}
 use Rattle.timing.specs.declared.Class.the-variants.{Narrow, Two, Three, Four, Wide}
 use Rattle.timing.specs.declared.cursor.Cursor.{Cursor}
 use Rattle.timing.proofs.ClassLaws.{classes-none, classes-count, classes-append, classes-from-start}
-use Rattle.report.specs.Row.{total, rowOf, addRow}
+use Rattle.report.specs.Row.{rowOf, addRow}
 use Rattle.report.specs.Report.{ofClass, reportBy, reportOf, reportFrom, addReports, noReport}
 use Rattle.report.proofs.RowLaws.{row-of-none, row-of-append}
 use Rattle.report.proofs.AddLaws.{same-report}
@@ -66,17 +65,6 @@ report-from-start p ds = cc (classes-from-start p ds)
 pub report-of-none : (cursor : Cursor) → reportFrom cursor [] ≡ noReport
 unfolding reportFrom reportBy ofClass
 report-of-none cursor = rw (classes-none cursor, row-of-none)
-
--- ---- what a list has
-
-pub total-of-small
-    : (b : ℕ) (ds : List ℕ) → ((i : ℕ) → getD ds i 0 ≤ b) → total ds ≤ b * length ds
-unfolding total
-total-of-small b [] small = zero-le
-total-of-small b (d ∷ ds) small =
-    let first = small 0 in
-    let rest = total-of-small b ds (λ i. small (suc i)) in
-    rw (mul-suc b (length ds)) (omega arith)
 
 -- ---- the place of a class's row
 

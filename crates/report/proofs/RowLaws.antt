@@ -5,12 +5,16 @@ use mathlib.Core.Path.{_≡_, refl, sym, _∙_}
 use mathlib.Core.Bool.{true, false}
 use mathlib.Core.List.{List, [], _∷_, _++_, append-nil}
 use mathlib.Mathlib.Data.Bool.Basic.{or-eq-false-eq-eq-false-and-eq-false}
-use native.Mathlib.Nat.{zero-add, add-zero, zero-max, max-zero}
+use native.Mathlib.Nat.{add-zero, max-zero}
 use native.Mathlib.Omega.{arith}
 use borrow.Author.Tests.{eqb-true, eqb-false, eq-eqb, ne-eqb, ltb-false, le-ltb}
 use lib.Dec.{eqb}
 use lib.ListN.{length-append}
-use Rattle.report.specs.Row.{Row, countIn, leastIn, greatestIn, sumIn, least, greatest, total, rowOf, noRow}
+use Rattle.lists.specs.Sum.{sumOf}
+use Rattle.lists.specs.Span.{least, greatest}
+use Rattle.lists.proofs.SumLaws.{sum-of-append}
+use Rattle.lists.proofs.SpanLaws.{least-of-append, greatest-of-append}
+use Rattle.report.specs.Row.{Row, countIn, leastIn, greatestIn, sumIn, rowOf, noRow}
 use Rattle.report.specs.Row.{addRow, largest, isOverlarge}
 
 -- a row is empty or not
@@ -47,31 +51,14 @@ module _ (a b : Row) where
   unfolding addRow
   no-row-is-empty e f = rw (ne-eqb (countIn a) 0 e, ne-eqb (countIn b) 0 f)
 
--- ---- the numbers of lists joined
-
-pub total-of-append : (ds es : List ℕ) → total (ds ++ es) ≡ total ds + total es
-unfolding total
-total-of-append [] es = sym (zero-add (total es))
-total-of-append (d ∷ ds) es = let rest = total-of-append ds es in omega arith
-
-greatest-of-append : (ds es : List ℕ) → greatest (ds ++ es) ≡ max (greatest ds) (greatest es)
-unfolding greatest
-greatest-of-append [] es = sym (zero-max (greatest es))
-greatest-of-append (d ∷ ds) es = let rest = greatest-of-append ds es in omega arith
-
-least-of-append
-    : (d : ℕ) (ds : List ℕ) (e : ℕ) (es : List ℕ)
-    → least ((d ∷ ds) ++ (e ∷ es)) ≡ min (least (d ∷ ds)) (least (e ∷ es))
-unfolding least
-least-of-append d [] e es = refl
-least-of-append d (c ∷ ds) e es = let rest = least-of-append c ds e es in omega arith
+-- ---- the rows of lists
 
 pub row-of-none : rowOf [] ≡ noRow
-unfolding rowOf least greatest total
+unfolding rowOf least greatest sumOf
 row-of-none = refl
 
 pub row-of-one : (d : ℕ) → rowOf (d ∷ []) ≡ (1 ∷ d ∷ d ∷ d ∷ [])
-unfolding rowOf least greatest total
+unfolding rowOf least greatest sumOf
 row-of-one d = rw (max-zero d, add-zero d)
 
 pub row-of-append : (ds es : List ℕ) → rowOf (ds ++ es) ≡ addRow (rowOf ds) (rowOf es)
@@ -81,7 +68,7 @@ row-of-append [] (e ∷ es) = sym (first-row-is-empty (rowOf []) (rowOf (e ∷ e
 row-of-append (d ∷ ds) [] =
     cc (append-nil (d ∷ ds), second-row-is-empty (rowOf (d ∷ ds)) (rowOf []) (λ h. omega arith) refl)
 row-of-append (d ∷ ds) (e ∷ es) =
-    rw (length-append, least-of-append, greatest-of-append, total-of-append)
+    rw (length-append, least-of-append, greatest-of-append, sum-of-append)
     (sym (no-row-is-empty (rowOf (d ∷ ds)) (rowOf (e ∷ es)) (λ h. omega arith) (λ h. omega arith)))
 
 -- ---- rows that do not fit

@@ -7,10 +7,11 @@ use mathlib.Core.List.{List, [], _∷_, map}
 use native.Mathlib.Omega.{arith}
 use lib.Dec.{eqb}
 use lib.ListN.{length}
+use Rattle.lists.specs.Sum.{sumOf}
 use Rattle.timing.specs.Class.{classNumber}
 use Rattle.timing.specs.declared.Class.{Class}
 use Rattle.timing.specs.declared.Class.the-variants.{Narrow, Two, Three, Four, Wide}
-use Rattle.report.specs.Row.{countIn, sumIn, total, rowOf}
+use Rattle.report.specs.Row.{countIn, sumIn, rowOf}
 use Rattle.report.specs.Report.{ofClass, reportBy}
 
 -- a number for each class, added up
@@ -52,10 +53,10 @@ module _
         [ true ↦ rw (more, more) (omega arith) | false ↦ rw more (omega arith) ]
 
 module _ (cs : List Class) (ds : List ℕ) (h : length cs ≡ length ds) where
-  pub counts-add-up : total (map countIn (reportBy cs ds)) ≡ length ds
-  unfolding reportBy rowOf total
+  pub counts-add-up : sumOf (map countIn (reportBy cs ds)) ≡ length ds
+  unfolding reportBy rowOf sumOf
   counts-add-up = over-classes length (λ d. 1) refl (λ d es. omega arith) cs ds h
 
-  pub sums-add-up : total (map sumIn (reportBy cs ds)) ≡ total ds
-  unfolding reportBy rowOf total
-  sums-add-up = over-classes total (λ d. d) refl (λ d es. refl) cs ds h
+  pub sums-add-up : sumOf (map sumIn (reportBy cs ds)) ≡ sumOf ds
+  unfolding reportBy rowOf sumOf
+  sums-add-up = over-classes sumOf (λ d. d) refl (λ d es. refl) cs ds h

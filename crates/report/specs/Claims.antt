@@ -4,13 +4,16 @@ use mathlib.Core.Path.{_≡_}
 use mathlib.Core.Bool.{true}
 use mathlib.Core.List.{List, [], _∷_, _++_, map}
 use lib.ListN.{length, getD}
+use Rattle.lists.specs.Sum.{sumOf}
+use Rattle.lists.specs.Span.{least, greatest}
 use Rattle.refusal.specs.Answer.{accepted}
 use Rattle.timing.specs.Profile.{profileRule}
 use Rattle.timing.specs.Class.{cursorAfter, endsInTwo, classesOf}
 use Rattle.timing.specs.declared.Profile.{Profile}
 use Rattle.timing.specs.declared.cursor.Cursor.{Cursor}
-use Rattle.report.specs.Row.{countIn, sumIn, least, greatest, total}
-use Rattle.report.specs.Report.{Report, reportOf, reportFrom, addReports, noReport, addRule, added}
+use Rattle.report.specs.Row.{countIn, sumIn}
+use Rattle.report.specs.Report.{Report, reportOf, reportFrom, addReports, noReport, reportRule, reported, addRule}
+use Rattle.report.specs.Report.{added}
 
 -- the lists of an afternoon joined, and their reports added
 unfoldable pub allJoined : List (List ℕ) → List ℕ
@@ -56,6 +59,12 @@ pub record Regrouped (a b c : Report) : Type 0 where
   pub same : added (added a b) c ≡ added a (added b c)
 
 pub record DriveReports : Type 0 where
+  -- what the entries give is what the sentences below speak of: the report of a list that is accepted, and the sum of
+  -- two reports that is; nothing but zeros where they refuse
+  pub given-report : (p : Profile) (ds : List ℕ) → reportRule p ds .number ≡ 0 → reported p ds ≡ reportOf p ds
+  pub given-sum : (a b : Report) → addRule a b .number ≡ 0 → added a b ≡ addReports a b
+  pub no-report : (p : Profile) (ds : List ℕ) → (reportRule p ds .number ≡ 0 → ⊥) → reported p ds ≡ noReport
+  pub no-sum : (a b : Report) → (addRule a b .number ≡ 0 → ⊥) → added a b ≡ noReport
   -- adding the reports of two lists gives the report of the lists joined: the second classed from where the classing of
   -- the first ends
   pub joined-there
@@ -82,7 +91,7 @@ pub record DriveReports : Type 0 where
   pub associative
       : (a b c : Report) → addRule a b .number ≡ 0 → addRule (added a b) c .number ≡ 0 → Regrouped a b c
   -- counts and sums are those of the whole list
-  pub counts : (p : Profile) (ds : List ℕ) → total (map countIn (reportOf p ds)) ≡ length ds
-  pub sums : (p : Profile) (ds : List ℕ) → total (map sumIn (reportOf p ds)) ≡ total ds
+  pub counts : (p : Profile) (ds : List ℕ) → sumOf (map countIn (reportOf p ds)) ≡ length ds
+  pub sums : (p : Profile) (ds : List ℕ) → sumOf (map sumIn (reportOf p ds)) ≡ sumOf ds
   -- least and greatest are what they say
   pub spanned : (ds : List ℕ) → Spanned ds (least ds) (greatest ds)

@@ -1,3 +1,4 @@
 pub mod Row
 pub mod Report
 pub mod Claims
+pub mod machine

@@ -1,11 +1,12 @@
 -- Document 02, (i): a row of a report, which is the count, the least, the greatest and the sum of some intervals. No
 -- lemmas here.
-use Prim.Native.Nat.{ℕ, _+_, _≤_, min, max}
-use mathlib.Core.Path.{_≡_}
+use Prim.Native.Nat.{ℕ, _+_, min, max}
 use mathlib.Core.Bool.{Bool, cond, _||_}
 use mathlib.Core.List.{List, [], _∷_}
 use lib.Dec.{eqb, ltb}
 use lib.ListN.{length, getD}
+use Rattle.lists.specs.Sum.{sumOf}
+use Rattle.lists.specs.Span.{least, greatest}
 
 -- four numbers
 abbrev pub Row : Type 0
@@ -25,22 +26,9 @@ sumIn row = getD row 3 0
 
 -- ---- the row of some intervals
 
-unfoldable pub least : List ℕ → ℕ
-least [] = 0
-least (d ∷ []) = d
-least (d ∷ e ∷ ds) = min d (least (e ∷ ds))
-
-unfoldable pub greatest : List ℕ → ℕ
-greatest [] = 0
-greatest (d ∷ ds) = max d (greatest ds)
-
-unfoldable pub total : List ℕ → ℕ
-total [] = 0
-total (d ∷ ds) = d + total ds
-
 -- an empty class has four zeros
 unfoldable pub rowOf : List ℕ → Row
-rowOf ds = length ds ∷ least ds ∷ greatest ds ∷ total ds ∷ []
+rowOf ds = length ds ∷ least ds ∷ greatest ds ∷ sumOf ds ∷ []
 
 -- ---- two rows added
 
@@ -66,9 +54,3 @@ largest = 18446744073709551615
 -- a count or sum that does not fit in 64 bits
 unfoldable pub isOverlarge : Row → Bool
 isOverlarge row = ltb largest (countIn row) || ltb largest (sumIn row)
-
--- of two numbers of 64 bits: whether their sum is one
-pub record Compared (a b : ℕ) (exceeds : Bool) : Type 0 where
-  pub first-fits : a ≤ largest
-  pub second-fits : b ≤ largest
-  pub sum : exceeds ≡ ltb largest (a + b)

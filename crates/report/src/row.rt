@@ -2,7 +2,8 @@
 ghost use mathlib.Core.Path.{_≡_};
 ghost use mathlib.Core.Bool.{false};
 ghost use Prim.Native.Nat.{min, max};
-ghost use Rattle.report.specs.Row.{addRow, Compared, isOverlarge};
+ghost use Rattle.report.specs.Row.{addRow, isOverlarge};
+ghost use Rattle.report.specs.machine.Compare.{Compared};
 
 // The largest number of 64 bits.
 const LARGEST: u64 = 18446744073709551615;

@@ -12,7 +12,7 @@ use lib.Seq.{length-take-le, take-all, drop-length}
 use borrow.Author.Tests.{ltb-true, ltb-false}
 use Rattle.lists.specs.Filled.{filled, storedAt}
 use Rattle.lists.proofs.StoreLaws.{front-fills, stored-at-front-fills, stored-next, stored-none}
-use Rattle.script.specs.Read.{ItemsRead, Stored, within}
+use Rattle.script.specs.machine.Read.{ItemsRead, Stored, within}
 use Rattle.script.specs.declared.ItemLine.the-variants.{Items, Faulty}
 
 -- what is left to store comes out as all of it did at first

@@ -12,7 +12,7 @@ use Rattle.text.specs.Ascii.{ascii, tab, sameText}
 use Rattle.text.specs.Pieces.{upTo}
 use Rattle.text.proofs.PieceLaws.{pieces-of-text}
 use Rattle.script.specs.Line.{areBytes, raised, wordOf, argumentsOf, lineItems}
-use Rattle.script.specs.Read.{fieldsAfter}
+use Rattle.script.specs.machine.Read.{fieldsAfter}
 use Rattle.script.proofs.FieldLaws.{fields-next, few-fields}
 
 pub bytes-from-tab : (line : List ℕ) (from : ℕ)

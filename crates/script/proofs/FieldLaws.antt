@@ -11,7 +11,7 @@ use lib.Seq.{drop-cons, drop-drop}
 use Rattle.text.specs.Ascii.{tab}
 use Rattle.text.specs.Pieces.{before, piecesOf, piecesAfter, upTo}
 use Rattle.text.proofs.PieceLaws.{pieces-of-text, piece-ends-in-text, piece-is-a-part}
-use Rattle.script.specs.Read.{fieldsAfter}
+use Rattle.script.specs.machine.Read.{fieldsAfter}
 
 -- the field that starts after the tab at a place of a line
 module _ (line : List ℕ) (at end : ℕ) (h : at < length line) (e : end ≡ at + 1 + length (upTo tab (drop (at + 1) line)))

@@ -21,7 +21,7 @@ use Rattle.text.specs.Pieces.{piecesOf, upTo}
 use Rattle.text.proofs.PieceLaws.{pieces-of-text, piece-ends-in-text, pieces-next, pieces-last}
 use Rattle.script.specs.Line.{isItemLine, lineItems}
 use Rattle.script.specs.Input.{garbledFrom, itemsOfLines}
-use Rattle.script.specs.Read.{LinesRead, LinesStored, Stored}
+use Rattle.script.specs.machine.Read.{LinesRead, LinesStored, Stored}
 use Rattle.script.proofs.BufferLaws.{stored-as-far-as-there-is-room}
 
 -- the line that starts at a place of the text, where its end was looked for

@@ -8,7 +8,7 @@ use Rattle.text.specs.Ascii.{tab}
 use Rattle.text.specs.Pieces.{upTo}
 use Rattle.text.proofs.PieceLaws.{pieces-of-text, piece-ends-in-text, piece-is-a-part}
 use Rattle.script.specs.Line.{wordOf, argumentsOf}
-use Rattle.script.specs.Read.{fieldsAfter}
+use Rattle.script.specs.machine.Read.{fieldsAfter}
 
 module _ (line : List ℕ) (end : ℕ) (e : end ≡ 0 + length (upTo tab line)) where
   size : end ≡ length (upTo tab line)

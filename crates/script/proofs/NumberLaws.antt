@@ -13,7 +13,7 @@ use lib.Seq.{take-suc-set, take-all, append-snoc}
 use borrow.Author.Tests.{ne-eqb, eqb-true}
 use Rattle.lists.specs.Place.{everywhere}
 use Rattle.text.specs.Decimal.{isDecimal, valueOf}
-use Rattle.script.specs.Read.{NumbersRead}
+use Rattle.script.specs.machine.Read.{NumbersRead}
 
 -- after k decimals, the fields are as many decimals as there are places left
 unfoldable pub fitting : ℕ → ℕ → List (List ℕ) → Bool

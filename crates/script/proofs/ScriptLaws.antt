@@ -22,7 +22,7 @@ use Rattle.text.specs.Pieces.{piecesOf, upTo}
 use Rattle.text.proofs.PieceLaws.{pieces-of-text, piece-ends-in-text, piece-is-a-part, pieces-next, pieces-last}
 use Rattle.script.specs.Line.{isProfileLine, profileOf, profileRead}
 use Rattle.script.specs.Input.{garbledFrom, garbledLines, inputRule, profileIn, itemsOfLines, itemsIn}
-use Rattle.script.specs.Read.{LinesStored, ScriptRead, scriptAnswer, within}
+use Rattle.script.specs.machine.Read.{LinesStored, ScriptRead, scriptAnswer, within}
 use Rattle.script.specs.declared.ProfileLine.the-variants.{Given as Profiled, Faulty}
 use Rattle.script.specs.declared.Script.{Script}
 use Rattle.script.specs.declared.Script.the-variants.{Given, Refused}

@@ -1,3 +1,3 @@
 pub mod Line
 pub mod Input
-pub mod Read
+pub mod machine

@@ -10,7 +10,7 @@ ghost use lib.ListN.{length, drop};
 ghost use Rattle.lists.specs.Filled.{storedAt};
 ghost use Rattle.text.specs.Ascii.{lineFeed};
 ghost use Rattle.text.specs.Pieces.{piecesOf};
-ghost use Rattle.script.specs.Read.{BytesRead, LineRead, LinesRead, LinesStored, fieldsAfter};
+ghost use Rattle.script.specs.machine.Read.{BytesRead, LineRead, LinesRead, LinesStored, fieldsAfter};
 
 // The item that orders the check bytes.
 const CHECK_ORDER: u16 = 512;

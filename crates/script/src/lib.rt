@@ -7,7 +7,7 @@ use profile::read_profile;
 use refusal::Counted;
 use refusal::Refusal;
 use timing::Profile;
-ghost use Rattle.script.specs.Read.{ScriptRead};
+ghost use Rattle.script.specs.machine.Read.{ScriptRead};
 
 // The longest input that is read.
 pub const INPUT_BYTES: usize = 16384;

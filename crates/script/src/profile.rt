@@ -6,7 +6,7 @@ use timing::Profile;
 ghost use mathlib.Core.Path.{_≡_};
 ghost use lib.ListN.{length, drop};
 ghost use Rattle.script.specs.Line.{profileRead};
-ghost use Rattle.script.specs.Read.{NumbersRead, fieldsAfter};
+ghost use Rattle.script.specs.machine.Read.{NumbersRead, fieldsAfter};
 
 // The decimals that stand from a tab on, if they are as many as the buffer has places.
 fn read_numbers(line: &[u8], from: usize, numbers: &mut [u16]) -> bool

@@ -19,7 +19,8 @@ use Rattle.text.specs.Line.{lineOf}
 use Rattle.text.proofs.PrintLaws.{decimal-within}
 use Rattle.text.proofs.LineLaws.{fields-length-of-none, fields-length-of-more, line-length}
 use Rattle.strip.specs.Output.{refusalText, cellText, cellsText, streamText, reportText}
-use Rattle.strip.specs.Printed.{Front, Printed, outputLength}
+use Rattle.strip.specs.Output.{Printed}
+use Rattle.strip.specs.machine.Room.{Front, outputLength}
 
 -- a text that was stored at the front of an output that has room for it
 pub printed-at-front : (text before after : List ℕ) (r : ℕ)

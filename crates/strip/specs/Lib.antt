@@ -1,3 +1,3 @@
 pub mod Output
 pub mod Program
-pub mod Printed
+pub mod machine

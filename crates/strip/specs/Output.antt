@@ -1,7 +1,9 @@
 -- Document 01, "The strip program": what is printed. No lemmas here.
 use Prim.Native.Nat.{ℕ, suc}
+use mathlib.Core.Path.{_≡_}
 use mathlib.Core.List.{List, [], _∷_, _++_}
 use lib.ListN.{length}
+use Rattle.lists.specs.Filled.{filled}
 use Rattle.refusal.specs.Answer.{Answer}
 use Rattle.text.specs.Ascii.{ascii}
 use Rattle.text.specs.Line.{lineOf}
@@ -31,3 +33,8 @@ streamText p stream = cellsText 0 (classesOf p stream) stream
 unfoldable pub reportText : Profile → ℕ → List ℕ → List ℕ
 reportText p margin stream =
     lineOf (ascii "margin") (margin ∷ []) ++ streamText p stream ++ lineOf (ascii "end") (length stream ∷ [])
+
+-- a text was printed: the output begins with it, the remainder keeps its bytes, and the answer is how long the text is
+pub record Printed (text : List ℕ) (r : ℕ) (before after : List ℕ) : Type 0 where
+  pub size : r ≡ length text
+  pub output : after ≡ filled text before

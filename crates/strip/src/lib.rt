@@ -15,7 +15,8 @@ ghost use Rattle.items.specs.Item.{writtenBytes};
 ghost use Rattle.lengths.specs.Margin.{marginOf};
 ghost use Rattle.timing.specs.Profile.{profileRule};
 ghost use Rattle.strip.specs.Program.{scriptText, programText};
-ghost use Rattle.strip.specs.Printed.{Front, Printed, outputLength};
+ghost use Rattle.strip.specs.Output.{Printed};
+ghost use Rattle.strip.specs.machine.Room.{Front, outputLength};
 
 // The most written bytes that a list may have here.
 const WRITTEN_BYTES: usize = 512;

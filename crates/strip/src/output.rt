@@ -10,7 +10,8 @@ ghost use Rattle.lists.specs.Filled.{storedAt};
 ghost use Rattle.refusal.specs.Answer.{refused};
 ghost use Rattle.refusal.specs.Table.{numberOf, placeOf};
 ghost use Rattle.strip.specs.Output.{refusalText, cellText, streamText, reportText};
-ghost use Rattle.strip.specs.Printed.{Printed, outputLength};
+ghost use Rattle.strip.specs.Output.{Printed};
+ghost use Rattle.strip.specs.machine.Room.{outputLength};
 
 // A refusal: its number and its place.
 pub fn refuse(refusal: Refusal, out: &mut [u8]) -> usize

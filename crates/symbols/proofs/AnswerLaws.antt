@@ -24,7 +24,7 @@ use Rattle.symbols.specs.declared.Cell.{Cell}
 use Rattle.symbols.specs.declared.Reading.{Reading}
 use Rattle.symbols.proofs.TestLaws.{same-test, holds, parts}
 use Rattle.symbols.proofs.ReadingLaws.{last-is-no-gap}
-use Rattle.symbols.proofs.UnitLaws.{unitsIn, bits-known, length-by-units, ragged-by-units}
+use Rattle.symbols.proofs.UnitLaws.{unitsSum, bits-known, length-by-units, ragged-by-units}
 use Rattle.symbols.proofs.CellLaws.{follows, sound, sound-rest, read-is-sound, last-append}
 use Rattle.symbols.proofs.HalfCells.{clockAfter, dataOf, cellsAfter, track}
 use Rattle.symbols.proofs.HalfLaws.{cells-after-append, track-of-letters}
@@ -36,12 +36,12 @@ use Rattle.symbols.proofs.PlaceLaws.{rows-of-few, lowest-of-append, by-
 -- Counts
 
 pub record Counted (m : Reading) (cs : List Cell) : Type 0 where
-  pub held : m .held + 16 * m .words ≡ unitsIn cs
+  pub held : m .held + 16 * m .words ≡ unitsSum cs
   pub few : m .held ≤ 16
-  pub some : 16 * m .words ≤ unitsIn cs - 1
+  pub some : 16 * m .words ≤ unitsSum cs - 1
 
 counted : (m : Reading) (cs : List Cell) → Reads m cs → Counted m cs
-unfolding freshReading unitsIn
+unfolding freshReading unitsSum
 counted m cs (inl e) = rw (e .0, e .1) (record { held = refl; few = omega arith; some = omega arith })
 counted m cs (inr so-far) =
     let o = so-far .0 in
@@ -77,7 +77,7 @@ module _ (m : Reading) (cs : List Cell) (r : Reads m cs) where
   pub reads-ragged : isRagged (readBits cs) ≡ not (eqb (m .held) 4)
   reads-ragged =
       ragged-by-units cs
-      ∙ ap not (same-test (unitsIn cs % 16) 4 (m .held) 4 (λ e. omega (arith, counts .held, counts .few))
+      ∙ ap not (same-test (unitsSum cs % 16) 4 (m .held) 4 (λ e. omega (arith, counts .held, counts .few))
       (λ e. rw (sym (counts .held)) (omega arith)))
 
   pub reads-bytes : m .held ≡ 4 → bytesRead (readBits cs) ≡ m .words

@@ -9,7 +9,7 @@ use Rattle.symbols.specs.Bits.{Bit, O, I, lastOf}
 use Rattle.symbols.specs.Reading.{given, lastAfter, readFrom, readBits, sourceOf, sourcesFrom, sources}
 use Rattle.symbols.specs.declared.Cell.{Cell}
 use Rattle.symbols.specs.declared.Cell.the-variants.{Short, Medium, Long}
-use Rattle.symbols.proofs.UnitLaws.{unitsIn}
+use Rattle.symbols.proofs.UnitLaws.{unitsSum}
 use Rattle.symbols.proofs.HalfCells.{clockAfter, dataOf, cellsAfter, halves, track, clockAtEnd, onesAmong}
 use Rattle.symbols.proofs.HalfCells.{fromLetter}
 
@@ -31,8 +31,8 @@ halves-append (Short ∷ cs) ds = rw (halves-append cs ds)
 halves-append (Medium ∷ cs) ds = rw (halves-append cs ds)
 halves-append (Long ∷ cs) ds = rw (halves-append cs ds)
 
-pub halves-length : (cs : List Cell) → length (halves cs) ≡ unitsIn cs
-unfolding halves unitsIn
+pub halves-length : (cs : List Cell) → length (halves cs) ≡ unitsSum cs
+unfolding halves unitsSum
 halves-length [] = refl
 halves-length (Short ∷ cs) = omega (arith, halves-length cs)
 halves-length (Medium ∷ cs) = omega (arith, halves-length cs)

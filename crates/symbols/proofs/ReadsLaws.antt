@@ -16,7 +16,7 @@ use Rattle.symbols.specs.machine.Step.{freshReading}
 use Rattle.symbols.specs.declared.Cell.{Cell}
 use Rattle.symbols.specs.declared.Reading.{Reading}
 use Rattle.symbols.proofs.PlaceLaws.{rows-append, rows-of-few, strays-length}
-use Rattle.symbols.proofs.UnitLaws.{unitsIn}
+use Rattle.symbols.proofs.UnitLaws.{unitsSum}
 use Rattle.symbols.proofs.HalfCells.{track}
 
 -- after some cells: `front` are the tests of the letters whose gaps were shown
@@ -27,7 +27,7 @@ pub record Open (m : Reading) (cs : List Cell) : Type 0 where
   pub front : List Bool
   pub letters : readBits cs ≡ lead ∷ before ++ rest
   pub whole : length before ≡ 8 * m .words
-  pub held : m .held + 16 * m .words ≡ unitsIn cs
+  pub held : m .held + 16 * m .words ≡ unitsSum cs
   pub bits : m .bits ≡ numberFrom 0 (track cs) % 2 ^ 32
   pub strays : isGap lead ∷ straysOf (rowsOf before) ≡ front ++ (isGap (lastOf lead before) ∷ [])
   pub stray : m .stray ≡ anywhere passed front

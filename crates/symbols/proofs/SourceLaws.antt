@@ -13,7 +13,7 @@ use Rattle.symbols.specs.Bytes.{numberFrom}
 use Rattle.symbols.specs.Reading.{readBits, sources}
 use Rattle.symbols.specs.declared.Cell.{Cell}
 use Rattle.symbols.specs.declared.Cell.the-variants.{Short, Medium, Long}
-use Rattle.symbols.proofs.UnitLaws.{unitsIn}
+use Rattle.symbols.proofs.UnitLaws.{unitsSum}
 use Rattle.symbols.proofs.HalfCells.{halves, track, fromLetter}
 use Rattle.symbols.proofs.HalfLaws.{halves-length, source-of-letter}
 use Rattle.symbols.proofs.NumberLaws.{ones-of-number, last-digits}
@@ -36,14 +36,14 @@ cells-before (suc i) (c ∷ []) h = absurd (omega arith)
 cells-before (suc i) (c ∷ d ∷ hs) h =
     let (front, e, n) = cells-before i hs (omega arith) in (c ∷ d ∷ front, rw (← e), omega arith)
 
-module _ (cs : List Cell) (i q : ℕ) (inside : i < length (readBits cs)) (size : unitsIn cs ≡ i + i + (q + 1)) where
+module _ (cs : List Cell) (i q : ℕ) (inside : i < length (readBits cs)) (size : unitsSum cs ≡ i + i + (q + 1)) where
   abbrev all : ℕ
   all = numberFrom 0 (track cs)
 
   abbrev rest : List Bit
   rest = fromLetter i (track cs)
 
-  long : length (track cs) ≡ suc (unitsIn cs)
+  long : length (track cs) ≡ suc (unitsSum cs)
   unfolding track
   long = ap suc (halves-length cs)
 

@@ -26,7 +26,7 @@ use Rattle.symbols.specs.declared.Cell.the-variants.{Short, Medium, Long
 use Rattle.symbols.specs.declared.Reading.{Reading}
 use Rattle.symbols.proofs.CellLaws.{more, bits-grown}
 use Rattle.symbols.proofs.PlaceLaws.{source-kept}
-use Rattle.symbols.proofs.UnitLaws.{unitsIn, length-by-units, units-range}
+use Rattle.symbols.proofs.UnitLaws.{unitsSum, length-by-units, units-range}
 use Rattle.symbols.proofs.HalfCells.{halves, track}
 use Rattle.symbols.proofs.HalfLaws.{halves-append}
 use Rattle.symbols.proofs.NumberLaws.{number-append}
@@ -67,8 +67,8 @@ shifted-number n Short = shifted-in n 30 2 (omega arith) ∙ ap (λ (x : ℕ). x
 shifted-number n Medium = shifted-in n 29 3 (omega arith) ∙ ap (λ (x : ℕ). x % 2 ^ 32) (omega arith)
 shifted-number n Long = shifted-in n 28 4 (omega arith) ∙ ap (λ (x : ℕ). x % 2 ^ 32) (omega arith)
 
-units-at-most : (cs : List Cell) → unitsIn cs ≤ 4 * length cs
-unfolding unitsIn
+units-at-most : (cs : List Cell) → unitsSum cs ≤ 4 * length cs
+unfolding unitsSum
 units-at-most [] = omega arith
 units-at-most (c ∷ cs) = omega (arith, units-range c .1, units-at-most cs)
 
@@ -80,8 +80,8 @@ bits-shifted m cs c e =
     rw (e, halves-append cs (c ∷ []), number-append 0 (I ∷ halves cs) (halves (c ∷ [])))
     (shifted-number (numberFrom 0 (I ∷ halves cs)) c)
 
-units-grown : (cs : List Cell) (c : Cell) → unitsIn (cs ++ (c ∷ [])) ≡ unitsIn cs + units c
-unfolding unitsIn
+units-grown : (cs : List Cell) (c : Cell) → unitsSum (cs ++ (c ∷ [])) ≡ unitsSum cs + units c
+unfolding unitsSum
 units-grown [] c = omega arith
 units-grown (d ∷ cs) c = omega (arith, units-grown cs c)
 
@@ -89,7 +89,7 @@ units-grown (d ∷ cs) c = omega (arith, units-grown cs c)
 
 first-opens :
     (m : Reading) (c : Cell) (lead : Bit) (rest : List Bit) → readBits (c ∷ []) ≡ lead ∷ rest → length rest < 8
-    → m .words ≡ 0 → m .held ≡ unitsIn (c ∷ []) → m .bits ≡ numberFrom 0 (track (c ∷ [])) % 2 ^ 32 → m .stray ≡ false
+    → m .words ≡ 0 → m .held ≡ unitsSum (c ∷ []) → m .bits ≡ numberFrom 0 (track (c ∷ [])) % 2 ^ 32 → m .stray ≡ false
     → Held m (c ∷ [])
 unfolding rowsOf straysOf anywhere lastOf
 first-opens m c lead rest letters few none held bits fair = (
@@ -111,7 +111,7 @@ first-opens m c lead rest letters few none held bits fair = (
 
 first-after : (c : Cell) → After freshReading [] c (stepped freshReading c 0)
 unfolding stepped steppedBy wordBy wordClosed shifted freshReading isStray straysRead itemsRead rowsOf anywhere readBits
-    readFrom given lastAfter unitsIn track halves numberFrom
+    readFrom given lastAfter unitsSum track halves numberFrom
 first-after Short =
     record {
       reads = first-opens _ Short _ _ refl (omega arith) refl refl refl refl;
@@ -160,7 +160,7 @@ module _ (m : Reading) (cs : List Cell) (so-far : Held m cs) (room : length cs <
   unfolding shifted
   held-grown = mod-eq-of-lt (omega (arith, held-before, units-range c .1))
 
-  held-counts : m₁ .held + 16 * m .words ≡ unitsIn cs′
+  held-counts : m₁ .held + 16 * m .words ≡ unitsSum cs′
   held-counts = omega (arith, held-grown, o .held, units-grown cs c)
 
   -- half cells by letters

@@ -23,19 +23,19 @@ use Rattle.symbols.proofs.ReadingLaws.{last-of-given, last-of-snoc, cel
 use Rattle.symbols.proofs.RoundTripLaws.{cells-are-read, read-of-write, bits-count}
 
 -- the sum of some cells in units
-unfoldable pub unitsIn : List Cell → ℕ
-unitsIn [] = 0
-unitsIn (c ∷ cs) = units c + unitsIn cs
+unfoldable pub unitsSum : List Cell → ℕ
+unitsSum [] = 0
+unitsSum (c ∷ cs) = units c + unitsSum cs
 
-sum-of-units : (cs : List Cell) → sumOf (map units cs) ≡ unitsIn cs
-unfolding sumOf unitsIn
+sum-of-units : (cs : List Cell) → sumOf (map units cs) ≡ unitsSum cs
+unfolding sumOf unitsSum
 sum-of-units [] = refl
 sum-of-units (c ∷ cs) = rw (sum-of-units cs)
 
 -- two units to a bit; after a 1 one unit of the next bit is already there
 pub units-of-bits :
-    (b : Bit) (cs : List Cell) → 2 * length (readFrom b cs) + digit b ≡ unitsIn cs + digit (lastOf b (readFrom b cs))
-unfolding unitsIn readFrom lastOf
+    (b : Bit) (cs : List Cell) → 2 * length (readFrom b cs) + digit b ≡ unitsSum cs + digit (lastOf b (readFrom b cs))
+unfolding unitsSum readFrom lastOf
 units-of-bits b [] = omega arith
 units-of-bits b (c ∷ cs) =
     rw (length-append (given b c), last-of-given b c)
@@ -73,23 +73,23 @@ by-units l u h =
     ]
 
 module _ (cs : List Cell) where
-  pub bits-known : 2 * length (readBits cs) ≡ unitsIn cs + digit (lastOf O (readBits cs))
+  pub bits-known : 2 * length (readBits cs) ≡ unitsSum cs + digit (lastOf O (readBits cs))
   unfolding readBits
   bits-known = omega (arith, units-of-bits O cs)
 
-  pub length-by-units : length (readBits cs) ≡ (unitsIn cs + 1) / 2
+  pub length-by-units : length (readBits cs) ≡ (unitsSum cs + 1) / 2
   length-by-units = omega (arith, bits-known, digit-is-small (lastOf O (readBits cs)))
 
-  pub last-by-units : endsInOne (readBits cs) ≡ eqb (unitsIn cs % 2) 1
+  pub last-by-units : endsInOne (readBits cs) ≡ eqb (unitsSum cs % 2) 1
   unfolding endsInOne
   last-by-units =
-      one-by-digit (lastOf O (readBits cs)) (unitsIn cs % 2)
+      one-by-digit (lastOf O (readBits cs)) (unitsSum cs % 2)
       (omega (arith, bits-known, digit-is-small (lastOf O (readBits cs))))
 
   -- not ragged exactly where the units are 16 n + 4
-  pub ragged-by-units : isRagged (readBits cs) ≡ not (eqb (unitsIn cs % 16) 4)
+  pub ragged-by-units : isRagged (readBits cs) ≡ not (eqb (unitsSum cs % 16) 4)
   unfolding isRagged
-  ragged-by-units = rw last-by-units (by-units (length (readBits cs)) (unitsIn cs) length-by-units)
+  ragged-by-units = rw last-by-units (by-units (length (readBits cs)) (unitsSum cs) length-by-units)
 
 -- Counts
 

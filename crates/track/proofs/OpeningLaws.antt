@@ -17,7 +17,8 @@ use Rattle.refusal.specs.Answer.{Answer}
 use Rattle.timing.specs.Class.{classesOf}
 use Rattle.timing.specs.declared.Profile.{Profile}
 use Rattle.fields.specs.Field.{fieldItems}
-use Rattle.fields.specs.FieldRule.{GathersItems, fieldTurnedAway, fieldRule, fieldReading}
+use Rattle.fields.specs.FieldRule.{fieldTurnedAway, fieldRule, fieldReading}
+use Rattle.fields.specs.machine.Gather.{GathersItems}
 use Rattle.fields.specs.Lock.{beginsWith}
 use Rattle.fields.specs.machine.Marks.{threeMarks}
 use Rattle.fields.proofs.FieldLaws.{field-items-count}

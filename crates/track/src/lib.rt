@@ -1,5 +1,4 @@
-// Document 02, (iii): what is on a track, one search at a time. Who asks for the index keeps the entries, so that they
-// stand on the stack once, in the form in which they are handed back.
+// Document 02, (iii): what is on a track, one search at a time.
 ghost use Prim.Native.Nat.{_<_};
 ghost use mathlib.Core.Path.{_≡_};
 ghost use lib.ListN.{length};
@@ -9,11 +8,15 @@ use content::find_data;
 use fields::finder::search;
 use id::IdRead;
 use id::read_id;
+pub use index::IndexEntry;
+pub use index::TrackIndex;
+pub use index::index_track;
 use refusal::Counted;
 use timing::Profile;
 
 mod content;
 mod id;
+mod index;
 mod opening;
 
 // An entry's data field: the place of its lock and whether its sum holds, or that none was found.
@@ -75,7 +78,7 @@ fn look_at(p: Profile, intervals: &[u16], k: usize) -> Step
 }
 
 // One search, from `start` on. The next starts at least 64 intervals after this one, so that they come to an end.
-pub fn find_entry(p: Profile, intervals: &[u16], start: usize) -> Step
+fn find_entry(p: Profile, intervals: &[u16], start: usize) -> Step
     requires { ⌜ profileRule p .number ≡ 0 ⌝ }
     ensures { λ r. ⌜ r ≡ stepFrom p (now (intervals .entry)) start ⌝ }
 {

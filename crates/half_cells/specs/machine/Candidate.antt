@@ -1,4 +1,5 @@
--- Machine, not meaning: laws above tie it to bytes (`symbols/proofs/WordLaws`, `images/proofs/ReadLaws`). No lemmas here.
+-- Machine, not meaning: laws above tie it to bytes (`symbols/proofs/WordLaws`: `word-verdict`; `images/proofs/ReadLaws`:
+-- `owner-is-candidate`, `ruly-where-candidate-has`). No lemmas here.
 -- The one byte that can have a word, found without a search.
 use Prim.Native.Nat.{ℕ, _+_, _/_}
 use mathlib.Core.Bool.{cond}

@@ -1,4 +1,4 @@
--- Machine, not meaning: laws above tie it to Bytes (`symbols/proofs/WordLaws`). No lemmas here.
+-- Machine, not meaning: laws above tie it to Bytes (`symbols/proofs/WordLaws`: `word-verdict`). No lemmas here.
 -- What the half cells of a byte say. A word x has 17: at place 16 the data bit before the byte, then the byte's clock
 -- and data bits in turn, most significant first. So its data bits stand at the even places.
 use Prim.Native.Nat.{ℕ, _+_, _-_, _*_, _%_, _^_}

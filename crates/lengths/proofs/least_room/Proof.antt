@@ -1,12 +1,13 @@
 -- Why `lengths::least_room` answers `marginOf`: it takes the definition's minima, from the last room on. Rests on no
 -- axiom.
 use borrow.Author.Needs.{needs}
-use Rattle.lengths.specs.Margin.{roomsOf, leastOf, marginOf}
+use Rattle.lists.specs.Span.{least}
+use Rattle.lengths.specs.Margin.{roomsOf, marginOf}
 use Rattle.lengths.proofs.least_room.Statement.{statement}
 use Rattle.lengths.proofs.least_room.Tie as tie
 
 returns : tie.Need-returns
-unfolding marginOf leastOf roomsOf
+unfolding marginOf least roomsOf
 returns c =
     let made = c .before .before .before .before .before .before .before .before .before in
     rw (

@@ -3,7 +3,7 @@
 use mathlib.Core.Path.{refl, sym, ap}
 use borrow.Author.Needs.{needs}
 use Rattle.refusal.specs.Answer.{Answer}
-use Rattle.merge.specs.Index.{checkedRule}
+use Rattle.merge.specs.machine.Index.{checkedRule}
 use Rattle.merge.proofs.SettleLaws.{refusal-settles, acceptance-leaves}
 use Rattle.merge.proofs.CountLaws.{set-is-short}
 use Rattle.merge.proofs.RuleLaws.{accepted-sets-fit}

@@ -7,7 +7,7 @@ use lib.Seq.{length-take-le}
 use borrow.Author.Needs.{needs}
 use Rattle.refusal.proofs.AnswerLaws.{accepted-later, number-is-not-zero, refused-earlier}
 use Rattle.script.specs.Input.{itemsIn, profileIn, inputRule}
-use Rattle.script.specs.Read.{scriptAnswer}
+use Rattle.script.specs.machine.Read.{scriptAnswer}
 use Rattle.script.proofs.ScriptLaws.{items-fit, items-stand-in-front}
 use Rattle.strip.specs.Program.{programRule, programText, scriptText}
 use Rattle.strip.proofs.OutputLaws.{printed-is-front}

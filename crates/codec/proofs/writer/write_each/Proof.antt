@@ -10,9 +10,9 @@ use Rattle.items.specs.declared.Check.{Check}
 use Rattle.items.proofs.ItemLaws.{bytes-of-bounds}
 use Rattle.items.proofs.WrittenLaws.{written-from-place, written-from-end, length-of-item-bytes}
 use Rattle.codec.specs.machine.Pen.{Room}
-use Rattle.codec.specs.machine.Track.{Writing, writing, freshTrack, wrote, Holds}
-use Rattle.codec.proofs.TrackLaws.{wrote-of-append, wrote-none, same-length-of-whole, room-after-bytes}
-use Rattle.codec.proofs.TrackLaws.{room-carries, holds-before}
+use Rattle.codec.specs.machine.Bytes.{Writing, writing, freshTrack, wrote, Holds}
+use Rattle.codec.proofs.BytesLaws.{wrote-of-append, wrote-none, same-length-of-whole, room-after-bytes}
+use Rattle.codec.proofs.BytesLaws.{room-carries, holds-before}
 use denote.Ref.{now}
 use Rattle.codec.proofs.writer.write_each.Statement.{statement}
 use Rattle.codec.proofs.writer.write_each.Tie as tie

@@ -11,8 +11,8 @@ use Rattle.items.specs.Item.{isCheck}
 use Rattle.items.specs.Written.{itemBytes}
 use Rattle.items.specs.declared.Check.{Check}
 use Rattle.items.proofs.WrittenLaws.{item-bytes-of-check, item-bytes-of-byte}
-use Rattle.codec.specs.machine.Track.{Writing, writing, wroteByte, wrote, Holds}
-use Rattle.codec.proofs.TrackLaws.{room-after-byte, room-carries, holds-before}
+use Rattle.codec.specs.machine.Bytes.{Writing, writing, wroteByte, wrote, Holds}
+use Rattle.codec.proofs.BytesLaws.{room-after-byte, room-carries, holds-before}
 use denote.Ref.{now}
 use Rattle.codec.proofs.writer.write_item.Statement.{statement}
 use Rattle.codec.proofs.writer.write_item.Tie as tie

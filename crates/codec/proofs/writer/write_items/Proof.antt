@@ -10,9 +10,9 @@ use Rattle.items.specs.Item.{writtenBytes}
 use Rattle.items.specs.Written.{written}
 use Rattle.items.proofs.ItemLaws.{one-byte-each-is-no-check}
 use Rattle.items.proofs.WrittenLaws.{written-of-no-check}
-use Rattle.codec.specs.machine.Track.{writing, freshTrack, wrote}
-use Rattle.codec.specs.declared.track.Track.{Track}
-use Rattle.codec.proofs.TrackLaws.{room-after-bytes, room-carries}
+use Rattle.codec.specs.machine.Bytes.{writing, freshTrack, wrote}
+use Rattle.codec.specs.declared.bytes.Track.{Track}
+use Rattle.codec.proofs.BytesLaws.{room-after-bytes, room-carries}
 use denote.Ref.{now}
 use Rattle.codec.proofs.writer.write_items.Statement.{statement}
 use Rattle.codec.proofs.writer.write_items.Tie as tie

@@ -3,7 +3,7 @@ use mathlib.Core.Path.{refl, _∙_}
 use borrow.Author.Tests.{lt-ltb, le-ltb}
 use borrow.Author.Needs.{needs}
 use Rattle.lists.proofs.StoreLaws.{stored-at-front-fills}
-use Rattle.fields.specs.FieldRule.{deliverRule, deliverReading, deliverOutput}
+use Rattle.fields.specs.machine.Gather.{deliverRule, deliverReading, deliverOutput}
 use Rattle.fields.proofs.reader.deliver.Statement.{statement}
 use Rattle.fields.proofs.reader.deliver.Tie as tie
 

@@ -6,7 +6,7 @@ use native.Mathlib.Omega.{arith}
 use lib.ListN.{length, take}
 use lib.Seq.{length-take-le}
 use Rattle.refusal.specs.Answer.{countedAnswer}
-use Rattle.fields.specs.FieldRule.{deliverReading}
+use Rattle.fields.specs.machine.Gather.{deliverReading}
 use Rattle.fields.proofs.RuleLaws.{gather-refuses, gather-keeps, gather-reads, gather-delivers}
 use borrow.Author.Needs.{needs}
 use Rattle.fields.proofs.reader.read_into.Statement.{statement}

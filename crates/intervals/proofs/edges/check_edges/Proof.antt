@@ -5,7 +5,7 @@ use borrow.Author.Needs.{needs}
 use Rattle.timing.proofs.ClassLaws.{classes-from-start}
 use Rattle.timing.proofs.EdgeLaws.{accepted-ascends}
 use Rattle.intervals.specs.Cells.{edgeRule}
-use Rattle.intervals.proofs.NearLaws.{all-cells-are-fair}
+use Rattle.intervals.proofs.TakenAsLaws.{all-cells-are-fair}
 use Rattle.intervals.proofs.edges.check_edges.Statement.{statement}
 use Rattle.intervals.proofs.edges.check_edges.Tie as tie
 

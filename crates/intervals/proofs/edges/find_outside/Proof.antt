@@ -9,7 +9,7 @@ use borrow.Author.Needs.{needs}
 use Rattle.timing.specs.Class.{classesFrom}
 use Rattle.timing.proofs.ClassLaws.{classes-none, classes-here}
 use Rattle.intervals.specs.Cells.{edgeRule, edgeRuleFrom}
-use Rattle.intervals.proofs.NearLaws.{narrow-is-refused, wide-is-refused, cell-is-passed}
+use Rattle.intervals.proofs.TakenAsLaws.{narrow-is-refused, wide-is-refused, cell-is-passed}
 use Rattle.intervals.proofs.edges.find_outside.Statement.{statement}
 use Rattle.intervals.proofs.edges.find_outside.Tie as tie
 

@@ -4,7 +4,7 @@ use native.Mathlib.Omega.{arith}
 use borrow.Author.Tests.{eq-eqb, ne-eqb}
 use borrow.Author.Needs.{needs}
 use Rattle.merge.specs.Set.{sectorOf}
-use Rattle.merge.specs.Index.{sectorAt, takesSecond}
+use Rattle.merge.specs.machine.Index.{sectorAt, takesSecond}
 use Rattle.merge.proofs.ChoiceLaws.{zero-shows-nothing, place-shows-one, single-entries}
 use Rattle.merge.proofs.choice.takes_second.Statement.{statement}
 use Rattle.merge.proofs.choice.takes_second.Tie as tie

@@ -8,7 +8,7 @@ use native.Mathlib.Omega.{arith}
 use lib.ListN.{drop}
 use borrow.Author.Needs.{needs}
 use Rattle.merge.specs.Merge.{howMany, numbers}
-use Rattle.merge.specs.Index.{entryInEither}
+use Rattle.merge.specs.machine.Index.{entryInEither}
 use Rattle.merge.proofs.NumberLaws.{numbers-end, numbers-from}
 use Rattle.merge.proofs.index.count_numbers.Statement.{statement}
 use Rattle.merge.proofs.index.count_numbers.Tie as tie

@@ -7,7 +7,7 @@ use native.Mathlib.Omega.{arith}
 use lib.ListN.{length, drop, drop-of-length-le}
 use borrow.Author.Needs.{needs}
 use Rattle.merge.specs.Set.{setOf}
-use Rattle.merge.specs.Index.{countRule}
+use Rattle.merge.specs.machine.Index.{countRule}
 use Rattle.merge.proofs.SetLaws.{set-of-none}
 use Rattle.merge.proofs.PlaceLaws.{misfit-ends-the-count, Whole, count-with-first, sector-is-whole}
 use Rattle.merge.proofs.index.count_sectors.Statement.{statement}

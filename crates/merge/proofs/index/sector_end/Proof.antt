@@ -1,7 +1,7 @@
 -- Why `merge::index::sector_end` answers `endRule`: it makes the same three tests in the same order. Rests on no
 -- axiom.
 use borrow.Author.Tests.{lt-ltb, le-ltb}
-use Rattle.merge.specs.Index.{endRule}
+use Rattle.merge.specs.machine.Index.{endRule}
 use borrow.Author.Needs.{needs}
 use Rattle.merge.proofs.index.sector_end.Statement.{statement}
 use Rattle.merge.proofs.index.sector_end.Tie as tie

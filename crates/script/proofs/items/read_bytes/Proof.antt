@@ -11,7 +11,7 @@ use Rattle.lists.proofs.PlaceLaws.{everywhere-of-none, everywhere-of-passing}
 use Rattle.text.specs.Hex.{isHexByte}
 use Rattle.text.proofs.HexLaws.{malformed-is-no-byte, value-is-byte}
 use Rattle.script.specs.Line.{areBytes, raised}
-use Rattle.script.specs.Read.{fieldsAfter}
+use Rattle.script.specs.machine.Read.{fieldsAfter}
 use Rattle.script.proofs.FieldLaws.{field-ends-in-line, fields-next, fields-at-the-end}
 use Rattle.script.proofs.ByteLaws.{bytes-from-tab, few-bytes}
 use Rattle.script.proofs.BufferLaws.{Storing, all-is-left, rest-is-left, nothing-is-left, faulty-read}

@@ -11,7 +11,7 @@ use lib.ListN.{length, take, drop, length-take, length-drop, drop-of-length-le}
 use Rattle.text.specs.Ascii.{lineFeed}
 use Rattle.text.specs.Pieces.{piecesOf}
 use Rattle.script.specs.Input.{garbledFrom, itemsOfLines}
-use Rattle.script.specs.Read.{isRead}
+use Rattle.script.specs.machine.Read.{isRead}
 use Rattle.script.proofs.BufferLaws.{Storing, all-is-left, rest-is-left, nothing-is-left}
 use Rattle.script.proofs.ByteLaws.{few-items}
 use Rattle.script.proofs.InputLaws.{line-ends-in-text, lines-next, no-line-feed, garbled-next, items-next}

@@ -8,7 +8,7 @@ use borrow.Author.Needs.{needs}
 use lib.ListN.{length, take, drop, length-set}
 use Rattle.text.specs.Decimal.{valueOf}
 use Rattle.text.proofs.DecimalLaws.{malformed-is-no-decimal, number-is-decimal}
-use Rattle.script.specs.Read.{fieldsAfter}
+use Rattle.script.specs.machine.Read.{fieldsAfter}
 use Rattle.script.proofs.FieldLaws.{field-ends-in-line, fields-next, fields-at-the-end}
 use Rattle.script.proofs.NumberLaws.{fitting, fitting-without-place, fitting-at-malformed, fitting-after-number}
 use Rattle.script.proofs.NumberLaws.{number-stored, no-numbers-read, all-numbers-read}

@@ -11,7 +11,7 @@ use Rattle.refusal.specs.Table.{numberOf, placeOf}
 use Rattle.text.specs.Ascii.{ascii}
 use Rattle.text.specs.Line.{lineOf}
 use Rattle.strip.specs.Output.{refusalText}
-use Rattle.strip.specs.Printed.{outputLength}
+use Rattle.strip.specs.machine.Room.{outputLength}
 use Rattle.strip.proofs.OutputLaws.{printed-at-front, refusal-fits}
 use Rattle.strip.proofs.output.refuse.Statement.{statement}
 use Rattle.strip.proofs.output.refuse.Tie as tie

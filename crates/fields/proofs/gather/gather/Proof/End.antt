@@ -37,9 +37,9 @@ use Rattle.intervals.specs.Cells.{edgeRule}
 use Rattle.intervals.specs.machine.Pass.{Passed, passed}
 use Rattle.intervals.specs.declared.Pass.{Pass}
 use Rattle.intervals.proofs.CellLaws.{classOfCell, cellOfUnits}
-use Rattle.intervals.proofs.NearLaws.{nearCells, units-of-near-cells, classes-are-near}
+use Rattle.intervals.proofs.TakenAsLaws.{takenCells, units-of-taken-cells, classes-are-taken-as}
 use Rattle.fields.specs.Field.{bitsWanted, fieldStop, fieldCells, fieldUsed, fieldItems}
-use Rattle.fields.specs.FieldRule.{gatherRule}
+use Rattle.fields.specs.machine.Gather.{gatherRule}
 use Rattle.fields.specs.machine.End.{fieldPassed, itemsPassed, endRule}
 use Rattle.fields.proofs.TakenLaws.{SameFront}
 use Rattle.fields.proofs.EnoughLaws.{classesOfCells, used-of-cells}
@@ -48,7 +48,7 @@ use Rattle.fields.proofs.FieldLaws.{field-stray-of-cells, field-place-o
 use Rattle.fields.proofs.RuleLaws.{gather-stops-nowhere, gather-meets-no-stray}
 use Rattle.fields.proofs.AgreeLaws.{same-items, same-gather}
 use Rattle.fields.proofs.FieldPassLaws.{Ran, still-wanted, pass-over-field}
-use Rattle.fields.proofs.NearFieldLaws.{NearField, near-field}
+use Rattle.fields.proofs.TakenFieldLaws.{TakenField, taken-field}
 
 -- ---- a field of cells
 
@@ -160,10 +160,10 @@ module _ (p : Profile) (ds : List ℕ) (n : ℕ) (r : Pass) where
       (read : r ≡ fieldPassed p ds n .end)
     where
       abbrev xs : List Cell
-      xs = nearCells (atStart p) ds
+      xs = takenCells (atStart p) ds
 
       same-pass : fieldPassed p ds n ≡ passed n (map units xs)
-      same-pass = ap (passed n) (sym (units-of-near-cells (atStart p) ds))
+      same-pass = ap (passed n) (sym (units-of-taken-cells (atStart p) ds))
 
       same-end-of-pass : r ≡ passed n (map units xs) .end
       same-end-of-pass = read ∙ ap (λ (q : Passed). q .end) same-pass
@@ -171,19 +171,19 @@ module _ (p : Profile) (ds : List ℕ) (n : ℕ) (r : Pass) where
       used-is : r .used ≡ length (fieldCells (classesOfCells xs) n)
       used-is = rw same-end-of-pass (all-used xs n (range .0) (range .1))
 
-      near : NearField (classesOf p ds) xs 0 (bitsWanted n) O
-      near =
-          near-field (rw (classes-from-start p ds) (classes-are-near (atStart p) ds (accepted-ascends p accepts))) 0
+      taken : TakenField (classesOf p ds) xs 0 (bitsWanted n) O
+      taken =
+          taken-field (rw (classes-from-start p ds) (classes-are-taken-as (atStart p) ds (accepted-ascends p accepts))) 0
           (bitsWanted n) O
 
       stop-is : fieldStop (classesOf p ds) n ≡ firstRefusal edges (fieldStop (classesOfCells xs) n)
       unfolding fieldStop fieldCells edgeRule
-      stop-is = rw used-is (near .stop)
+      stop-is = rw used-is (taken .stop)
 
       same-front : edges .number ≡ 0 → SameFront (classesOfCells xs) (classesOf p ds) 0 (bitsWanted n) O
       unfolding fieldStop fieldCells edgeRule
       same-front fair =
-          record { cells = near .cells (rw used-is at fair); stop = stop-is ∙ first-refusal-passes edges _ fair }
+          record { cells = taken .cells (rw used-is at fair); stop = stop-is ∙ first-refusal-passes edges _ fair }
 
       pub field-ends : FieldEnds
       unfolding gatherRule fieldUsed

@@ -10,18 +10,19 @@ use native.Mathlib.Omega.{arith}
 use lib.Dec.{eqb}
 use lib.ListN.{length, getD, set, drop, drop-of-length-le, length-append}
 use lib.Seq.{drop-cons}
+use Rattle.lists.specs.Sum.{sumOf}
+use Rattle.lists.proofs.SumLaws.{sum-of-append, sum-of-small}
 use Rattle.timing.specs.Class.{classIn, classesFrom, cursorPast, classed, classNumber}
 use Rattle.timing.specs.declared.Class.{Class}
 use Rattle.timing.specs.declared.Class.the-variants.{Narrow, Two, Three, Four, Wide}
 use Rattle.timing.specs.declared.cursor.Cursor.{Cursor}
 use Rattle.timing.specs.declared.cursor.Classed.{Classed}
 use Rattle.timing.proofs.ClassLaws.{classes-none, classes-here}
-use Rattle.report.specs.Row.{total, rowOf, addRow, isOverlarge}
+use Rattle.report.specs.Row.{rowOf, addRow, isOverlarge}
 use Rattle.report.specs.Report.{Report, rowAt, rowsBy, ofClass, reportBy, reportFrom, noReport}
-use Rattle.report.proofs.RowLaws.{row-of-none, row-of-append, row-fits, total-of-append}
+use Rattle.report.proofs.RowLaws.{row-of-none, row-of-append, row-fits}
 use Rattle.report.proofs.AddLaws.{same-report}
 use Rattle.report.proofs.WholeLaws.{of-class-at-most}
-use Rattle.report.proofs.ReportLaws.{total-of-small}
 
 -- what a class has of the intervals from a cursor on
 abbrev pub has : Cursor → List ℕ → Class → List ℕ
@@ -142,13 +143,13 @@ module _
         → ((i : ℕ) → getD ds i 0 ≤ 65535)
         → s ≡ classed cursor d
         → isOverlarge (addRow (rowAt rows (classNumber (s .class) - 1)) (rowOf (d ∷ []))) ≡ false
-    unfolding rowOf total
+    unfolding rowOf sumOf
     renewed-row-fits h long small step =
         let counts : length mine + _ ≡ length (has start ds e) =
         sym (length-append mine _) ∙ ap length (mine-first h) in
-        let sums : total mine + _ ≡ total (has start ds e) = sym (total-of-append mine _) ∙ ap total (mine-first h) in
+        let sums : sumOf mine + _ ≡ sumOf (has start ds e) = sym (sum-of-append mine _) ∙ ap sumOf (mine-first h) in
         let count = of-class-at-most length (λ d. 1) refl (λ d es. omega arith) e (classesFrom start ds) ds in
-        let sum = of-class-at-most total (λ d. d) refl (λ d es. refl) e (classesFrom start ds) ds in
-        let limit = total-of-small 65535 ds small in
+        let sum = of-class-at-most sumOf (λ d. d) refl (λ d es. refl) e (classesFrom start ds) ds in
+        let limit = sum-of-small 65535 ds small in
         rw (step, g .rows-are, row-of-class (g .seen) e)
         (cc (more (g .seen) d e, row-fits (rowOf mine) (omega arith) (omega arith)))

@@ -1,0 +1,93 @@
+-- An interval taken as a cell by the edges between the windows: where it is a cell it is that one, so that a list in which
+-- none is narrow or wide has exactly these cells. By induction on the list. Rests on no axiom.
+use Prim.Native.Nat.{ℕ, suc}
+use mathlib.Core.Path.{_≡_, refl, ap, _∙_}
+use mathlib.Core.Bool.{true}
+use mathlib.Core.List.{List, [], _∷_, map}
+use Rattle.lists.specs.Place.{everywhere}
+use Rattle.lists.proofs.BoolLaws.{both}
+use Rattle.refusal.specs.Answer.{accepted, refused}
+use Rattle.timing.specs.Class.{classIn, isCell, classNumber, cursorPast, classesFrom, Ascending}
+use Rattle.timing.specs.machine.Edges.{unitsIn, unitsFrom}
+use Rattle.timing.specs.declared.Class.{Class}
+use Rattle.timing.specs.declared.Class.the-variants.{Narrow, Two, Three, Four, Wide}
+use Rattle.timing.specs.declared.cursor.Cursor.{Cursor}
+use Rattle.timing.proofs.ClassLaws.{classes-none, classes-cons}
+use Rattle.timing.proofs.EdgeLaws.{ascending-past}
+use Rattle.timing.proofs.UnitsLaws.{units-none, units-cons, units-in-range, units-of-cell}
+use Rattle.symbols.specs.Reading.{units}
+use Rattle.symbols.specs.declared.Cell.{Cell}
+use Rattle.intervals.specs.Cells.{edgeRuleFrom, cellsOfClasses}
+use Rattle.intervals.proofs.CellLaws.{ReadAs, cellOfUnits, units-of-its-cell, cell-is-read-as, read-first}
+use Rattle.intervals.proofs.CellLaws.{fair-first, same-number}
+
+-- the cells that intervals are taken as
+abbrev pub takenCells : Cursor → List ℕ → List Cell
+takenCells c ds = map cellOfUnits (unitsFrom c ds)
+
+pub units-of-taken-cells : (c : Cursor) (ds : List ℕ) → map units (takenCells c ds) ≡ unitsFrom c ds
+units-of-taken-cells c [] = rw (units-none c)
+units-of-taken-cells c (d ∷ ds) =
+    let range = units-in-range c d in
+    rw (units-cons c d ds)
+    (cc (units-of-its-cell (unitsIn c d) (range .0) (range .1), units-of-taken-cells (cursorPast c d) ds))
+
+-- classes, and cells that they are read as where they are cells
+pub data TakenAs : List Class → List Cell → Type 0 where
+  taken-none : TakenAs [] []
+  taken-more
+      : {c : Class} {x : Cell} {cs : List Class} {xs : List Cell}
+      → (isCell c ≡ true → ReadAs c x)
+      → TakenAs cs xs
+      → TakenAs (c ∷ cs) (x ∷ xs)
+
+pub classes-are-taken-as : (c : Cursor) (ds : List ℕ) → Ascending c → TakenAs (classesFrom c ds) (takenCells c ds)
+classes-are-taken-as c [] up = rw (classes-none c, units-none c) taken-none
+classes-are-taken-as c (d ∷ ds) up =
+    rw (classes-cons c d ds, units-cons c d ds)
+    (taken-more {c = classIn c d} {x = cellOfUnits (unitsIn c d)}
+    (λ cell. rw (units-of-cell c d up cell) (cell-is-read-as (classIn c d) cell))
+    (classes-are-taken-as (cursorPast c d) ds (ascending-past c d up)))
+
+-- where none is narrow or wide, they are the cells
+pub taken-are-cells
+    : {cs : List Class} {xs : List Cell} (k : ℕ)
+    → TakenAs cs xs
+    → edgeRuleFrom k cs .number ≡ 0
+    → cellsOfClasses cs ≡ xs
+unfolding cellsOfClasses
+taken-are-cells k taken-none e = refl
+taken-are-cells k (taken-more {c} {x} {cs} {xs} read taken) e =
+    let (cell, rest) = fair-first k c cs e in
+    read-first k cs (read cell) .1 ∙ ap (λ (ys : List Cell). x ∷ ys) (taken-are-cells (suc k) taken rest)
+
+-- ---- 5 and 6
+
+pub all-cells-are-fair : (k : ℕ) (cs : List Class) → everywhere isCell cs ≡ true → edgeRuleFrom k cs ≡ accepted 0
+unfolding everywhere edgeRuleFrom
+all-cells-are-fair k [] h = refl
+all-cells-are-fair k (c ∷ cs) h =
+    let (cell, rest) = both (isCell c) (everywhere isCell cs) h in
+    read-first k cs (cell-is-read-as c cell) .0 ∙ all-cells-are-fair (suc k) cs rest
+
+-- the first interval of a list decides, unless it is a cell
+pub narrow-is-refused : (k : ℕ) (c : Class) (cs : List Class) → classNumber c ≡ 1
+    → edgeRuleFrom k (c ∷ cs) ≡ refused 5 k
+unfolding edgeRuleFrom
+narrow-is-refused k c cs h = rw (same-number c Narrow h)
+
+pub wide-is-refused : (k : ℕ) (c : Class) (cs : List Class) → classNumber c ≡ 5 → edgeRuleFrom k (c ∷ cs) ≡ refused 6 k
+unfolding edgeRuleFrom
+wide-is-refused k c cs h = rw (same-number c Wide h)
+
+pub cell-is-passed
+    : (k : ℕ) (c : Class) (cs : List Class)
+    → (classNumber c ≡ 1 → ⊥)
+    → (classNumber c ≡ 5 → ⊥)
+    → edgeRuleFrom k (c ∷ cs) ≡ edgeRuleFrom (suc k) cs
+unfolding edgeRuleFrom
+cell-is-passed k Narrow cs h g = absurd (h refl)
+cell-is-passed k Two cs h g = refl
+cell-is-passed k Three cs h g = refl
+cell-is-passed k Four cs h g = refl
+cell-is-passed k Wide cs h g = absurd (g refl)

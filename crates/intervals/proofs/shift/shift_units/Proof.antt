@@ -1,0 +1,27 @@
+-- Why `shift::shift_units` gives `passFrom`: both ways do. Rests on no axiom.
+use Prim.Native.Nat.{ℕ, _/_, _≤_}
+use mathlib.Core.Path.{_≡_, sym}
+use native.Mathlib.Omega.{arith}
+use lib.ListN.{length, take, replicate}
+use lib.Seq.{length-take-le}
+use borrow.Author.Needs.{needs}
+use Rattle.intervals.proofs.shift.shift_units.Statement.{statement}
+use Rattle.intervals.proofs.shift.shift_units.Tie as tie
+
+room : (k : ℕ) → k ≤ 64 → length (take {A = ℕ} (k / 4) (replicate 16 0)) ≡ k / 4
+room k h = length-take-le (k / 4) (replicate 16 0) (omega arith)
+
+shift-block-requires : tie.Need-shift-block-requires
+shift-block-requires c κs =
+    let start = c .before .before .before .before .before .before in
+    let (cells, held, wanted) = start .pre .1 .0 in
+    let words = room (length (start .args .units .now)) (start .pre .0) in (
+      (cells, held, omega (arith, words, c .before .before .if1 .taken)),
+      (omega (arith, words), start .pre .1 .1),
+    )
+
+pub shift-units-spec : {M : Type 1} → statement M
+shift-units-spec =
+    tie.close (tie.spec (λ c. search needs) (λ c. search needs) (λ c. search needs)
+    (λ c. sym (room _ (c .before .before .before .before .before .pre .0))) shift-block-requires (λ c. search needs)
+    (λ c. search needs) (λ c. search needs) (λ c. search needs) (λ c. search needs))

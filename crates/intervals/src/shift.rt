@@ -1,0 +1,119 @@
+// Cells into the reading machine: a block of them by fours, or cell by cell.
+ghost use Prim.Native.Nat.{_+_, _*_, _^_, _≤_, _<_};
+ghost use mathlib.Core.Path.{_≡_};
+ghost use lib.ListN.{length};
+ghost use Rattle.lists.specs.Filled.{storedAt};
+ghost use Rattle.symbols.specs.machine.Step.{AllCells};
+ghost use Rattle.intervals.specs.machine.Pass.{passFrom};
+use crate::Pass;
+use crate::fours::all_fit;
+use crate::fours::shift_fours;
+use crate::fours::store;
+use lists::put;
+use symbols::Reading;
+
+// So many fours has a block of 64 cells.
+const FOURS: usize = 16;
+
+// Cells of so many units, the first at place `from`, until so many bytes are whole or no cell is left. Bytes are counted
+// only where one is closed, which keeps the loop short. Code words are stored from place `to` on, where there is room.
+fn shift_in(
+    start: Reading,
+    units: &[u8],
+    from: usize,
+    most: u32,
+    to: usize,
+    out: &mut [u16],
+) -> Pass
+    requires { ⌜ start .words < most ⌝ }
+    requires { ⌜ (from + length (now units) < 2 ^ 64) × (to + length (now units) < 2 ^ 64) ⌝ }
+    ensures end { λ r. ⌜ r ≡ passFrom most from start (now (units .entry)) .end ⌝ }
+    ensures output { λ _. ⌜
+        now (out .exit) ≡ storedAt (now (out .entry)) to (passFrom most from start (now (units .entry)) .words) ⌝ }
+{
+    let mut m = start;
+    let mut store_at = to;
+    let mut k: usize = 0;
+    while k < units.len() {
+        let next = m.shift(units[k]);
+        let place = from + k;
+        k += 1;
+        if next.is_whole() {
+            put(out, store_at, next.word());
+            store_at += 1;
+            m = next.close((place % 4294967296) as u32);
+            if most <= m.words {
+                return Pass {
+                    reading: m,
+                    used: place + 1,
+                };
+            }
+        } else {
+            m = next;
+        }
+    }
+    Pass {
+        reading: m,
+        used: from + k,
+    }
+}
+
+// Cells that leave bytes to read: by fours, for whose words there is room, and cell by cell what is over and, for its
+// place, where a gap is out of place.
+fn shift_block(
+    m: Reading,
+    units: &[u8],
+    words: &mut [u32],
+    from: usize,
+    most: u32,
+    to: usize,
+    out: &mut [u16],
+) -> Pass
+    requires { ⌜ AllCells (now units) × (m .held ≤ 16) × (m .words + length (now words) < most) ⌝ }
+    requires { ⌜ 4 * length (now words) ≤ length (now units) ⌝ }
+    requires { ⌜ (from + length (now units) < 2 ^ 64) × (to + length (now units) < 2 ^ 64) ⌝ }
+    ensures end { λ r. ⌜ r ≡ passFrom most from m (now (units .entry)) .end ⌝ }
+    ensures output { λ _. ⌜
+        now (out .exit) ≡ storedAt (now (out .entry)) to (passFrom most from m (now (units .entry)) .words) ⌝ }
+{
+    let cells = 4 * words.len();
+    let fours = shift_fours(m, &units[..cells], words);
+    let count = fours.count;
+    if all_fit(&words[..count]) {
+        store(&words[..count], to, out);
+        let reading = fours.reading;
+        return shift_in(
+            reading,
+            &units[cells..],
+            from + cells,
+            most,
+            to + count,
+            out,
+        );
+    }
+    shift_in(m, units, from, most, to, out)
+}
+
+// The end of a field cell by cell.
+pub fn shift_units(
+    m: Reading,
+    units: &[u8],
+    from: usize,
+    most: u32,
+    to: usize,
+    out: &mut [u16],
+) -> Pass
+    requires { ⌜ length (now units) ≤ 64 ⌝ }
+    requires { ⌜ AllCells (now units) × (m .held ≤ 16) × (m .words < most) ⌝ }
+    requires { ⌜ (from + length (now units) < 2 ^ 64) × (to + length (now units) < 2 ^ 64) ⌝ }
+    ensures end { λ r. ⌜ r ≡ passFrom most from m (now (units .entry)) .end ⌝ }
+    ensures output { λ _. ⌜
+        now (out .exit) ≡ storedAt (now (out .entry)) to (passFrom most from m (now (units .entry)) .words) ⌝ }
+{
+    let n = units.len() / 4;
+    if n < (most - m.words) as usize {
+        let mut words = [0u32; FOURS];
+        return shift_block(m, units, &mut words[..n], from, most, to, out);
+    }
+    shift_in(m, units, from, most, to, out)
+}

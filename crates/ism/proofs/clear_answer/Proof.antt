@@ -1,0 +1,9 @@
+-- Why `ism::clear_answer` hands over number, place and count with the clearance: the first three as `answer` does.
+-- Rests on no axiom.
+use borrow.Author.Needs.{needs}
+use Rattle.ism.proofs.clear_answer.Statement.{statement}
+use Rattle.ism.proofs.clear_answer.Tie as tie
+
+pub clear-answer-spec : {M : Type 1} → statement M
+clear-answer-spec =
+    tie.close (tie.spec (λ c κs. search needs) (λ c. search needs) (λ c. rw (c .before .answer .ensures)))

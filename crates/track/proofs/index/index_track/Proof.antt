@@ -1,0 +1,135 @@
+-- Why `index::index_track` answers the index of the track: a refusal of the profile decides; else each search goes on
+-- where the one before says, and the entry that begins at its lock is stored as it is handed back. Rests on no axiom.
+use Prim.Native.Nat.{ℕ, _-_, _<_}
+use mathlib.Core.Path.{_≡_, refl, sym, ap, _∙_}
+use mathlib.Core.List.{List, [], _∷_, map}
+use mathlib.Core.Logic.{⊎-elim}
+use native.Mathlib.Omega.{arith}
+use borrow.Author.Needs.{needs}
+use lib.ListN.{length, set, replicate}
+use Rattle.lists.proofs.StoreLaws.{map-of-set}
+use Rattle.refusal.specs.Answer.{countedAnswer}
+use Rattle.refusal.proofs.AnswerLaws.{verdict-accepts}
+use Rattle.timing.specs.Profile.{profileRule}
+use Rattle.timing.specs.declared.Profile.{Profile}
+use Rattle.track.specs.Index.{indexRule, indexEntries}
+use Rattle.track.specs.declared.Entry.{Entry}
+use Rattle.track.proofs.GatherLaws.{profile-refuses, Goes, end-means, other-means, begins-means, goes-ahead, Gathered}
+use Rattle.track.proofs.GatherLaws.{nothing-gathered, gathered-on, gathered-entry, all-gathered, crowded}
+use Rattle.track.specs.HandedBack.{indexEntryOf}
+use Rattle.track.specs.declared.index.IndexEntry.{IndexEntry}
+use Rattle.track.proofs.index.index_track.Statement.{statement}
+use Rattle.track.proofs.index.index_track.Tie as tie
+
+-- under an accepted profile, the entries gathered as they are handed back
+record HandedOver (p : Profile) (ds : List ℕ) (entries : List IndexEntry) (count start : ℕ) : Type 0 where
+  pub fair : profileRule p .number ≡ 0
+  pub found : List Entry
+  pub gathered : Gathered p ds found count start
+  pub handed : entries ≡ map indexEntryOf found
+
+abbrev Inv-search : tie.InvT-search
+Inv-search p intervals entries₀ count₀ start₀ entries count start = HandedOver p intervals entries count start
+
+abbrev μ-search : tie.MeasureT-search
+μ-search p intervals entries₀ count₀ start₀ entries count start = length intervals - start
+
+-- a search that adds nothing
+passes
+    : (c : tie.After-known-told2 Inv-search μ-search)
+    → let turn = c .before .before .before .before in
+    let args = turn .before .before .before .before .before .args in
+    Goes (args .p) (args .intervals .now) (turn .search .start) (c .before .next .given .0 .0) []
+passes c = other-means _ _ _ _ (sym (c .before .next .given .1) ∙ c .before .before .before .find-entry .ensures)
+
+-- a search that adds an entry
+begins
+    : (c : tie.After-known-told3 Inv-search μ-search)
+    → let turn = c .before .before .before .before in
+    let args = turn .before .before .before .before .before .args in
+    let values = c .before .entry .given .0 in
+    Goes (args .p) (args .intervals .now) (turn .search .start) (values .1 .0) (values .0 ∷ [])
+begins c = begins-means _ _ _ _ _ (sym (c .before .entry .given .1) ∙ c .before .before .before .find-entry .ensures)
+
+-- room for one more
+room
+    : (c : tie.After-converted Inv-search μ-search)
+    → c .before .before .before .before .before .before .search .count < 32
+room c = omega arith
+
+search-holds : tie.Need-search-holds Inv-search μ-search
+search-holds c =
+    record {
+      fair = verdict-accepts _ _ (c .before .before .check .ensures) (c .enum-told .given .1);
+      found = replicate 32 _;
+      gathered = nothing-gathered _ _;
+      handed = refl;
+    }
+
+search-less : tie.Need-search-less Inv-search μ-search
+search-less c =
+    let ahead = goes-ahead (passes c) in omega arith
+
+search-again : tie.Need-search-again Inv-search μ-search
+search-again c =
+    let so-far = c .before .before .before .before .search .inv in
+    record {
+      fair = so-far .fair;
+      found = so-far .found;
+      gathered = gathered-on (so-far .gathered) (passes c);
+      handed = so-far .handed;
+    }
+
+search-less-2 : tie.Need-search-less-2 Inv-search μ-search
+search-less-2 c =
+    let ahead = goes-ahead (begins (c .before .before)) in omega arith
+
+search-again-2 : tie.Need-search-again-2 Inv-search μ-search
+search-again-2 c =
+    let turn = c .before .before .before .before .before .before in
+    let so-far = turn .search .inv in
+    let entry = c .before .before .before .entry .given .0 .0 in
+    record {
+      fair = so-far .fair;
+      found = set (so-far .found) (turn .search .count) entry;
+      gathered = gathered-entry (so-far .gathered) (room c) (begins (c .before .before));
+      handed =
+          rw (so-far .handed, c .converted .ensures)
+          (sym (map-of-set indexEntryOf (so-far .found) (turn .search .count) entry));
+    }
+
+-- how the search ended: the profile is refused, no lock is left, or a 33rd entry begins
+ended
+    : (c : tie.At-match-came Inv-search μ-search)
+    → let args = c .before .before .before .args in
+    (countedAnswer (c .match .found) ≡ indexRule (args .p) (args .intervals .now))
+    × (c .match .entries ≡ map indexEntryOf (indexEntries (args .p) (args .intervals .now)))
+ended c =
+    ⊎-elim (λ w.
+    let index = profile-refuses _ _ _ _ (c .before .check .ensures) (w .1 .given .1) in
+    (ap countedAnswer (w .6) ∙ index .0, w .3 ∙ ap (map indexEntryOf) (index .1)))
+    (⊎-elim
+    (λ w.
+    let so-far = w .2 .inv in
+    let none = end-means _ _ _ (sym (w .5 .given .1) ∙ w .3 .ensures) in
+    let index = all-gathered (so-far .gathered) (so-far .fair) none in
+    (ap countedAnswer (w .9) ∙ index .0, w .6 ∙ so-far .handed ∙ ap (map indexEntryOf) (index .1)))
+    (λ w.
+    let so-far = w .2 .inv in
+    let begun = begins-means _ _ _ _ _ (sym (w .5 .given .1) ∙ w .3 .ensures) in
+    let index = crowded (so-far .gathered) (so-far .fair) (w .7 .taken) begun in
+    (ap countedAnswer (w .11) ∙ index .0, w .8 ∙ ap (map indexEntryOf) (index .1))))
+    (c .match .came)
+
+returns : tie.Need-returns Inv-search μ-search
+returns c =
+    let ended-so = ended (c .before .before .before) in
+    rw (c .count .ensures, c .before .place .ensures, c .before .before .number .ensures, ended-so .0, ended-so .1)
+
+pub index-track-spec : {M : Type 1} → statement M
+index-track-spec =
+    tie.close
+    (tie.spec Inv-search μ-search (λ c κs. search needs) (λ c. search needs) (λ c. search needs) search-holds
+    (λ c κs. search needs) (λ c. search needs) (λ c. search needs) search-less search-again (λ c. search needs)
+    (λ c κs. search needs) (λ c. omega (arith, room c)) (λ c. room c) (λ c. omega (arith, room c)) search-less-2
+    search-again-2 (λ c κs. search needs) (λ c κs. search needs) (λ c κs. search needs) returns)
