@@ -11,7 +11,7 @@ use Rattle.timing.specs.declared.Profile.{Profile}
 use Rattle.timing.proofs.ProfileLaws.{Kept, kept}
 use Rattle.lengths.specs.Stream.{byteStream, streamOf}
 use Rattle.lengths.specs.Margin.{roomsOf}
-use Rattle.lengths.proofs.MarginLaws.{Broken}
+use Rattle.lengths.proofs.WitnessLaws.{Broken}
 use Rattle.lengths.proofs.BrokenLaws.{brokenStream, broken-stream-has-other-classes}
 use Rattle.lengths.proofs.PapersMargin.{one-byte-is-accepted, written-one, one-byte-is-written}
 use Rattle.codec.specs.Reader.{itemsOfStream}
