@@ -6,4 +6,6 @@ use Rattle.ism.proofs.clear_answer.Tie as tie
 
 pub clear-answer-spec : {M : Type 1} → statement M
 clear-answer-spec =
-    tie.close (tie.spec (λ c κs. search needs) (λ c. search needs) (λ c. rw (c .before .answer .ensures)))
+    tie.close
+    (tie.spec (λ c κs. search needs) (λ c κs. search needs) (λ c κs. search needs) (λ c. search needs)
+    (λ c. rw (c .before .before .before .number .ensures, c .before .before .place .ensures, c .before .count .ensures)))

@@ -7,4 +7,4 @@ pub ism-index-track-spec : {M : Type 1} → statement M
 ism-index-track-spec =
     tie.close
     (tie.spec (λ c κs. search needs) (λ c κs. search needs)
-    (λ c. rw (c .gather .ensures, c .before .profile .ensures)))
+    (λ c. rw (c .index-track .ensures, c .before .profile .ensures)))
