@@ -11,7 +11,8 @@
  *
  *   Built for x86-64 processors (System V calling convention) alone, today.
  *
- *   No state, no heap, no input or output. Every function is a plain function of its arguments, so calls on buffers of
+ *   No state, no heap, no input or output. The library calls memcpy and memset, which a C compiler expects wherever it
+ *   compiles for, and nothing else. Every function is a plain function of its arguments, so calls on buffers of
  *   their own may run at the same time. From an interrupt handler too, if the handler keeps what the code uses as any
  *   compiled code does: the SSE registers, and the 128 bytes below the stack pointer that the convention gives to the
  *   code that was interrupted (the red zone). docs/BENCHMARKS.md gives the stack of each function: 3,300 bytes at most,
@@ -97,6 +98,30 @@ uint32_t ism_interface_9(void); /* gives 9 */
 #define ISM_MAX_SECTORS 32u
 #define ISM_MAX_SET_BYTES 32864u
 #define ISM_MAX_LIMITS 10u
+
+/* Numbers of the texts below. docs/FORMAT.md has the rules behind them. */
+#define ISM_PROFILE_NUMBERS 11u                   /* numbers of a profile */
+#define ISM_MAX_TIME 1023u                        /* t1 and t0, from 1 on */
+#define ISM_MAX_POINT 15u                         /* early, normal and late, from 0 on */
+#define ISM_MAX_EDGE 4095u                        /* min, b23, b34 and rpt, from 1 on */
+#define ISM_WRITE_ROOM(bytes) (8u * (bytes) + 2u) /* intervals, always enough for so many written bytes */
+#define ISM_CRC_POLYNOMIAL 0x1021u                /* x^12 + x^5 + 1; x^16 is the bit that leaves */
+#define ISM_CRC_START 0xFFFFu                     /* all ones */
+#define ISM_SYNC_INTERVALS 64u                    /* intervals of class 2 before a lock */
+#define ISM_ID_ADDRESS 0xFEu                      /* the byte after the marks of an ID field */
+#define ISM_DATA_ADDRESS 0xFBu                    /* the byte after the marks of a data field */
+#define ISM_ID_BYTES 10u                          /* bytes of an ID field: marks, FE, four bytes, check bytes */
+#define ISM_DATA_OVERHEAD 6u                      /* bytes of a data field besides the data: marks, FB, check bytes */
+#define ISM_MAX_CODE 3u                           /* length codes, from 0 on; from 1 on in the sector maker */
+#define ISM_SECTOR_BYTES(code) (128u << (code))   /* data bytes of a length code: 128, 256, 512, 1,024 */
+#define ISM_SECTOR_OVERHEAD 114u                  /* items of a sector besides the data */
+#define ISM_MIN_DATA_DISTANCE 278u                /* intervals from the ID's lock to the data's, in a made sector */
+#define ISM_MAX_DATA_DISTANCE 295u
+#define ISM_WORD_A1 0x4489u                       /* code words of the marks in a bit image */
+#define ISM_WORD_C2 0x5224u
+#define ISM_SET_HEADER 3u                         /* bytes of a sector in a set besides the data */
+#define ISM_REPORT_ROWS 5u                        /* narrow, 2, 3, 4, wide */
+#define ISM_FIFO_ITEMS 2u                         /* items that the FIFO holds */
 
 /*
  * Items: 0 to 255 is a data byte, ISM_MARK_A1 and ISM_MARK_C2 are the two mark bytes, ISM_CHECK is a check order. No
@@ -244,7 +269,7 @@ ism_answer ism_class(ism_profile profile, uint16_t interval, uint32_t after_shor
  * most significant bit first, and two closing 0s.
  *
  *   items, n   the items; a mark may stand anywhere
- *   out, room  the intervals; 8 x (written bytes) + 2 is always room enough
+ *   out, room  the intervals; ISM_WRITE_ROOM(written bytes), 8 for each and 2, is always room enough
  *   count      intervals written
  *   refusals   ISM_UNSET, ISM_CROSSED, ISM_OVERLONG (over 6,400 items or written bytes), ISM_FOREIGN, ISM_FULL
  *
@@ -313,7 +338,7 @@ ism_answer ism_read_field(ism_profile profile, const uint16_t *intervals, size_t
  *
  *   code       length code: 1, 2, 3 for 256, 512, 1,024 data bytes
  *   data, n    the data bytes, exactly as many as the code says
- *   out, room  the items; n + 114 of them
+ *   out, room  the items; n + ISM_SECTOR_OVERHEAD of them
  *   count      items
  *   refusals   ISM_MISFIT (code 0 or above 3, or data not that long), ISM_FULL
  *

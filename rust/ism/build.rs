@@ -10,7 +10,8 @@ fn main() {
     println!("cargo:rerun-if-env-changed=ISM_LIB_DIR");
     println!("cargo:rerun-if-changed={}", library.display());
     if !library.is_file() {
-        println!("cargo:warning=libism.a is not in {}; set ISM_LIB_DIR to its folder", folder.display());
+        eprintln!("libism.a is not in {}: build it with `rt staticlib ism`, or set ISM_LIB_DIR", folder.display());
+        std::process::exit(1);
     }
     println!("cargo:rustc-link-search=native={}", folder.display());
     println!("cargo:rustc-link-lib=static=ism");

@@ -6,7 +6,9 @@ use crate::sys;
 /// Who puts and who takes: in `Write` the processor puts and the chip takes, in `Read` the other way about.
 #[derive(Clone, Copy, Debug, PartialEq, Eq)]
 pub enum FifoMode {
+    /// the processor puts, the chip takes
     Write,
+    /// the chip puts, the processor takes
     Read,
 }
 
@@ -33,43 +35,37 @@ impl Fifo {
     /// The processor puts an item; refused if the number is no item, dropped with a fault if the FIFO is full.
     pub fn put(&mut self, item: u16) -> Result<(), Refusal> {
         // SAFETY: numbers in, numbers out
-        let answer = unsafe { sys::ism_fifo_put(self.state, item) };
-        self.follow(answer).map(|_| ())
+        self.put_as(unsafe { sys::ism_fifo_put(self.state, item) })
     }
 
     /// The chip puts an item; refused and dropped as in `put`.
     pub fn chip_put(&mut self, item: u16) -> Result<(), Refusal> {
         // SAFETY: numbers in, numbers out
-        let answer = unsafe { sys::ism_fifo_chip_put(self.state, item) };
-        self.follow(answer).map(|_| ())
+        self.put_as(unsafe { sys::ism_fifo_chip_put(self.state, item) })
     }
 
     /// The processor takes at the data location; a mark is handed over with a fault.
-    pub fn take_data(&mut self) -> Result<u16, Refusal> {
+    pub fn take_data(&mut self) -> u16 {
         // SAFETY: numbers in, numbers out
-        let answer = unsafe { sys::ism_fifo_take_data(self.state) };
-        self.follow(answer)
+        self.given(unsafe { sys::ism_fifo_take_data(self.state) })
     }
 
     /// The processor takes at the mark location.
-    pub fn take_mark(&mut self) -> Result<u16, Refusal> {
+    pub fn take_mark(&mut self) -> u16 {
         // SAFETY: numbers in, numbers out
-        let answer = unsafe { sys::ism_fifo_take_mark(self.state) };
-        self.follow(answer)
+        self.given(unsafe { sys::ism_fifo_take_mark(self.state) })
     }
 
     /// The chip takes.
-    pub fn chip_take(&mut self) -> Result<u16, Refusal> {
+    pub fn chip_take(&mut self) -> u16 {
         // SAFETY: numbers in, numbers out
-        let answer = unsafe { sys::ism_fifo_chip_take(self.state) };
-        self.follow(answer)
+        self.given(unsafe { sys::ism_fifo_chip_take(self.state) })
     }
 
     /// The value of the error register, which is cleared.
-    pub fn read_error(&mut self) -> Result<u16, Refusal> {
+    pub fn read_error(&mut self) -> u16 {
         // SAFETY: numbers in, numbers out
-        let answer = unsafe { sys::ism_fifo_read_error(self.state) };
-        self.follow(answer)
+        self.given(unsafe { sys::ism_fifo_read_error(self.state) })
     }
 
     /// The numbers of the state as the C interface has them.
@@ -77,9 +73,15 @@ impl Fifo {
         self.state
     }
 
-    fn follow(&mut self, answer: sys::FifoAnswer) -> Result<u16, Refusal> {
+    /// Follows the state of a put, which alone can be refused.
+    fn put_as(&mut self, answer: sys::FifoAnswer) -> Result<(), Refusal> {
         self.state = answer.next;
-        // an item has ten bits
-        Refusal::from_numbers(answer.number, answer.place).map_or(Ok(answer.item), Err)
+        Refusal::from_numbers(answer.number, answer.place).map_or(Ok(()), Err)
+    }
+
+    /// Follows the state of any other operation and gives its item.
+    fn given(&mut self, answer: sys::FifoAnswer) -> u16 {
+        self.state = answer.next;
+        answer.item
     }
 }

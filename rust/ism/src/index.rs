@@ -51,7 +51,7 @@ fn entry(e: &sys::IndexEntry) -> IndexEntry {
     IndexEntry {
         id: SectorId { track: e.track, side: e.side, sector: e.sector, code: e.code },
         place: e.id_place as usize,
-        data: (e.found != 0).then(|| DataField { place: e.data_place as usize, holds: e.holds != 0 }),
+        data: (e.found != 0).then_some(DataField { place: e.data_place as usize, holds: e.holds != 0 }),
     }
 }
 
@@ -62,15 +62,20 @@ fn entry(e: &sys::IndexEntry) -> IndexEntry {
 /// The distance of the two places tells: in a sector that [`make_sector`](crate::make_sector) made, the data's lock
 /// stands 278 to 295 intervals behind the ID's, whatever the ID.
 ///
-/// ```no_run
+/// ```
 /// # let profile = ism::Profile {
 /// #     t1: 58, t0: 29, early: 8, normal: 10, late: 12, min: 36,
 /// #     b23_short: 73, b23_long: 73, b34_short: 106, b34_long: 106, rpt: 139,
 /// # };
-/// # let intervals = [0; 64];
-/// for entry in ism::index_track(profile, &intervals)?.entries() {
+/// # let id = ism::SectorId { track: 0, side: 0, sector: 1, code: 1 };
+/// # let (mut items, mut intervals) = ([0; 256 + ism::SECTOR_OVERHEAD], [0; ism::write_room(512)]);
+/// # let made = ism::make_sector(id, &[0; 256], &mut items)?;
+/// # let count = ism::write(profile, &items[..made], &mut intervals)?;
+/// # let intervals = &intervals[..count];
+/// for entry in ism::index_track(profile, intervals)?.entries() {
 ///     let good = entry.data.is_some_and(|data| data.holds);
 ///     println!("sector {} at {}: {}", entry.id.sector, entry.place, if good { "good" } else { "bad" });
+/// #   assert!(good && entry.id == id);
 /// }
 /// # Ok::<(), ism::Refusal>(())
 /// ```

@@ -1,23 +1,30 @@
 //! MFM flux intervals after the ISM chip: safe functions over `libism.a`.
 //!
 //! Items are numbers: 0 to 255 a data byte, [`MARK_A1`] and [`MARK_C2`] the mark bytes, [`CHECK`] a check order.
-//! Intervals are half clocks. A refused call returns a [`Refusal`] and changes no buffer; an accepted one fills the
-//! front of the output and leaves the rest as it was.
+//! Intervals, margins and clearances are half clocks. Places and counts are `usize`; the figures of a report, which add
+//! up over any number of lists, are `u64`. A refused call returns a [`Refusal`] and changes no buffer; an accepted one
+//! fills the front of the output and leaves the rest as it was.
 //!
-//! ```no_run
+//! ```
 //! let profile = ism::Profile {
 //!     t1: 58, t0: 29, early: 8, normal: 10, late: 12, min: 36,
 //!     b23_short: 73, b23_long: 73, b34_short: 106, b34_long: 106, rpt: 139,
 //! };
-//! let mut intervals = [0; 64];
+//! let mut intervals = [0; ism::write_room(4)];
 //! let count = ism::write(profile, &[ism::MARK_A1, 0xFE, ism::CHECK], &mut intervals)?;
-//! let mut items = [0; 16];
+//! let mut items = [0; 4];
 //! let read = ism::read(profile, &intervals[..count], &mut items)?;
 //! assert_eq!(items[..2], [ism::MARK_A1, 0xFE]);
 //! assert_eq!(read.items, 4); // the check order has become two bytes
-//! assert!(u64::from(read.clearance) >= ism::margin(profile)?); // as it was written
+//! assert!(read.clearance >= ism::margin(profile)?); // as it was written
 //! # Ok::<(), ism::Refusal>(())
 //! ```
+
+#![no_std]
+#![deny(missing_docs)]
+
+#[cfg(test)]
+extern crate std;
 
 mod fifo;
 mod index;
@@ -26,6 +33,8 @@ mod passes;
 mod refusal;
 mod report;
 pub mod sys;
+#[cfg(test)]
+mod tests;
 
 pub use fifo::{Fifo, FifoMode};
 pub use index::{index_track, DataField, Index, IndexEntry};
@@ -45,27 +54,53 @@ pub const MARK_C2: u16 = 0x1C2;
 pub const CHECK: u16 = 0x200;
 /// The most items, written bytes, or bytes read in one strip.
 pub const MAX_BYTES: usize = 6_400;
-/// The most intervals of one strip; always room enough for [`write`].
+/// The most intervals of one strip; always room enough for [`write()`].
 pub const MAX_INTERVALS: usize = 51_202;
 /// The most bytes of one field.
-pub const MAX_FIELD_BYTES: u64 = 1_030;
+pub const MAX_FIELD_BYTES: usize = 1_030;
+/// Intervals of class 2 before a lock.
+pub const SYNC_INTERVALS: usize = 64;
+/// Bytes of an ID field: three marks, FE, four bytes and two check bytes.
+pub const ID_BYTES: usize = 10;
+/// Bytes of a data field besides the data: three marks, FB and two check bytes.
+pub const DATA_OVERHEAD: usize = 6;
 /// Items that [`make_sector`] adds to the data.
 pub const SECTOR_OVERHEAD: usize = 114;
+
+/// Intervals that are always room enough for [`write()`] of so many written bytes, a check order counting two.
+pub const fn write_room(bytes: usize) -> usize {
+    bytes.saturating_mul(8).saturating_add(2)
+}
+
+/// Data bytes of a sector by its length code: 128, 256, 512, 1,024 for 0, 1, 2, 3.
+pub const fn sector_bytes(code: u8) -> Option<usize> {
+    if code <= 3 {
+        Some(128 << code)
+    } else {
+        None
+    }
+}
 
 /// The class of an interval. Its edges depend on whether the interval before it is of class 2; the first interval of a
 /// strip, of a field, of a report's list and of a search counts as coming after class 2.
 #[derive(Clone, Copy, Debug, PartialEq, Eq, PartialOrd, Ord)]
 pub enum Class {
+    /// below Min
     Narrow,
+    /// a cell of 2 units
     Two,
+    /// a cell of 3 units
     Three,
+    /// a cell of 4 units
     Four,
+    /// Rpt or more
     Wide,
 }
 
 /// What the class operation gives.
 #[derive(Clone, Copy, Debug, PartialEq, Eq)]
 pub struct Classed {
+    /// its class
     pub class: Class,
     /// half clocks by which the interval could move either way and keep its class; 0 for narrow and wide
     pub clearance: u32,
@@ -96,8 +131,11 @@ pub struct Field {
 /// Track, side, sector and length code of an ID field.
 #[derive(Clone, Copy, Debug, PartialEq, Eq)]
 pub struct SectorId {
+    /// the byte after FE
     pub track: u8,
+    /// the second
     pub side: u8,
+    /// the third: the sector's number
     pub sector: u8,
     /// 0, 1, 2, 3 for 128, 256, 512, 1,024 bytes; [`make_sector`] takes no code 0, which old disks have
     pub code: u8,
@@ -111,10 +149,10 @@ pub fn version() -> u32 {
 }
 
 /// Half clocks by which every interval may be longer or shorter and still be read as written.
-pub fn margin(profile: Profile) -> Result<u64, Refusal> {
+pub fn margin(profile: Profile) -> Result<u32, Refusal> {
     // SAFETY: numbers in, numbers out
     let answer = unsafe { sys::ism_margin(profile) };
-    Ok(accepted(answer)?.count)
+    Ok(accepted(answer)?.count as u32) // it is below Rpt
 }
 
 /// The class of one interval, and how far it is inside its window. `after_short` tells whether the interval before it
@@ -159,9 +197,9 @@ pub fn read(profile: Profile, intervals: &[u16], out: &mut [u16]) -> Result<Stri
 ///
 /// The interval at `start` counts as coming after class 2, whatever stands before it: the place found is that in the
 /// list from there on, and `start` added.
-pub fn find_lock(profile: Profile, intervals: &[u16], start: u64) -> Result<usize, Refusal> {
+pub fn find_lock(profile: Profile, intervals: &[u16], start: usize) -> Result<usize, Refusal> {
     // SAFETY: the pointer comes with the length of its slice
-    let answer = unsafe { sys::ism_find(profile, intervals.as_ptr(), intervals.len(), start) };
+    let answer = unsafe { sys::ism_find(profile, intervals.as_ptr(), intervals.len(), start as u64) };
     Ok(accepted(answer)?.count as usize)
 }
 
@@ -169,10 +207,10 @@ pub fn find_lock(profile: Profile, intervals: &[u16], start: u64) -> Result<usiz
 ///
 /// Refusals in order: profile, count out of range, interval too short, too long or ends early as first met, misplaced
 /// mark, output too short.
-pub fn read_field(profile: Profile, intervals: &[u16], bytes: u64, out: &mut [u16]) -> Result<Field, Refusal> {
+pub fn read_field(profile: Profile, intervals: &[u16], bytes: usize, out: &mut [u16]) -> Result<Field, Refusal> {
     // SAFETY: each pointer comes with the length of its slice, and slices do not overlap
     let answer = unsafe {
-        sys::ism_read_field(profile, intervals.as_ptr(), intervals.len(), bytes, out.as_mut_ptr(), out.len())
+        sys::ism_read_field(profile, intervals.as_ptr(), intervals.len(), bytes as u64, out.as_mut_ptr(), out.len())
     };
     let answer = accepted(answer)?;
     Ok(Field {
@@ -184,7 +222,7 @@ pub fn read_field(profile: Profile, intervals: &[u16], bytes: u64, out: &mut [u1
 }
 
 /// Reads as [`read_field`] does, and gives the rest of `intervals` from the first unused one; on a refusal, all of them.
-pub fn read_rest<'a>(profile: Profile, intervals: &'a [u16], bytes: u64, out: &mut [u16]) -> &'a [u16] {
+pub fn read_rest<'a>(profile: Profile, intervals: &'a [u16], bytes: usize, out: &mut [u16]) -> &'a [u16] {
     let used = read_field(profile, intervals, bytes, out).map_or(0, |field| field.used);
     &intervals[used..]
 }

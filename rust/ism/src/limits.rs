@@ -8,9 +8,13 @@ pub const MAX_LIMITS: usize = 10;
 /// An edge of the windows.
 #[derive(Clone, Copy, Debug, PartialEq, Eq, PartialOrd, Ord)]
 pub enum Edge {
+    /// the lower edge of class 2
     Min,
+    /// the lower edge of class 3
     B23,
+    /// the lower edge of class 4
     B34,
+    /// the lower edge of wide
     Rpt,
 }
 
@@ -37,8 +41,11 @@ pub enum Side {
 /// A side of an edge that forbids margin + 1, and a list of one byte that shows it.
 #[derive(Clone, Copy, Debug, PartialEq, Eq)]
 pub struct Limit {
+    /// the edge
     pub edge: Edge,
+    /// the kind of cell before
     pub after: After,
+    /// which lengths are too near
     pub side: Side,
     /// the lowest data or mark byte, as an item, whose list has a length that crosses the edge if moved by margin + 1
     pub item: u16,
@@ -85,7 +92,7 @@ fn limit(l: &sys::Limit) -> Limit {
 /// Each side of a window edge that forbids one half clock more than the margin: a side is named when, and only when,
 /// some length written on that side crosses the edge if moved by margin + 1.
 ///
-/// ```no_run
+/// ```
 /// # let profile = ism::Profile {
 /// #     t1: 58, t0: 29, early: 8, normal: 10, late: 12, min: 36,
 /// #     b23_short: 73, b23_long: 73, b34_short: 106, b34_long: 106, rpt: 139,
@@ -93,6 +100,7 @@ fn limit(l: &sys::Limit) -> Limit {
 /// for limit in ism::margin_limits(profile)?.iter() {
 ///     let way = if limit.side == ism::Side::Below { "up" } else { "down" };
 ///     println!("turn {:?} {way}: see item {:#04X}, interval {}", limit.edge, limit.item, limit.interval);
+/// #   assert_eq!(limit.edge, ism::Edge::B34);
 /// }
 /// # Ok::<(), ism::Refusal>(())
 /// ```

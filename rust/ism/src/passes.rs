@@ -1,7 +1,7 @@
 //! The sectors that passes over one track read, and the merge of two of them.
 
 use crate::refusal::accepted;
-use crate::{sys, Refusal};
+use crate::{sector_bytes, sys, Refusal};
 
 /// The most sectors of one set.
 pub const MAX_SECTORS: usize = 32;
@@ -11,17 +11,19 @@ pub const MAX_SET_BYTES: usize = 32_864;
 /// One sector of a set.
 #[derive(Clone, Copy, Debug, PartialEq, Eq)]
 pub struct Sector<'a> {
+    /// its sector number
     pub number: u8,
     /// 0, 1, 2, 3 for 128, 256, 512, 1,024 bytes
     pub code: u8,
     /// whether its sum holds
     pub holds: bool,
+    /// its data
     pub data: &'a [u8],
 }
 
 /// A set of sectors as [`merge`] takes it, packed into a buffer of the caller's.
 ///
-/// ```no_run
+/// ```
 /// let (mut first, mut second) = ([0; ism::MAX_SET_BYTES], [0; ism::MAX_SET_BYTES]);
 /// let mut one = ism::SectorSet::new(&mut first);
 /// one.push(ism::Sector { number: 1, code: 0, holds: false, data: &[0; 128] })?;
@@ -47,7 +49,7 @@ impl<'a> SectorSet<'a> {
 
     /// One sector more: refused where its data has not the size of its code, or the buffer has no room.
     pub fn push(&mut self, sector: Sector<'_>) -> Result<(), Refusal> {
-        if size_of(sector.code) != Some(sector.data.len()) {
+        if sector_bytes(sector.code) != Some(sector.data.len()) {
             return Err(Refusal::SectorSizeMismatch);
         }
         let end = self.used + 3 + sector.data.len();
@@ -62,11 +64,6 @@ impl<'a> SectorSet<'a> {
     pub fn bytes(&self) -> &[u8] {
         &self.buffer[..self.used]
     }
-}
-
-/// The bytes of data in a sector of a length code.
-fn size_of(code: u8) -> Option<usize> {
-    (code <= 3).then(|| 128 << code)
 }
 
 /// The sectors of a set as bytes, in order; it ends where the bytes are no whole sector.
@@ -85,7 +82,7 @@ impl<'a> Iterator for Sectors<'a> {
 
     fn next(&mut self) -> Option<Sector<'a>> {
         let &[number, code, sum, ref rest @ ..] = self.bytes else { return None };
-        let size = size_of(code)?;
+        let size = sector_bytes(code)?;
         let data = rest.get(..size)?;
         self.bytes = &rest[size..];
         Some(Sector { number, code, holds: sum != 0, data })

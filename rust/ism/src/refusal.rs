@@ -1,29 +1,45 @@
 //! Why a call was refused.
 
-use std::fmt;
+use core::fmt;
 
 use crate::sys::Answer;
 
-/// A refusal with its number and place. A refused call has changed no buffer.
+/// A refusal with its number and place. A refused call has changed no buffer. Later versions may add refusals.
 #[derive(Clone, Copy, Debug, PartialEq, Eq, Hash)]
+#[non_exhaustive]
 pub enum Refusal {
     /// 1, unset: a profile number is out of range; `field` is which of the eleven, 1 to 11, the lowest
-    ProfileOutOfRange { field: u32 },
+    ProfileOutOfRange {
+        /// which number, from 1
+        field: usize,
+    },
     /// 2, crossed: the windows of the profile miss its own cell lengths
     ProfileInconsistent,
     /// 3, foreign: the lowest number in the list that is no item
-    NotAnItem { place: u32 },
+    NotAnItem {
+        /// which number of the list, from 0
+        place: usize,
+    },
     /// 4, overlong: over 6,400 items, written bytes, bytes read or words; over 51,202 intervals in a strip or a
     /// report's list; a count or sum of added reports over 64 bits
     TooLong,
     /// 5, narrow: an interval below Min
-    IntervalTooShort { place: u32 },
+    IntervalTooShort {
+        /// which interval, from 0
+        place: usize,
+    },
     /// 6, wide: an interval of Rpt or more
-    IntervalTooLong { place: u32 },
+    IntervalTooLong {
+        /// which interval, from 0
+        place: usize,
+    },
     /// 7, ragged: the bits are not whole bytes with the lead 0 and a closing 0
     NotWholeBytes,
     /// 8, stray: the lowest interval that is a mark's gap out of place
-    MisplacedMark { place: u32 },
+    MisplacedMark {
+        /// which interval, from 0
+        place: usize,
+    },
     /// 9, full: the output is shorter than the result
     OutputTooShort,
     /// 10, adrift: no lock at or after the start
@@ -37,16 +53,28 @@ pub enum Refusal {
     /// 15, crowded: more than 32 sectors in a set or entries on a track
     TooManySectors,
     /// 16, unruly: the lowest word of an image that no item has after its previous bit
-    UnrulyWord { place: u32 },
+    UnrulyWord {
+        /// which word, from 0
+        place: usize,
+    },
     /// 17, at odds: the lowest sector number that is twice in one set, or whose two good copies are unlike
-    SectorsAtOdds { sector: u32 },
+    SectorsAtOdds {
+        /// the sector's number
+        sector: u8,
+    },
     /// A number that this version of the interface does not list: the linked library is of another version
-    Unlisted { number: u32, place: u32 },
+    Unlisted {
+        /// the refusal's number
+        number: u32,
+        /// its place
+        place: usize,
+    },
 }
 
 impl Refusal {
     /// The refusal that a C answer carries, if its number is not 0.
     pub(crate) fn from_numbers(number: u32, place: u32) -> Option<Refusal> {
+        let place = place as usize;
         Some(match number {
             0 => return None,
             1 => Refusal::ProfileOutOfRange { field: place },
@@ -64,7 +92,7 @@ impl Refusal {
             13 => Refusal::SectorSizeMismatch,
             15 => Refusal::TooManySectors,
             16 => Refusal::UnrulyWord { place },
-            17 => Refusal::SectorsAtOdds { sector: place },
+            17 => Refusal::SectorsAtOdds { sector: place as u8 },
             _ => Refusal::Unlisted { number, place },
         })
     }
@@ -93,10 +121,10 @@ impl Refusal {
     }
 
     /// The place: which profile number (from 1), which item, interval or word (from 0), which sector number; else 0.
-    pub fn place(&self) -> u32 {
+    pub fn place(&self) -> usize {
         match self {
             Refusal::ProfileOutOfRange { field } => *field,
-            Refusal::SectorsAtOdds { sector } => *sector,
+            Refusal::SectorsAtOdds { sector } => usize::from(*sector),
             Refusal::NotAnItem { place }
             | Refusal::IntervalTooShort { place }
             | Refusal::IntervalTooLong { place }
@@ -140,7 +168,7 @@ impl fmt::Display for Refusal {
     }
 }
 
-impl std::error::Error for Refusal {}
+impl core::error::Error for Refusal {}
 
 /// The answer itself if it is an acceptance.
 pub(crate) fn accepted(answer: Answer) -> Result<Answer, Refusal> {

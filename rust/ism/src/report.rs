@@ -22,6 +22,7 @@ impl Report {
     /// need not be. A row whose count is 0 is passed over.
     ///
     /// Refused: too long, where a count or a sum does not fit in 64 bits.
+    #[allow(clippy::should_implement_trait)] // it can be refused, as the operator cannot
     pub fn add(self, other: Report) -> Result<Report, Refusal> {
         // SAFETY: numbers in, numbers out
         accepted(unsafe { sys::ism_add_reports(self.into_sys(), other.into_sys()) })

@@ -5,11 +5,17 @@
 #[repr(C)]
 #[derive(Clone, Copy, Debug, PartialEq, Eq)]
 pub struct Profile {
+    /// half clocks of a cell of 2 units, 1 to 1,023
     pub t1: u16,
+    /// half clocks of each further unit, 1 to 1,023
     pub t0: u16,
+    /// whole clocks, 0 to 15: compare point of an early transition
     pub early: u16,
+    /// whole clocks, 0 to 15: compare point of any other
     pub normal: u16,
+    /// whole clocks, 0 to 15: compare point of a late transition
     pub late: u16,
+    /// lower edge of class 2, in half clocks, as all edges 1 to 4,095
     pub min: u16,
     /// lower edge of class 3 after an interval of class 2
     pub b23_short: u16,
@@ -19,6 +25,7 @@ pub struct Profile {
     pub b34_short: u16,
     /// lower edge of class 4 after an interval of any other class
     pub b34_long: u16,
+    /// lower edge of wide
     pub rpt: u16,
 }
 
@@ -26,11 +33,17 @@ pub struct Profile {
 #[repr(C)]
 #[derive(Clone, Copy, Debug, PartialEq, Eq)]
 pub struct Answer {
+    /// 0, or the number of the refusal
     pub number: u32,
+    /// the place of the refusal
     pub place: u32,
+    /// what the function says
     pub count: u64,
+    /// what the function says
     pub used: u64,
+    /// 1 if the sum holds, else 0
     pub holds: u32,
+    /// half clocks
     pub clearance: u32,
 }
 
@@ -38,11 +51,17 @@ pub struct Answer {
 #[repr(C)]
 #[derive(Clone, Copy, Debug, Default, PartialEq, Eq)]
 pub struct Limit {
+    /// 1 Min, 2 B23, 3 B34, 4 Rpt
     pub edge: u16,
+    /// 0 both kinds, 1 after a short cell, 2 after any other
     pub after: u16,
+    /// 1 for the lengths above the edge, 0 for those below
     pub above: u16,
+    /// the lowest item that shows it
     pub item: u16,
+    /// the first such interval of its stream
     pub interval: u16,
+    /// its length, moved by margin + 1
     pub moved: u16,
 }
 
@@ -50,9 +69,13 @@ pub struct Limit {
 #[repr(C)]
 #[derive(Clone, Copy, Debug, PartialEq, Eq)]
 pub struct Limits {
+    /// 0, or the number of the refusal
     pub number: u32,
+    /// the place of the refusal
     pub place: u32,
+    /// sides, 1 to 10
     pub count: u64,
+    /// the sides; those beyond the count are all 0
     pub limits: [Limit; 10],
 }
 
@@ -60,9 +83,13 @@ pub struct Limits {
 #[repr(C)]
 #[derive(Clone, Copy, Debug, Default, PartialEq, Eq)]
 pub struct ReportRow {
+    /// how many intervals are of the class
     pub count: u64,
+    /// the least of them, in half clocks
     pub least: u64,
+    /// the greatest
     pub greatest: u64,
+    /// their sum
     pub sum: u64,
 }
 
@@ -70,8 +97,11 @@ pub struct ReportRow {
 #[repr(C)]
 #[derive(Clone, Copy, Debug, PartialEq, Eq)]
 pub struct Report {
+    /// 0, or the number of the refusal
     pub number: u32,
+    /// the place of the refusal
     pub place: u32,
+    /// narrow, 2, 3, 4, wide
     pub rows: [ReportRow; 5],
 }
 
@@ -79,13 +109,21 @@ pub struct Report {
 #[repr(C)]
 #[derive(Clone, Copy, Debug, Default, PartialEq, Eq)]
 pub struct IndexEntry {
+    /// the place of the ID's lock
     pub id_place: u64,
+    /// the place of the data's lock; 0 where no data was found
     pub data_place: u64,
+    /// the byte after FE
     pub track: u8,
+    /// the second
     pub side: u8,
+    /// the third
     pub sector: u8,
+    /// the fourth: the length code
     pub code: u8,
+    /// 1 if the data was found, else 0
     pub found: u8,
+    /// 1 if the data was found and its sum holds, else 0
     pub holds: u8,
 }
 
@@ -93,9 +131,13 @@ pub struct IndexEntry {
 #[repr(C)]
 #[derive(Clone, Copy, Debug, PartialEq, Eq)]
 pub struct Index {
+    /// 0, or the number of the refusal
     pub number: u32,
+    /// the place of the refusal
     pub place: u32,
+    /// entries
     pub count: u64,
+    /// the entries; those beyond the count are all 0
     pub entries: [IndexEntry; 32],
 }
 
@@ -103,10 +145,15 @@ pub struct Index {
 #[repr(C)]
 #[derive(Clone, Copy, Debug, PartialEq, Eq)]
 pub struct Fifo {
+    /// 0 write mode, any other number read mode
     pub mode: u16,
+    /// 0 empty, 1 one item, any other number two
     pub held: u16,
+    /// the item that leaves first
     pub first: u16,
+    /// the item that leaves second
     pub second: u16,
+    /// the error register
     pub error: u16,
 }
 
@@ -114,12 +161,18 @@ pub struct Fifo {
 #[repr(C)]
 #[derive(Clone, Copy, Debug, PartialEq, Eq)]
 pub struct FifoAnswer {
+    /// 0, or the number of the refusal
     pub number: u32,
+    /// the place of the refusal
     pub place: u32,
+    /// the item given
     pub item: u16,
+    /// the next state
     pub next: Fifo,
 }
 
+// the header has the text of each function
+#[allow(missing_docs)]
 extern "C" {
     pub fn ism_version() -> u32;
     pub fn ism_interface_9() -> u32;

@@ -22,7 +22,7 @@ pub struct Compare {
 pub fn from_wrapper<T>(result: Result<T, Refusal>, answer: impl Fn(T) -> Answer) -> Answer {
     match result {
         Ok(given) => answer(given),
-        Err(refusal) => Answer { number: refusal.number(), place: refusal.place(), ..ACCEPTED },
+        Err(refusal) => Answer { number: refusal.number(), place: refusal.place() as u32, ..ACCEPTED },
     }
 }
 
@@ -167,7 +167,7 @@ impl Compare {
             paper: &|intervals| Expected::new(paper::find(eleven, intervals, start).map(Expected::count)),
             // SAFETY: the pointer comes with the length of its slice
             interface: &|intervals: &[u16], _| unsafe { sys::ism_find(p, intervals.as_ptr(), intervals.len(), start) },
-            wrapper: Some(&|intervals, _| from_wrapper(ism::find_lock(p, intervals, start), count_answer)),
+            wrapper: Some(&|intervals, _| from_wrapper(ism::find_lock(p, intervals, start as usize), count_answer)),
         };
         self.run(intervals, call);
     }
@@ -189,7 +189,7 @@ impl Compare {
             interface: &|intervals: &[u16], out| unsafe {
                 sys::ism_read_field(p, intervals.as_ptr(), intervals.len(), bytes, out.as_mut_ptr(), out.len())
             },
-            wrapper: Some(&|intervals, out| from_wrapper(ism::read_field(p, intervals, bytes, out), answer)),
+            wrapper: Some(&|intervals, out| from_wrapper(ism::read_field(p, intervals, bytes as usize, out), answer)),
         };
         self.run(intervals, call);
     }

@@ -50,7 +50,7 @@ pub fn used_intervals(compare: &mut Compare, random: &mut Random) {
         let bytes = written_count(&items) as u64;
         let mut stream = stream_of(&eleven, &items);
         let room = bytes as usize;
-        let read = |stream: &[u16]| ism::read_field(profile(&eleven), stream, bytes, &mut vec![0; room]);
+        let read = |stream: &[u16]| ism::read_field(profile(&eleven), stream, room, &mut vec![0; room]);
         let field = read(&stream).expect("the stream of a list");
         let edges = [eleven[5], eleven[6] - 1, eleven[7], eleven[8] - 1, eleven[9], eleven[10], 0];
         stream.truncate(field.used);
@@ -74,7 +74,7 @@ pub fn changed_strips(compare: &mut Compare, random: &mut Random) {
         let length = random.length(60);
         let items = random.items(length);
         let stream = stream_of(&eleven, &items);
-        let margin = ism::margin(profile(&eleven)).expect("a true profile");
+        let margin = u64::from(ism::margin(profile(&eleven)).expect("a true profile"));
         for c in [0, random.between_with_edges(0, margin)] {
             let changed = moved_by(c, &stream, random);
             let room = written_count(&items);
@@ -89,7 +89,7 @@ pub fn changed_strips(compare: &mut Compare, random: &mut Random) {
 pub fn exactly_the_margin(compare: &mut Compare, random: &mut Random) {
     for _ in 0..300 {
         let eleven = random.true_profile();
-        let margin = ism::margin(profile(&eleven)).expect("a true profile");
+        let margin = u64::from(ism::margin(profile(&eleven)).expect("a true profile"));
         let least = single_bytes().into_iter().map(|item| {
             let stream = stream_of(&eleven, &[item]);
             compare.read(&eleven, &stream, 1);
@@ -108,7 +108,7 @@ pub fn changed_sectors(compare: &mut Compare, random: &mut Random) {
         let data = random.bytes(128);
         let items = sector_items([random.byte(), 0, random.byte(), 0], &data);
         let stream = stream_of(&eleven, &items);
-        let margin = ism::margin(profile(&eleven)).expect("a true profile");
+        let margin = u64::from(ism::margin(profile(&eleven)).expect("a true profile"));
         for c in [0, random.between_with_edges(0, margin)] {
             let track = moved_by(c, &stream, random);
             let used = clears(compare, &eleven, &track, 0, 10, margin - c);
@@ -119,10 +119,10 @@ pub fn changed_sectors(compare: &mut Compare, random: &mut Random) {
 
 /// The field at the first lock from `start` on has this clearance at least; answers the place after its intervals.
 fn clears(compare: &mut Compare, eleven: &Eleven, track: &[u16], start: usize, bytes: u64, least: u64) -> usize {
-    let place = ism::find_lock(profile(eleven), track, start as u64).expect("the next field's lock");
+    let place = ism::find_lock(profile(eleven), track, start).expect("the next field's lock");
     let room = bytes as usize;
     compare.field(eleven, &track[place..], bytes, room);
-    let field = ism::read_field(profile(eleven), &track[place..], bytes, &mut vec![0; room]).expect("a whole field");
+    let field = ism::read_field(profile(eleven), &track[place..], room, &mut vec![0; room]).expect("a whole field");
     compare.claim("a field has at least margin - c", u64::from(field.clearance) >= least);
     place + field.used
 }

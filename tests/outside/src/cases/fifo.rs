@@ -100,10 +100,10 @@ fn by_wrapper(fifo: &mut ism::Fifo, operation: Operation) -> Result<u16, Refused
     let given = match operation {
         Operation::ProcessorPut(item) => fifo.put(item).map(|()| 0),
         Operation::ChipPut(item) => fifo.chip_put(item).map(|()| 0),
-        Operation::TakeData => fifo.take_data(),
-        Operation::TakeMark => fifo.take_mark(),
-        Operation::ChipTake => fifo.chip_take(),
-        Operation::ReadError => fifo.read_error(),
+        Operation::TakeData => Ok(fifo.take_data()),
+        Operation::TakeMark => Ok(fifo.take_mark()),
+        Operation::ChipTake => Ok(fifo.chip_take()),
+        Operation::ReadError => Ok(fifo.read_error()),
     };
-    given.map_err(|refusal: Refusal| Refused { number: refusal.number(), place: refusal.place() })
+    given.map_err(|refusal: Refusal| Refused { number: refusal.number(), place: refusal.place() as u32 })
 }

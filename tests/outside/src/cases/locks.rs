@@ -22,14 +22,14 @@ fn items_of(bits: &str) -> Vec<u16> {
 /// No lock stands from `start` on.
 fn unlocked(compare: &mut Compare, eleven: &Eleven, stream: &[u16], start: u64) {
     compare.find(eleven, stream, start);
-    let found = ism::find_lock(profile(eleven), stream, start);
+    let found = ism::find_lock(profile(eleven), stream, start as usize);
     compare.claim(&format!("no lock from {start} on in {stream:?}"), found == Err(Refusal::NoLock));
 }
 
 /// The first lock from `start` on stands at `place`.
 fn locked(compare: &mut Compare, stream: &[u16], start: u64, place: usize) {
     compare.find(&WORKED, stream, start);
-    let found = ism::find_lock(profile(&WORKED), stream, start);
+    let found = ism::find_lock(profile(&WORKED), stream, start as usize);
     compare.claim(&format!("a lock at {place} in {stream:?}, found {found:?}"), found == Ok(place));
 }
 

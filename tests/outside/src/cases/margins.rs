@@ -23,7 +23,7 @@ pub fn within_margin(compare: &mut Compare, random: &mut Random) {
 
 /// Each interval longer or shorter by at most the library's margin, often by exactly that.
 pub fn shifted(eleven: &Eleven, stream: &[u16], random: &mut Random) -> Vec<u16> {
-    let margin = ism::margin(profile(eleven)).expect("a true profile");
+    let margin = u64::from(ism::margin(profile(eleven)).expect("a true profile"));
     moved_by(margin, stream, random)
 }
 

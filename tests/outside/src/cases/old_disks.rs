@@ -54,7 +54,7 @@ fn pass(compare: &mut Compare, pages: &[Vec<u8>], holds: fn(usize) -> bool, rand
         let data = entry.data.expect("data behind each ID");
         compare.field(&eleven, &track[data.place..], FIELD as u64, FIELD);
         let mut field = [0; FIELD];
-        let read = ism::read_field(profile(&eleven), &track[data.place..], FIELD as u64, &mut field);
+        let read = ism::read_field(profile(&eleven), &track[data.place..], FIELD, &mut field);
         let sums = [data.holds, read.expect("a whole field").holds];
         compare.claim("index and field reader tell the sum", sums == [holds(usize::from(entry.id.sector)); 2]);
         let bytes: Vec<u8> = field[4..4 + SIZE].iter().map(|item| *item as u8).collect();

@@ -13,7 +13,8 @@ use nine::{doubled, Nine};
 
 /// The library's margin, or its refusal.
 fn library_margin(eleven: &Eleven) -> Result<u64, Refused> {
-    ism::margin(profile(eleven)).map_err(|refusal| Refused { number: refusal.number(), place: refusal.place() })
+    let refused = |refusal: Refusal| Refused { number: refusal.number(), place: refusal.place() as u32 };
+    ism::margin(profile(eleven)).map(u64::from).map_err(refused)
 }
 
 /// Each of the ten sides of an edge: a number as far as its lengths let it go has margin 0, one further is crossed. The
@@ -158,7 +159,7 @@ fn from_every_start(compare: &mut Compare, eleven: &Eleven, intervals: &[u16]) {
         compare.find(eleven, intervals, start as u64);
         let rest = intervals.get(start..).unwrap_or(&[]);
         let in_rest = ism::find_lock(profile(eleven), rest, 0).map(|place| start + place);
-        let found = ism::find_lock(profile(eleven), intervals, start as u64);
+        let found = ism::find_lock(profile(eleven), intervals, start);
         compare.claim("a search is one of the rest", found == in_rest);
     }
 }
@@ -177,7 +178,7 @@ pub fn every_start(compare: &mut Compare, random: &mut Random) {
             }
         }
         from_every_start(compare, &eleven, &intervals);
-        let found: Vec<_> = (0..intervals.len() as u64)
+        let found: Vec<_> = (0..intervals.len())
             .map(|start| ism::find_lock(profile(&eleven), &intervals, start).unwrap_or(usize::MAX))
             .collect();
         later += u32::from(!found.is_sorted());
@@ -193,7 +194,7 @@ pub fn searches_by_hand(compare: &mut Compare, random: &mut Random) {
         let intervals = list(front, run);
         compare.find(&APART, &intervals, start);
         let what = format!("{front:?} and {run} of 80 from {start}: {found:?}");
-        compare.claim(&what, ism::find_lock(profile(&APART), &intervals, start) == found);
+        compare.claim(&what, ism::find_lock(profile(&APART), &intervals, start as usize) == found);
     };
     for length in [64, 65, 100, 1_000, 100_000] {
         finds(&[], length, 0, Ok(length));

@@ -99,9 +99,9 @@ fn field(kind: u8, bytes: &[u8]) -> Vec<u16> {
 /// The field at the first lock from `start` on is the one given; answers the place after its intervals.
 fn reads_next(compare: &mut Compare, eleven: &Eleven, track: &[u16], start: usize, field: &[u16]) -> usize {
     compare.find(eleven, track, start as u64);
-    let place = ism::find_lock(profile(eleven), track, start as u64).expect("the next field's lock");
-    let bytes = field.len() as u64;
-    compare.field(eleven, &track[place..], bytes, field.len());
+    let place = ism::find_lock(profile(eleven), track, start).expect("the next field's lock");
+    let bytes = field.len();
+    compare.field(eleven, &track[place..], bytes as u64, bytes);
     let mut out = vec![0; field.len()];
     let read = ism::read_field(profile(eleven), &track[place..], bytes, &mut out).expect("a whole field");
     compare.claim("the sector's next field reads back", out == field && read.holds);

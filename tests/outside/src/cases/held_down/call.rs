@@ -88,7 +88,7 @@ impl Reply for LimitsAnswer {
 fn from_wrapper(result: Result<ism::Limits, Refusal>) -> LimitsAnswer {
     match result {
         Ok(limits) => LimitsAnswer::of(limits.iter().map(LimitNumbers::from_wrapper)),
-        Err(refusal) => LimitsAnswer::refusal(Refused { number: refusal.number(), place: refusal.place() }),
+        Err(refusal) => LimitsAnswer::refusal(Refused { number: refusal.number(), place: refusal.place() as u32 }),
     }
 }
 

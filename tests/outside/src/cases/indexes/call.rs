@@ -87,7 +87,7 @@ fn from_wrapper(result: Result<ism::Index, Refusal>) -> Index {
     };
     match result {
         Ok(index) => Index::of(&index.entries().map(entry).collect::<Vec<_>>()),
-        Err(refusal) => Index::refusal(Refused { number: refusal.number(), place: refusal.place() }),
+        Err(refusal) => Index::refusal(Refused { number: refusal.number(), place: refusal.place() as u32 }),
     }
 }
 

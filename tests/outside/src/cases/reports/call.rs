@@ -68,7 +68,7 @@ impl Reply for Report {
 fn from_wrapper(result: Result<ism::Report, Refusal>) -> Report {
     let row = |row: ism::sys::ReportRow| [row.count, row.least, row.greatest, row.sum];
     result.map_or_else(
-        |refusal| Report::refusal(Refused { number: refusal.number(), place: refusal.place() }),
+        |refusal| Report::refusal(Refused { number: refusal.number(), place: refusal.place() as u32 }),
         |report| Report::under(0, 0, &report.rows.map(row)),
     )
 }
