@@ -11,7 +11,7 @@
 
 #include "ism.h"
 
-enum { DISKS = 6, SIZE = 512, CODE = 2, ITEMS = SIZE + 114, BYTES = SIZE + 116 };
+enum { DISKS = 6, SIZE = 512, CODE = 2, ITEMS = SIZE + ISM_SECTOR_OVERHEAD, BYTES = ITEMS + 2 };
 
 static const ism_profile drive = {
     .t1 = 58,
@@ -30,7 +30,7 @@ static const char *const classes[5] = {"narrow", "2", "3", "4", "wide"};
 
 static uint8_t data[SIZE];
 static uint16_t items[ITEMS];
-static uint16_t track[8 * BYTES + 2];
+static uint16_t track[ISM_WRITE_ROOM(BYTES)];
 
 /* Goes on, or ends the program with the refusal and its place. */
 static void accept(const char *what, uint32_t number, uint32_t place) {

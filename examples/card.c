@@ -8,6 +8,7 @@
 #include <stdio.h>
 
 #include "ism.h"
+#include "ism_text.h"
 
 /* T1, T0, Early, Normal, Late, Min, B23 and B34 after class 2 and after any other, Rpt */
 static const ism_profile drives[] = {
@@ -93,7 +94,7 @@ static void print_card(ism_profile drive) {
            drive.b34_long, drive.rpt);
     ism_limits all = ism_margin_limits(drive);
     if (all.number != ISM_ACCEPTED) {
-        printf("refused with %u, place %u\n", (unsigned)all.number, (unsigned)all.place);
+        printf("refused with %u, place %u: %s\n", (unsigned)all.number, (unsigned)all.place, ism_profile_text(drive));
         return;
     }
     unsigned margin = (unsigned)ism_margin(drive).count;

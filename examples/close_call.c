@@ -9,7 +9,7 @@
 
 #include "ism.h"
 
-enum { ITEMS = 64, ROOM = 8 * ITEMS + 2 };
+enum { ITEMS = 64, ROOM = ISM_WRITE_ROOM(ITEMS) };
 
 static const ism_profile drive = {
     .t1 = 58,

@@ -12,7 +12,7 @@
 
 #include "ism.h"
 
-enum { TRACK = 3, SIDE = 0, SECTOR = 7, CODE = 2, SIZE = 512, ITEMS = SIZE + 114, BYTES = SIZE + 116 };
+enum { TRACK = 3, SIDE = 0, SECTOR = 7, CODE = 2, SIZE = 512, ITEMS = SIZE + ISM_SECTOR_OVERHEAD, BYTES = ITEMS + 2 };
 
 static const ism_profile drive = {
     .t1 = 58,
@@ -30,8 +30,8 @@ static const ism_profile drive = {
 
 static uint8_t data[SIZE];
 static uint16_t items[ITEMS];
-static uint16_t track[8 * BYTES + 2];
-static unsigned classes[8 * BYTES + 2];
+static uint16_t track[ISM_WRITE_ROOM(BYTES)];
+static unsigned classes[ISM_WRITE_ROOM(BYTES)];
 
 /* The answer, or the end of the program with the refusal and its place. */
 static ism_answer accepted(const char *what, ism_answer answer) {

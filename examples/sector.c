@@ -10,7 +10,7 @@
 
 #include "ism.h"
 
-enum { TRACK = 3, SIDE = 0, SECTOR = 7, CODE = 1, SIZE = 256, ITEMS = SIZE + 114, BYTES = SIZE + 116 };
+enum { TRACK = 3, SIDE = 0, SECTOR = 7, CODE = 1, SIZE = 256, ITEMS = SIZE + ISM_SECTOR_OVERHEAD, BYTES = ITEMS + 2 };
 
 static const ism_profile drive = {
     .t1 = 58,
@@ -28,8 +28,8 @@ static const ism_profile drive = {
 
 static uint8_t data[SIZE];
 static uint16_t items[ITEMS];
-static uint16_t track[8 * BYTES + 2];
-static uint16_t field[SIZE + 6];
+static uint16_t track[ISM_WRITE_ROOM(BYTES)];
+static uint16_t field[SIZE + ISM_DATA_OVERHEAD];
 
 /* The answer, or the end of the program with the refusal and its place. */
 static ism_answer accepted(const char *what, ism_answer answer) {
@@ -43,7 +43,8 @@ static ism_answer accepted(const char *what, ism_answer answer) {
 /* Reads the field at the next lock from `start` on into `field`; answers the place after its intervals. */
 static size_t read_next(const char *what, size_t intervals, size_t start, size_t bytes) {
     size_t place = accepted(what, ism_find(drive, track, intervals, start)).count;
-    ism_answer read = accepted(what, ism_read_field(drive, track + place, intervals - place, bytes, field, SIZE + 6));
+    ism_answer read =
+        accepted(what, ism_read_field(drive, track + place, intervals - place, bytes, field, SIZE + ISM_DATA_OVERHEAD));
     printf("%s field at %u: %u bytes, the sum %s\n", what, (unsigned)place, (unsigned)read.count,
            read.holds ? "holds" : "does not hold");
     return place + read.used;
@@ -60,10 +61,10 @@ int main(void) {
     /* what a worn drive may do */
     for (size_t k = 0; k < intervals; k++) track[k] = (uint16_t)(track[k] + 7919 * k % (2 * margin + 1) - margin);
 
-    size_t after_id = read_next("ID", intervals, 0, 10);
+    size_t after_id = read_next("ID", intervals, 0, ISM_ID_BYTES);
     printf("track %u, side %u, sector %u, length code %u\n", field[4], field[5], field[6], field[7]);
 
-    read_next("data", intervals, after_id, SIZE + 6);
+    read_next("data", intervals, after_id, SIZE + ISM_DATA_OVERHEAD);
     for (size_t k = 0; k < SIZE; k++)
         if (field[4 + k] != data[k]) {
             printf("byte %u differs\n", (unsigned)k);

@@ -11,7 +11,7 @@
 
 #include "ism.h"
 
-enum { TRACK = 39, SIDE = 1, SECTORS = 6, CODE = 1, SIZE = 256, ITEMS = SIZE + 114, BYTES = SIZE + 116 };
+enum { TRACK = 39, SIDE = 1, SECTORS = 6, CODE = 1, SIZE = 256, ITEMS = SIZE + ISM_SECTOR_OVERHEAD, BYTES = ITEMS + 2 };
 
 static const ism_profile drive = {
     .t1 = 58,
@@ -29,7 +29,7 @@ static const ism_profile drive = {
 
 static uint8_t data[SIZE];
 static uint16_t items[SECTORS * ITEMS];
-static uint16_t track[8 * SECTORS * BYTES + 2];
+static uint16_t track[ISM_WRITE_ROOM(SECTORS * BYTES)];
 
 /* Goes on, or ends the program with the refusal and its place. */
 static void accept(const char *what, uint32_t number, uint32_t place) {
@@ -64,7 +64,8 @@ static void print_index(const ism_index *index) {
     printf("%5s %4s %6s %5s %6s %7s  %s\n", "track", "side", "sector", "bytes", "ID at", "data at", "sum");
     for (size_t k = 0; k < index->count; k++) {
         ism_index_entry entry = index->entries[k];
-        printf("%5u %4u %6u %5u %6" PRIu64, entry.track, entry.side, entry.sector, 128u << entry.code, entry.id_place);
+        printf("%5u %4u %6u %5u %6" PRIu64, entry.track, entry.side, entry.sector, ISM_SECTOR_BYTES(entry.code),
+               entry.id_place);
         if (entry.found)
             printf(" %7" PRIu64 "  %s\n", entry.data_place, entry.holds ? "holds" : "fails");
         else

@@ -11,10 +11,10 @@
 //!     b23_short: 73, b23_long: 73, b34_short: 106, b34_long: 106, rpt: 139,
 //! };
 //! let mut intervals = [0; ism::write_room(4)];
-//! let count = ism::write(profile, &[ism::MARK_A1, 0xFE, ism::CHECK], &mut intervals)?;
+//! let count = ism::write(profile, &[ism::MARK_A1, ism::ID_ADDRESS, ism::CHECK], &mut intervals)?;
 //! let mut items = [0; 4];
 //! let read = ism::read(profile, &intervals[..count], &mut items)?;
-//! assert_eq!(items[..2], [ism::MARK_A1, 0xFE]);
+//! assert_eq!(items[..2], [ism::MARK_A1, ism::ID_ADDRESS]);
 //! assert_eq!(read.items, 4); // the check order has become two bytes
 //! assert!(read.clearance >= ism::margin(profile)?); // as it was written
 //! # Ok::<(), ism::Refusal>(())
@@ -52,6 +52,10 @@ pub const MARK_A1: u16 = 0x1A1;
 pub const MARK_C2: u16 = 0x1C2;
 /// A check order: two bytes, the CRC register.
 pub const CHECK: u16 = 0x200;
+/// The data byte after the marks of an ID field, FE.
+pub const ID_ADDRESS: u16 = 0xFE;
+/// The data byte after the marks of a data field, FB.
+pub const DATA_ADDRESS: u16 = 0xFB;
 /// The most items, written bytes, or bytes read in one strip.
 pub const MAX_BYTES: usize = 6_400;
 /// The most intervals of one strip; always room enough for [`write()`].
