@@ -150,6 +150,10 @@ fn the_fifo_follows_its_state() {
     assert_eq!(fifo.take_data(), MARK_A1);
     assert_eq!(fifo.read_error(), 2);
     assert_eq!((fifo.take_mark(), fifo.read_error(), fifo.read_error()), (0, 4, 0));
+    assert_eq!(fifo.chip_put(MARK_C2), Ok(()));
+    assert_eq!((fifo.take_mark(), fifo.read_error()), (MARK_C2, 0));
     let mut fifo = Fifo::new(FifoMode::Write);
     assert_eq!((fifo.chip_take(), fifo.read_error()), (0, 1));
+    assert_eq!((fifo.put(0x4E), fifo.put(CHECK)), (Ok(()), Ok(())));
+    assert_eq!((fifo.chip_take(), fifo.chip_take(), fifo.read_error()), (0x4E, CHECK, 0));
 }
