@@ -11,8 +11,8 @@
  *
  *   Built for x86-64 processors (System V calling convention) alone, today.
  *
- *   No state, no heap, no input or output. The library calls memcpy and memset, which a C compiler expects wherever it
- *   compiles for, and nothing else. Every function is a plain function of its arguments, so calls on buffers of
+ *   No state, no heap, no input or output. The library calls memcpy and memset and nothing else: firmware without a C
+ *   library provides these two. Every function is a plain function of its arguments, so calls on buffers of
  *   their own may run at the same time. From an interrupt handler too, if the handler keeps what the code uses as any
  *   compiled code does: the SSE registers, and the 128 bytes below the stack pointer that the convention gives to the
  *   code that was interrupted (the red zone). docs/BENCHMARKS.md gives the stack of each function: 3,300 bytes at most,
