@@ -1,14 +1,14 @@
--- How the index is gathered: the entries stored, and those that the search from the present start on still adds, are
--- the entries of the track. Rests on no axiom.
-use Prim.Native.Nat.{ℕ, suc, _+_, _-_, _<_, _≤_}
+-- How the index is gathered: the entries stored, in order, and those that the search from the present start on still
+-- adds, are the entries of the track. Rests on no axiom.
+use Prim.Native.Nat.{ℕ, _+_, _<_, _≤_}
 use mathlib.Core.Path.{_≡_, refl, sym, ap, _∙_}
-use mathlib.Core.Bool.{Bool, true, false, cond}
-use mathlib.Core.List.{List, [], _∷_, _++_, append-nil}
+use mathlib.Core.Bool.{true, false}
+use mathlib.Core.List.{List, [], _∷_, _++_, map, append-nil}
 use native.Mathlib.Omega.{arith}
 use borrow.Author.Tests.{le-ltb, lt-ltb, eq-eqb}
 use lib.Dec.{ltb}
-use lib.ListN.{length, set, drop, replicate, length-append}
-use lib.Seq.{append-snoc, set-append-seam}
+use lib.ListN.{length, replicate, length-append}
+use lib.Seq.{append-snoc}
 use Rattle.refusal.specs.Table.{numberOf, placeOf}
 use Rattle.refusal.specs.Answer.{Answer, accepted, refused, verdictAnswer}
 use Rattle.refusal.specs.declared.Refusal.{Refusal}
@@ -17,66 +17,17 @@ use Rattle.refusal.specs.declared.Verdict.the-variants.{Refused}
 use Rattle.refusal.proofs.AnswerLaws.{number-is-not-zero}
 use Rattle.timing.specs.Profile.{profileRule}
 use Rattle.timing.specs.declared.Profile.{Profile}
-use Rattle.track.specs.FieldKinds.{isId}
-use Rattle.track.specs.Index.{hasLock, lockPlace, entryAt, nextStart, entriesAt, entriesFrom, entriesOf}
-use Rattle.track.specs.Index.{crowdRule, indexRule, noEntry, padded, handedBack, indexEntries}
-use Rattle.track.specs.machine.Steps.{stepAt, stepFrom}
+use Rattle.track.specs.Order.{putAmong, inOrder, Ascending}
+use Rattle.track.specs.Index.{hasLock, entriesFrom, entriesOf, crowdRule, indexRule, noEntry, padded, handedBack}
+use Rattle.track.specs.Index.{indexEntries}
+use Rattle.track.specs.HandedBack.{indexEntryOf}
+use Rattle.track.specs.machine.Insertion.{slidIn}
 use Rattle.track.specs.declared.Entry.{Entry}
-use Rattle.track.specs.declared.Step.{Step}
-use Rattle.track.specs.declared.Step.the-variants.{End, Other, Begins}
-use Rattle.track.proofs.SearchLaws.{lock-is-ahead, next-is-ahead, search-ends, search-goes-on}
-
--- ---- what a step means
-
--- a lock was found that adds these entries, and the next search starts there
-pub record Goes (p : Profile) (ds : List ℕ) (start next : ℕ) (adds : List Entry) : Type 0 where
-  pub lock : hasLock p ds start ≡ true
-  pub here : entriesAt p ds (lockPlace p ds start) ≡ adds
-  pub on : nextStart p ds (lockPlace p ds start) ≡ next
-
-module _ (p : Profile) (ds : List ℕ) (start : ℕ) where
-  abbrev k : ℕ
-  k = lockPlace p ds start
-
-  abbrev Means : Step → Type 0
-  Means End = hasLock p ds start ≡ false
-  Means (Other next) = Goes p ds start next []
-  Means (Begins entry next) = Goes p ds start next (entry ∷ [])
-
-  means-by
-      : (t u : Bool)
-      → hasLock p ds start ≡ t
-      → isId p (drop k ds) ≡ u
-      → Means (cond t (cond u (Begins (entryAt p ds k) (nextStart p ds k)) (Other (nextStart p ds k))) End)
-  unfolding entriesAt
-  means-by true true lock id = record { lock = lock; here = rw id; on = refl }
-  means-by true false lock id = record { lock = lock; here = rw id; on = refl }
-  means-by false true lock id = lock
-  means-by false false lock id = lock
-
-  step-means : (s : Step) → s ≡ stepFrom p ds start → Means s
-  unfolding stepFrom stepAt
-  step-means s e = rw e (means-by (hasLock p ds start) (isId p (drop k ds)) refl refl)
-
-  pub end-means : End ≡ stepFrom p ds start → hasLock p ds start ≡ false
-  end-means e = step-means End e
-
-  pub other-means : (next : ℕ) → Other next ≡ stepFrom p ds start → Goes p ds start next []
-  other-means next e = step-means (Other next) e
-
-  pub begins-means
-      : (entry : Entry) (next : ℕ) → Begins entry next ≡ stepFrom p ds start → Goes p ds start next (entry ∷ [])
-  begins-means entry next e = step-means (Begins entry next) e
-
-module _ {p : Profile} {ds : List ℕ} {start next : ℕ} {adds : List Entry} (goes : Goes p ds start next adds) where
-  goes-to : entriesFrom p ds start ≡ adds ++ entriesFrom p ds next
-  goes-to = search-goes-on p ds start (goes .lock) ∙ rw (goes .here, goes .on)
-
-  pub goes-ahead : (start < next) × (start < length ds)
-  goes-ahead =
-      let ahead = lock-is-ahead p ds start (goes .lock) in
-      let after = rw (goes .on) at (next-is-ahead p ds start (goes .lock)) in
-      (after, omega arith)
+use Rattle.track.proofs.SearchLaws.{search-ends}
+use Rattle.track.proofs.GoesLaws.{Goes, goes-to}
+use Rattle.track.proofs.InOrderLaws.{ordered-ascends, ordered-with-last}
+use Rattle.track.proofs.FoundLaws.{places-of-front, places-ascend}
+use Rattle.track.proofs.InsertionLaws.{ordered-length, slid-into-blank}
 
 -- ---- the index
 
@@ -86,11 +37,11 @@ module _ (p : Profile) (ds : List ℕ) where
       : profileRule p .number ≡ 0
       → (a : Answer) (entries : List Entry)
       → a ≡ crowdRule (entriesOf p ds)
-      → entries ≡ handedBack a (entriesOf p ds)
+      → entries ≡ handedBack a (inOrder (entriesOf p ds))
       → (a ≡ indexRule p ds) × (entries ≡ indexEntries p ds)
   unfolding indexRule indexEntries
   indexed fair a entries e is =
-      rw (eq-eqb _ 0 fair) (e, is ∙ ap (λ (b : Answer). handedBack b (entriesOf p ds)) e)
+      rw (eq-eqb _ 0 fair) (e, is ∙ ap (λ (b : Answer). handedBack b (inOrder (entriesOf p ds))) e)
 
   -- a refusal of the profile decides
   pub profile-refuses
@@ -107,31 +58,15 @@ module _ (p : Profile) (ds : List ℕ) where
 
 pub record Gathered (p : Profile) (ds : List ℕ) (entries : List Entry) (count start : ℕ) : Type 0 where
   pub done : List Entry
-  pub stored : entries ≡ padded done
+  pub stored : entries ≡ padded (inOrder done)
   pub counted : count ≡ length done
   pub few : count ≤ 32
   pub whole : done ++ entriesFrom p ds start ≡ entriesOf p ds
 
 pub nothing-gathered : (p : Profile) (ds : List ℕ) → Gathered p ds (replicate 32 noEntry) 0 0
-unfolding padded entriesOf
+unfolding padded entriesOf inOrder
 nothing-gathered p ds =
     record { done = []; stored = refl; counted = refl; few = omega arith; whole = refl }
-
--- one more entry takes the place of a blank one
-padded-more
-    : (done : List Entry) (e : Entry)
-    → length done < 32
-    → set (padded done) (length done) e ≡ padded (done ++ (e ∷ []))
-unfolding padded
-padded-more done e h =
-    let m = 32 - length done - 1 in
-    let some : 32 - length done ≡ suc m = omega arith in
-    let longer : length (done ++ (e ∷ [])) ≡ length done + 1 = length-append done _ in
-    let left : m ≡ 32 - length (done ++ (e ∷ [])) = omega arith in
-    ap (λ (n : ℕ). set (done ++ replicate n noEntry) (length done) e) some
-    ∙ set-append-seam done _ _ e
-    ∙ sym (append-snoc done e _)
-    ∙ ap (λ (n : ℕ). (done ++ (e ∷ [])) ++ replicate n noEntry) left
 
 module _
     {p : Profile} {ds : List ℕ} {entries : List Entry} {count start : ℕ} (g : Gathered p ds entries count start)
@@ -155,16 +90,39 @@ module _
         ∙ ap (λ (rest : List Entry). g .done ++ rest) (sym (goes-to goes))
         ∙ g .whole
 
+    -- those found so far are in order
+    in-order : Ascending (inOrder (g .done))
+    in-order =
+        ordered-ascends (g .done)
+        (places-of-front (g .done) (entriesFrom p ds start) (rw (g .whole) (places-ascend p ds)))
+
+    with-last : {next : ℕ} {e : Entry} → Goes p ds start next (e ∷ []) → inOrder (g .done ++ (e ∷ []))
+        ≡ putAmong e (inOrder (g .done))
+    with-last {next} {e} goes =
+        ordered-with-last (g .done) e
+        (places-of-front (g .done ++ (e ∷ [])) (entriesFrom p ds next) (rw (whole-with goes) (places-ascend p ds)))
+
+    -- one more is put among them
+    pub entry-slides-in
+        : {next : ℕ} {e : Entry}
+        → count < 32
+        → Goes p ds start next (e ∷ [])
+        → slidIn (map indexEntryOf entries) count (indexEntryOf e)
+        ≡ map indexEntryOf (padded (putAmong e (inOrder (g .done))))
+    entry-slides-in {next} {e} room goes =
+        let count-is : count ≡ length (inOrder (g .done)) = g .counted ∙ sym (ordered-length (g .done)) in
+        rw (g .stored, count-is) (slid-into-blank e (inOrder (g .done)) in-order (omega arith))
+
     pub gathered-entry
         : {next : ℕ} {e : Entry}
         → count < 32
         → Goes p ds start next (e ∷ [])
-        → Gathered p ds (set entries count e) (count + 1) next
+        → Gathered p ds (padded (putAmong e (inOrder (g .done)))) (count + 1) next
     gathered-entry {next} {e} room goes =
         let same = g .counted in
         record {
           done = g .done ++ (e ∷ []);
-          stored = rw (g .stored, same) (padded-more (g .done) e (omega arith));
+          stored = ap padded (sym (with-last goes));
           counted = rw (length-append (g .done) (e ∷ [])) (omega arith);
           few = omega arith;
           whole = whole-with goes;
@@ -184,7 +142,8 @@ module _
           let same = g .counted in
           let few = g .few in
           let enough : ltb 32 (length (g .done)) ≡ false = le-ltb 32 (length (g .done)) (omega arith) in
-          indexed p ds fair (accepted count) entries (rw (sym all, enough, same)) (g .stored ∙ ap padded all)
+          indexed p ds fair (accepted count) entries (rw (sym all, enough, same))
+          (g .stored ∙ ap (λ (found : List Entry). padded (inOrder found)) all)
 
       pub crowded
           : {next : ℕ} {e : Entry}

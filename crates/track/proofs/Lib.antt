@@ -3,4 +3,9 @@ pub mod OpeningLaws
 pub mod IdLaws
 pub mod SearchLaws
 pub mod StepLaws
+pub mod GoesLaws
+pub mod OrderLaws
+pub mod InOrderLaws
+pub mod FoundLaws
+pub mod InsertionLaws
 pub mod GatherLaws

@@ -124,15 +124,19 @@ module _ (p : Profile) (ds : List ℕ) where
       omega (arith, field-ends-within p ds (lockPlace p ds start) (dataBytes code) (omega arith) .0))
       (omega arith)
 
-  pub next-is-ahead : (start : ℕ) → hasLock p ds start ≡ true → start < nextStart p ds (lockPlace p ds start)
+  pub lock-is-before-next : (k : ℕ) → k ≤ length ds → k ≤ nextStart p ds k
   unfolding nextStart
+  lock-is-before-next k within =
+      either-way (isId p (drop k ds)) k _ (suc k) (λ id.
+      let ends = field-ends-within p ds k 10 within in
+      omega (arith, entry-ends-ahead (fieldEnd p ds k 10) (idByte p ds k 7)))
+      (omega arith)
+
+  pub next-is-ahead : (start : ℕ) → hasLock p ds start ≡ true → start < nextStart p ds (lockPlace p ds start)
   next-is-ahead start e =
       let k = lockPlace p ds start in
       let ahead = lock-is-ahead p ds start e in
-      either-way (isId p (drop k ds)) (suc start) _ (suc k) (λ id.
-      let ends = field-ends-within p ds k 10 (omega arith) in
-      omega (arith, entry-ends-ahead (fieldEnd p ds k 10) (idByte p ds k 7)))
-      (omega arith)
+      omega (arith, lock-is-before-next k (omega arith))
 
   -- ---- enough searches
 

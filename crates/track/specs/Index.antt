@@ -1,4 +1,4 @@
--- Document 02, (iii): what is on a track. The search is the paper's, over what the finder and the field reader of
+-- Document 02, (iii), (x): what is on a track. The search is the paper's, over what the finder and the field reader of
 -- `fields` promise; the list may have any length. Places count from the track's first interval. No lemmas here.
 use Prim.Native.Nat.{ℕ, zero, suc, _+_, _-_}
 use mathlib.Core.Bool.{Bool, cond, _&&_}
@@ -10,6 +10,7 @@ use Rattle.timing.specs.Profile.{profileRule}
 use Rattle.timing.specs.declared.Profile.{Profile}
 use Rattle.fields.specs.Lock.{findRule}
 use Rattle.track.specs.FieldKinds.{fieldOf, itemsOf, isId, dataBytes, isData}
+use Rattle.track.specs.Order.{inOrder}
 use Rattle.track.specs.declared.DataField.{DataField}
 use Rattle.track.specs.declared.DataField.the-variants.{Found, Missing}
 use Rattle.track.specs.declared.Entry.{Entry}
@@ -111,5 +112,6 @@ padded entries = entries ++ replicate (32 - length entries) noEntry
 unfoldable pub handedBack : Answer → List Entry → List Entry
 handedBack a entries = cond (eqb (a .number) 0) (padded entries) (replicate 32 noEntry)
 
+-- those found, by sector number, then by ID place
 unfoldable pub indexEntries : Profile → List ℕ → List Entry
-indexEntries p ds = handedBack (indexRule p ds) (entriesOf p ds)
+indexEntries p ds = handedBack (indexRule p ds) (inOrder (entriesOf p ds))

@@ -1,2 +1,3 @@
 -- Machine, not meaning.
 pub mod Steps
+pub mod Insertion

@@ -7,6 +7,7 @@ use crate::DataField;
 use crate::Entry;
 use crate::Step;
 use crate::find_entry;
+use crate::order::goes_before;
 use refusal::Counted;
 use refusal::Refusal;
 use refusal::Verdict;
@@ -75,8 +76,8 @@ fn converted(entry: Entry) -> IndexEntry
     }
 }
 
-// 1, 2, 15; else the entries in the order found: search after search, each from where the one before says, until no lock
-// is left or an entry has no room.
+// 1, 2, 15; else the entries by sector number, then by ID place: search after search, each from where the one before
+// says, until no lock is left or an entry has no room; each entry found is put where it belongs.
 pub fn index_track(p: Profile, intervals: &[u16]) -> TrackIndex
     ensures { λ r. ⌜
         r ≡ indexAnswerOf (indexRule p (now (intervals .entry))) (indexEntries p (now (intervals .entry))) ⌝ }
@@ -95,7 +96,18 @@ pub fn index_track(p: Profile, intervals: &[u16]) -> TrackIndex
                         entries = [BLANK; 32];
                         break 'search Counted::Refused(Refusal::TooManySectors);
                     }
-                    entries[count] = converted(entry);
+                    let new = converted(entry);
+                    let mut at = count;
+                    'slide: while 0 < at {
+                        let last = entries[at - 1];
+                        if goes_before(new, last) {
+                            entries[at] = last;
+                            at -= 1;
+                        } else {
+                            break 'slide;
+                        }
+                    }
+                    entries[at] = new;
                     count += 1;
                     start = next;
                 }

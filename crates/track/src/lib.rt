@@ -1,4 +1,4 @@
-// Document 02, (iii): what is on a track, one search at a time.
+// Document 02, (iii), (x): what is on a track, one search at a time.
 ghost use Prim.Native.Nat.{_<_};
 ghost use mathlib.Core.Path.{_≡_};
 ghost use lib.ListN.{length};
@@ -18,6 +18,7 @@ mod content;
 mod id;
 mod index;
 mod opening;
+mod order;
 
 // An entry's data field: the place of its lock and whether its sum holds, or that none was found.
 pub enum DataField {

@@ -1,21 +1,24 @@
 -- Why `index::index_track` answers the index of the track: a refusal of the profile decides; else each search goes on
--- where the one before says, and the entry that begins at its lock is stored as it is handed back. Rests on no axiom.
-use Prim.Native.Nat.{ℕ, _-_, _<_}
+-- where the one before says, and the entry that begins at its lock is put where it belongs among those that are handed
+-- back. Rests on no axiom.
+use Prim.Native.Nat.{ℕ, _-_, _<_, _≤_}
 use mathlib.Core.Path.{_≡_, refl, sym, ap, _∙_}
 use mathlib.Core.List.{List, [], _∷_, map}
 use mathlib.Core.Logic.{⊎-elim}
 use native.Mathlib.Omega.{arith}
 use borrow.Author.Needs.{needs}
 use lib.ListN.{length, set, replicate}
-use Rattle.lists.proofs.StoreLaws.{map-of-set}
 use Rattle.refusal.specs.Answer.{countedAnswer}
 use Rattle.refusal.proofs.AnswerLaws.{verdict-accepts}
 use Rattle.timing.specs.Profile.{profileRule}
 use Rattle.timing.specs.declared.Profile.{Profile}
 use Rattle.track.specs.Index.{indexRule, indexEntries}
 use Rattle.track.specs.declared.Entry.{Entry}
-use Rattle.track.proofs.GatherLaws.{profile-refuses, Goes, end-means, other-means, begins-means, goes-ahead, Gathered}
-use Rattle.track.proofs.GatherLaws.{nothing-gathered, gathered-on, gathered-entry, all-gathered, crowded}
+use Rattle.track.specs.machine.Insertion.{slidIn}
+use Rattle.track.proofs.GoesLaws.{Goes, end-means, other-means, begins-means, goes-ahead}
+use Rattle.track.proofs.GatherLaws.{profile-refuses, Gathered, nothing-gathered, gathered-on, entry-slides-in}
+use Rattle.track.proofs.GatherLaws.{gathered-entry, all-gathered, crowded}
+use Rattle.track.proofs.InsertionLaws.{slides, stays, stays-in-front}
 use Rattle.track.specs.HandedBack.{indexEntryOf}
 use Rattle.track.specs.declared.index.IndexEntry.{IndexEntry}
 use Rattle.track.proofs.index.index_track.Statement.{statement}
@@ -28,6 +31,13 @@ record HandedOver (p : Profile) (ds : List ℕ) (entries : List IndexEntry) (cou
   pub gathered : Gathered p ds found count start
   pub handed : entries ≡ map indexEntryOf found
 
+abbrev Inv-slide : tie.InvT-slide
+Inv-slide p intervals entries₀ count start next new at₀ entries at =
+    (at ≤ at₀) × (slidIn entries at new ≡ slidIn entries₀ at₀ new)
+
+abbrev μ-slide : tie.MeasureT-slide
+μ-slide p intervals entries₀ count start next new at₀ entries at = at
+
 abbrev Inv-search : tie.InvT-search
 Inv-search p intervals entries₀ count₀ start₀ entries count start = HandedOver p intervals entries count start
 
@@ -36,7 +46,7 @@ abbrev μ-search : tie.MeasureT-search
 
 -- a search that adds nothing
 passes
-    : (c : tie.After-known-told2 Inv-search μ-search)
+    : (c : tie.After-known-told2 Inv-slide μ-slide Inv-search μ-search)
     → let turn = c .before .before .before .before in
     let args = turn .before .before .before .before .before .args in
     Goes (args .p) (args .intervals .now) (turn .search .start) (c .before .next .given .0 .0) []
@@ -44,7 +54,7 @@ passes c = other-means _ _ _ _ (sym (c .before .next .given .1) ∙ c .before .b
 
 -- a search that adds an entry
 begins
-    : (c : tie.After-known-told3 Inv-search μ-search)
+    : (c : tie.After-known-told3 Inv-slide μ-slide Inv-search μ-search)
     → let turn = c .before .before .before .before in
     let args = turn .before .before .before .before .before .args in
     let values = c .before .entry .given .0 in
@@ -53,11 +63,13 @@ begins c = begins-means _ _ _ _ _ (sym (c .before .entry .given .1) ∙ c .befor
 
 -- room for one more
 room
-    : (c : tie.After-converted Inv-search μ-search)
+    : (c : tie.After-converted Inv-slide μ-slide Inv-search μ-search)
     → c .before .before .before .before .before .before .search .count < 32
-room c = omega arith
+room c =
+    let few = c .before .before .before .before .before .before .search .inv .gathered .few in
+    omega arith
 
-search-holds : tie.Need-search-holds Inv-search μ-search
+search-holds : tie.Need-search-holds Inv-slide μ-slide Inv-search μ-search
 search-holds c =
     record {
       fair = verdict-accepts _ _ (c .before .before .check .ensures) (c .enum-told .given .1);
@@ -66,11 +78,11 @@ search-holds c =
       handed = refl;
     }
 
-search-less : tie.Need-search-less Inv-search μ-search
+search-less : tie.Need-search-less Inv-slide μ-slide Inv-search μ-search
 search-less c =
     let ahead = goes-ahead (passes c) in omega arith
 
-search-again : tie.Need-search-again Inv-search μ-search
+search-again : tie.Need-search-again Inv-slide μ-slide Inv-search μ-search
 search-again c =
     let so-far = c .before .before .before .before .search .inv in
     record {
@@ -80,27 +92,52 @@ search-again c =
       handed = so-far .handed;
     }
 
-search-less-2 : tie.Need-search-less-2 Inv-search μ-search
-search-less-2 c =
-    let ahead = goes-ahead (begins (c .before .before)) in omega arith
+-- ---- where the entry belongs
 
-search-again-2 : tie.Need-search-again-2 Inv-search μ-search
+slide-holds : tie.Need-slide-holds Inv-slide μ-slide Inv-search μ-search
+slide-holds c = (omega arith, refl)
+
+slide-again : tie.Need-slide-again Inv-slide μ-slide Inv-search μ-search
+slide-again c =
+    let turn = c .before .before .before .before .slide in
+    let (low, same) = turn .inv in (
+      omega arith,
+      slides (turn .entries) (turn .at) _ (c .before .before .before .slide-test .taken)
+          (sym (c .before .goes-before .ensures) ∙ c .if2 .taken) ∙ same,
+    )
+
+slid
+    : (c : tie.Left-slide Inv-slide μ-slide Inv-search μ-search)
+    → let new = c .before .before .converted .result in
+    let turn = c .before .before .before .before .before .before .before .before .search in
+    set (c .before .slide .entries) (c .before .slide .at) new ≡ slidIn (turn .entries) (turn .count) new
+slid c =
+    ⊎-elim (λ w. stays-in-front _ _ _ (omega (arith, w .left)))
+    (λ w. stays _ _ _ (w .0 .taken) (sym (w .2 .ensures) ∙ w .3 .left)) (c .slide-test .came)
+    ∙ c .before .slide .inv .1
+
+search-less-2 : tie.Need-search-less-2 Inv-slide μ-slide Inv-search μ-search
+search-less-2 c =
+    let ahead = goes-ahead (begins (c .before .before .before .before)) in omega arith
+
+search-again-2 : tie.Need-search-again-2 Inv-slide μ-slide Inv-search μ-search
 search-again-2 c =
-    let turn = c .before .before .before .before .before .before in
+    let turn = c .before .before .before .before .before .before .before .before in
     let so-far = turn .search .inv in
-    let entry = c .before .before .before .entry .given .0 .0 in
+    let begun = begins (c .before .before .before .before) in
+    let free = room (c .before .before) in
     record {
       fair = so-far .fair;
-      found = set (so-far .found) (turn .search .count) entry;
-      gathered = gathered-entry (so-far .gathered) (room c) (begins (c .before .before));
+      found = _;
+      gathered = gathered-entry (so-far .gathered) free begun;
       handed =
-          rw (so-far .handed, c .converted .ensures)
-          (sym (map-of-set indexEntryOf (so-far .found) (turn .search .count) entry));
+          slid c
+          ∙ rw (so-far .handed, c .before .before .converted .ensures) (entry-slides-in (so-far .gathered) free begun);
     }
 
 -- how the search ended: the profile is refused, no lock is left, or a 33rd entry begins
 ended
-    : (c : tie.At-match-came Inv-search μ-search)
+    : (c : tie.At-match-came Inv-slide μ-slide Inv-search μ-search)
     → let args = c .before .before .before .args in
     (countedAnswer (c .match .found) ≡ indexRule (args .p) (args .intervals .now))
     × (c .match .entries ≡ map indexEntryOf (indexEntries (args .p) (args .intervals .now)))
@@ -121,7 +158,7 @@ ended c =
     (ap countedAnswer (w .11) ∙ index .0, w .8 ∙ ap (map indexEntryOf) (index .1))))
     (c .match .came)
 
-returns : tie.Need-returns Inv-search μ-search
+returns : tie.Need-returns Inv-slide μ-slide Inv-search μ-search
 returns c =
     let ended-so = ended (c .before .before .before) in
     rw (c .count .ensures, c .before .place .ensures, c .before .before .number .ensures, ended-so .0, ended-so .1)
@@ -129,7 +166,12 @@ returns c =
 pub index-track-spec : {M : Type 1} → statement M
 index-track-spec =
     tie.close
-    (tie.spec Inv-search μ-search (λ c κs. search needs) (λ c. search needs) (λ c. search needs) search-holds
-    (λ c κs. search needs) (λ c. search needs) (λ c. search needs) search-less search-again (λ c. search needs)
-    (λ c κs. search needs) (λ c. omega (arith, room c)) (λ c. room c) (λ c. omega (arith, room c)) search-less-2
-    search-again-2 (λ c κs. search needs) (λ c κs. search needs) (λ c κs. search needs) returns)
+    (tie.spec Inv-slide μ-slide Inv-search μ-search (λ c κs. search needs) (λ c. search needs) (λ c. search needs)
+    search-holds (λ c κs. search needs) (λ c. search needs) (λ c. search needs) search-less search-again
+    (λ c. search needs) (λ c κs. search needs) slide-holds (λ c. search needs) (λ c. search needs) (λ c. search needs)
+    (λ c κs. search needs) (λ c. search needs) (λ c. search needs) (λ c. search needs) (λ c. search needs) slide-again
+    (λ c. omega (arith, room (c .before .before), c .before .slide .inv .0))
+    (λ c. omega (arith, room (c .before .before), c .before .slide .inv .0))
+    (λ c. omega (arith, room (c .before .before)))
+    search-less-2 search-again-2 (λ c κs. search needs) (λ c κs. search needs) (λ c κs. search needs) returns)
+
