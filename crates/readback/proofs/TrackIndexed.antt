@@ -1,13 +1,15 @@
 -- Why a track of made sectors is indexed: each sector is written as if it stood alone, so each is ahead of the search
 -- that the sector before it leaves, and behind the last one no lock stands. Rests on no axiom.
-use Prim.Native.Nat.{ℕ, suc, _≤_}
+use Prim.Native.Nat.{ℕ, suc, _≤_, _<_}
 use mathlib.Core.Path.{_≡_, refl, sym, ap, _∙_}
-use mathlib.Core.Bool.{false}
+use mathlib.Core.Bool.{true, false}
 use mathlib.Core.List.{List, _∷_, _++_, append-assoc, []}
 use native.Mathlib.Omega.{arith}
-use borrow.Author.Tests.{le-ltb}
+use borrow.Author.Tests.{le-ltb, ltb-true, leb-true}
 use lib.ListN.{length, drop, replicate}
-use Rattle.lists.specs.Place.{anywhere}
+use Rattle.lists.specs.Place.{anywhere, everywhere}
+use Rattle.lists.proofs.PlaceLaws.{everywhere-of-none, everywhere-of-passing, everywhere-passes-at-first}
+use Rattle.lists.proofs.PlaceLaws.{everywhere-in-rest}
 use Rattle.refusal.specs.Answer.{accepted}
 use Rattle.refusal.specs.declared.Refusal.the-variants.{NoLock}
 use Rattle.timing.specs.Class.{classesOf}
@@ -23,15 +25,20 @@ use Rattle.fields.specs.Lock.{lockAt}
 use Rattle.fields.proofs.MarkLaws.{no-lock-behind}
 use Rattle.fields.proofs.FirstLockLaws.{none-is-found}
 use Rattle.fields.proofs.FillerLaws.{passes}
-use Rattle.track.specs.Index.{entriesFrom, entriesOf, crowdRule, indexRule, handedBack, indexEntries}
+use Rattle.track.specs.Order.{isBefore, inOrder, Ascending}
+use Rattle.track.specs.Index.{entriesFrom, entriesOf, crowdRule, indexRule, padded, handedBack, indexEntries}
 use Rattle.track.specs.declared.Entry.{Entry}
 use Rattle.track.proofs.SearchLaws.{refused-is-no-lock, search-ends}
+use Rattle.track.proofs.OrderLaws.{later-place}
+use Rattle.track.proofs.InOrderLaws.{isLater, PlacesAscend, in-order-stays}
+use Rattle.track.proofs.FoundLaws.{places-ascend}
 use Rattle.demands.specs.Streams.{AcceptedProfile}
 use Rattle.demands.proofs.Demand3.{moved-has-classes}
 use Rattle.readback.specs.NoLockInData.{DataAlone}
 use Rattle.readback.specs.SectorReads.{idField}
 use Rattle.readback.specs.TrackIndexed.{Sector, itemsOfSector, Makes, AllMade, trackItems, entryBehind}
-use Rattle.readback.specs.TrackIndexed.{entriesBehind, TrackIndexed, MadeTracksAreIndexed}
+use Rattle.readback.specs.TrackIndexed.{entriesBehind, notBelow, NumbersAscend, TrackIndexed}
+use Rattle.readback.specs.TrackIndexed.{MadeTracksAreIndexed}
 use Rattle.readback.proofs.WrittenSector.{sector-written, sector-written-before, fromId}
 use Rattle.readback.proofs.CellClasses.{ReadBehind, classesFor}
 use Rattle.readback.proofs.FieldAhead.{SyncAhead, BytesAhead, gap-and-sync}
@@ -115,6 +122,37 @@ unfolding entriesBehind
 as-many before [] = refl
 as-many before (s ∷ ss) = ap suc (as-many _ ss)
 
+-- behind a lower place, and not of a lower number
+all-behind
+    : (e : Entry) (s : Sector) (before : List ℕ) (ss : List Sector)
+    → e .sector ≡ s .sector
+    → everywhere (notBelow s) ss ≡ true
+    → everywhere (isLater (e .place)) (entriesBehind before ss) ≡ true
+    → everywhere (isBefore e) (entriesBehind before ss) ≡ true
+unfolding entriesBehind notBelow isLater isBefore
+all-behind e s before [] same numbers places = everywhere-of-none (isBefore e)
+all-behind e s before (t ∷ ss) same numbers places =
+    let first = entryBehind before t in
+    let rest = entriesBehind (before ++ written (itemsOfSector t)) ss in
+    let number : s .sector ≤ t .sector = leb-true _ _ (everywhere-passes-at-first (notBelow s) t ss numbers) in
+    let place : e .place < first .place =
+    ltb-true _ _ (everywhere-passes-at-first (isLater (e .place)) first rest places) in
+    everywhere-of-passing (isBefore e) first rest
+    (later-place (e .sector) (e .place) (t .sector) (first .place) (omega arith) place)
+    ∙ all-behind e s (before ++ written (itemsOfSector t)) ss same (everywhere-in-rest (notBelow s) t ss numbers)
+    (everywhere-in-rest (isLater (e .place)) first rest places)
+
+entries-ascend
+    : (before : List ℕ) (ss : List Sector)
+    → NumbersAscend ss
+    → PlacesAscend (entriesBehind before ss)
+    → Ascending (entriesBehind before ss)
+unfolding entriesBehind
+entries-ascend before [] numbers places = tt
+entries-ascend before (s ∷ ss) (first, numbers) (later, places) =
+    (all-behind (entryBehind before s) s (before ++ written (itemsOfSector s)) ss refl first later,
+     entries-ascend (before ++ written (itemsOfSector s)) ss numbers places)
+
 nothing-is-data : DataAlone []
 unfolding listRule writtenBytes anywhere
 nothing-is-data = record { passes = refl; no-marks = refl }
@@ -130,7 +168,15 @@ indexed-by-entries ss p changed few accepts all =
     let count = as-many [] ss in
     let answer : indexRule p changed ≡ accepted (length ss) =
     rw (accepts, all, le-ltb 32 (length (entriesBehind [] ss)) (omega arith), count) in
-    record { answer = answer; entries = rw (answer, all) }
+    let entries : indexEntries p changed ≡ padded (inOrder (entriesBehind [] ss)) = rw (answer, all) in
+    record {
+      answer = answer;
+      entries = entries;
+      as-written = λ ascend.
+          entries
+          ∙ ap padded (sym (in-order-stays (entriesBehind [] ss)
+          (entries-ascend [] ss ascend (rw (← all) (places-ascend p changed)))));
+    }
 
 pub made-tracks-are-indexed : MadeTracksAreIndexed
 unfolding entriesOf entriesBehind trackItems written bytesOf

@@ -2,8 +2,9 @@
 -- after the other. No lemmas here.
 use Prim.Native.Nat.{ℕ, _<_, _≤_}
 use mathlib.Core.Path.{_≡_}
-use mathlib.Core.Bool.{true, false}
+use mathlib.Core.Bool.{Bool, true, false}
 use mathlib.Core.List.{List, [], _∷_, _++_}
+use lib.Dec.{leb}
 use lib.ListN.{length, replicate}
 use Rattle.lists.specs.Place.{everywhere}
 use Rattle.refusal.specs.Answer.{accepted}
@@ -12,6 +13,7 @@ use Rattle.items.specs.Item.{isByte}
 use Rattle.items.specs.Written.{written}
 use Rattle.lengths.specs.Stream.{streamOf}
 use Rattle.sectors.specs.Sector.{sectorItems, isMisfit}
+use Rattle.track.specs.Order.{inOrder}
 use Rattle.track.specs.Index.{indexRule, padded, indexEntries}
 use Rattle.track.specs.declared.DataField.the-variants.{Found}
 use Rattle.track.specs.declared.Entry.{Entry}
@@ -73,11 +75,21 @@ unfoldable pub entriesBehind : List ℕ → List Sector → List Entry
 entriesBehind before [] = []
 entriesBehind before (s ∷ ss) = entryBehind before s ∷ entriesBehind (before ++ written (itemsOfSector s)) ss
 
--- the index of intervals has exactly the entries of these sectors in order, each with its data found and its sum
--- holding
+-- sectors in the order of their numbers: none of those behind a sector has a lower one
+unfoldable pub notBelow : Sector → Sector → Bool
+notBelow s t = leb (s .sector) (t .sector)
+
+abbrev pub NumbersAscend : List Sector → Type 0
+NumbersAscend [] = Unit {0}
+NumbersAscend (s ∷ ss) = (everywhere (notBelow s) ss ≡ true) × NumbersAscend ss
+
+-- the index of intervals has exactly the entries of these sectors, each with its data found and its sum holding
 pub record TrackIndexed (p : Profile) (changed : List ℕ) (ss : List Sector) : Type 0 where
   pub answer : indexRule p changed ≡ accepted (length ss)
-  pub entries : indexEntries p changed ≡ padded (entriesBehind [] ss)
+  -- by sector number, then by ID place
+  pub entries : indexEntries p changed ≡ padded (inOrder (entriesBehind [] ss))
+  -- so as they were written, where their numbers ascend
+  pub as-written : NumbersAscend ss → indexEntries p changed ≡ padded (entriesBehind [] ss)
 
 -- up to 32 sectors, under any accepted profile, every interval moved by at most the margin
 abbrev pub MadeTracksAreIndexed : Type 0

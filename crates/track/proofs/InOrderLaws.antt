@@ -108,6 +108,14 @@ only-in-order (one {e = e} before after is rest) asc =
     let stood : Ascending (before ++ (e ∷ after)) = rw (sym is) asc in
     is ∙ put-where-it-stood before e after stood ∙ ap (putAmong e) (only-in-order rest (without before e after stood))
 
+-- entries that are in order stay as they stand
+has-each-of-itself : (es : List Entry) → Rearranged es es
+has-each-of-itself [] = none
+has-each-of-itself (e ∷ es) = one {found = es} [] es refl (has-each-of-itself es)
+
+pub in-order-stays : (es : List Entry) → Ascending es → es ≡ inOrder es
+in-order-stays es asc = only-in-order (has-each-of-itself es) asc
+
 -- ---- one entry more
 
 not-before : (b a x : Entry) → isBefore a x ≡ true → isBefore b x ≡ false → isBefore b a ≡ false

@@ -174,4 +174,3 @@ index-track-spec =
     (λ c. omega (arith, room (c .before .before), c .before .slide .inv .0))
     (λ c. omega (arith, room (c .before .before)))
     search-less-2 search-again-2 (λ c κs. search needs) (λ c κs. search needs) (λ c κs. search needs) returns)
-
