@@ -1,6 +1,7 @@
 /*
- * What is on a track: sectors are made and written one after the other, every interval is moved by up to the drive's
- * margin, three sectors are harmed, and the index lists what still reads.
+ * What is on a track: sectors are made and written one after the other, every second number first, as a slow drive
+ * likes them, every interval is moved by up to the drive's margin, three sectors are harmed, and the index lists what
+ * still reads, by number.
  *
  *   rt staticlib ism
  *   gcc -Iinclude examples/track.c target/staticlib/libism.a -o target/track && target/track
@@ -27,6 +28,9 @@ static const ism_profile drive = {
     .rpt = 139,
 };
 
+/* The numbers in the order in which the sectors stand on the track. */
+static const uint8_t layout[SECTORS] = {1, 4, 2, 5, 3, 6};
+
 static uint8_t data[SIZE];
 static uint16_t items[SECTORS * ITEMS];
 static uint16_t track[ISM_WRITE_ROOM(SECTORS * BYTES)];
@@ -40,8 +44,8 @@ static void accept(const char *what, uint32_t number, uint32_t place) {
 
 static void make_sectors(void) {
     for (unsigned k = 0; k < SECTORS; k++) {
-        for (size_t i = 0; i < SIZE; i++) data[i] = (uint8_t)(37 * i + 11 * k);
-        ism_answer made = ism_make_sector(TRACK, SIDE, (uint8_t)(k + 1), CODE, data, SIZE, items + k * ITEMS, ITEMS);
+        for (size_t i = 0; i < SIZE; i++) data[i] = (uint8_t)(37 * i + 11 * layout[k]);
+        ism_answer made = ism_make_sector(TRACK, SIDE, layout[k], CODE, data, SIZE, items + k * ITEMS, ITEMS);
         accept("make", made.number, made.place);
     }
 }
@@ -75,7 +79,7 @@ static void print_index(const ism_index *index) {
 
 int main(void) {
     make_sectors();
-    items[2 * ITEMS - 55] = 0x00; /* a wrong check byte for the check order of sector 2's data */
+    items[3 * ITEMS - 55] = 0x00; /* a wrong check byte for the check order of sector 2's data */
     size_t n = write_track();
 
     ism_index index = ism_index_track(drive, track, n);

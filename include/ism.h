@@ -373,12 +373,13 @@ typedef struct {
 } ism_index;
 
 /*
- * The entries of a track, today in the order found; the order is left open and may change.
+ * The entries of a track, by sector number, those of one number by the place of their ID.
  *
  *   intervals, n  any number of intervals, narrow and wide ones too
  *   count         entries; every field of those beyond the count is 0 (the two bytes of padding behind the fields of
  *                 an entry may hold anything)
- *   refusals      ISM_UNSET, ISM_CROSSED, ISM_CROWDED (a 33rd entry would be needed, whatever follows)
+ *   refusals      ISM_UNSET, ISM_CROSSED, ISM_CROWDED (a 33rd entry would be needed, whatever follows and
+ *                 whatever its number)
  *
  * To read a field, give ism_read_field the list from its place. An ID whose own data lock is lost takes the data behind
  * the next lock, if that reads as the data of its code. The distance of the two places tells: in a sector that

@@ -74,7 +74,14 @@ static size_t read_data(const ism_profile *p, const uint16_t *intervals, size_t 
     return (size_t)field.used;
 }
 
-/* Entries in the order of their ID fields. A lock that is not the data's may be that of the next ID. */
+/* By sector number; an entry found later stands behind those of its number. */
+static void put_in_order(ism_index *index, ism_index_entry entry) {
+    size_t at = (size_t)index->count++;
+    for (; at > 0 && index->entries[at - 1].sector > entry.sector; at--) index->entries[at] = index->entries[at - 1];
+    index->entries[at] = entry;
+}
+
+/* A lock that is not the data's may be that of the next ID. */
 ism_index NAME(index_track)(ism_profile profile, const uint16_t *intervals, size_t n) {
     ism_index index = {0};
     ism_answer verdict = check_profile(&profile);
@@ -96,7 +103,7 @@ ism_index NAME(index_track)(ism_profile profile, const uint16_t *intervals, size
         lock = NAME(find_lock)(&profile, intervals, n, lock + used);
         used = lock == NOWHERE ? 0 : read_data(&profile, intervals, n, lock, &entry);
         if (used > 0) lock = NAME(find_lock)(&profile, intervals, n, lock + used);
-        index.entries[index.count++] = entry;
+        put_in_order(&index, entry);
     }
     return index;
 }

@@ -119,6 +119,8 @@ fn with_careful() -> Vec<Plan> {
         "read_field-512", "512 bytes", read_field(PROFILE, 512);
         "read_field-1030", "1030 bytes", read_field(PROFILE, 1_030);
         "index-9", "a track of 9 sectors of 512 bytes", index(PROFILE, track_of(PROFILE, 9, 512));
+        "index_descending-32", "a track of 32 sectors of 256 bytes, their numbers descending",
+            index(PROFILE, descending_track());
         "index_in_locks-100000", "100000 intervals of locks that read as nothing", index(PROFILE, repeated(one_mark()));
         "index_in_ids-100000", "100000 intervals of IDs whose sum fails", index(PROFILE, repeated(failing_id()));
     })
@@ -382,6 +384,18 @@ fn track_of(p: Profile, sectors: usize, size: usize) -> Vec<u16> {
         plain_rust_make_sector(id, &data[number * size..(number + 1) * size], out);
     }
     stream(p, &items)
+}
+
+/// Longer than one strip can be: the streams of the sectors, one after the other.
+fn descending_track() -> Vec<u16> {
+    const SIZE: usize = 256;
+    let data = bytes(SIZE);
+    let sector = |number: u8| {
+        let mut items = vec![0; SIZE + SECTOR_OVERHEAD];
+        plain_rust_make_sector([39, 1, number, length_code(SIZE)], &data, &mut items);
+        stream(PROFILE, &items)
+    };
+    (1..=32).rev().flat_map(sector).collect()
 }
 
 fn repeated(intervals: Vec<u16>) -> Vec<u16> {

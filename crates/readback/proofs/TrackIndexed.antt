@@ -149,9 +149,10 @@ entries-ascend
     → Ascending (entriesBehind before ss)
 unfolding entriesBehind
 entries-ascend before [] numbers places = tt
-entries-ascend before (s ∷ ss) (first, numbers) (later, places) =
-    (all-behind (entryBehind before s) s (before ++ written (itemsOfSector s)) ss refl first later,
-     entries-ascend (before ++ written (itemsOfSector s)) ss numbers places)
+entries-ascend before (s ∷ ss) (first, numbers) (later, places) = (
+  all-behind (entryBehind before s) s (before ++ written (itemsOfSector s)) ss refl first later,
+  entries-ascend (before ++ written (itemsOfSector s)) ss numbers places,
+)
 
 nothing-is-data : DataAlone []
 unfolding listRule writtenBytes anywhere

@@ -23,7 +23,7 @@ pub struct DataField {
     pub holds: bool,
 }
 
-/// The entries of a track, at most [`MAX_SECTORS`], in the order that the C header says.
+/// The entries of a track, at most [`MAX_SECTORS`]: by sector number, those of one number by the place of their ID.
 #[derive(Clone, Copy, Debug, PartialEq, Eq)]
 pub struct Index {
     entries: [sys::IndexEntry; MAX_SECTORS],

@@ -152,6 +152,10 @@ fn library() {
     compare.group("index: made tracks", 0xCB, cases::indexes::made_tracks);
     compare.group("index: distances of the locks", 0xBF, cases::indexes::distances);
     compare.group("index: long tracks", 0xCC, cases::indexes::long_tracks);
+    compare.group("index: every order of few numbers", 0x1A0, cases::indexes::order::few_numbers);
+    compare.group("index: many numbers in order", 0x1A1, cases::indexes::order::many_numbers);
+    compare.group("index: crowded before the order", 0x1A2, cases::indexes::order::crowded_before);
+    compare.group("index: what does not decide the order", 0x1A3, cases::indexes::order::other_bytes);
     compare.group("old disks moved over", 0xD0, cases::old_disks::moved_over);
     check_coverage(&compare);
     println!("outside: {} cases agree", compare.total());

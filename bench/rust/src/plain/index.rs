@@ -77,7 +77,16 @@ fn read_data<F: Fields>(p: &Profile, intervals: &[u16], place: usize, entry: &mu
     Some(place + field.used as usize)
 }
 
-/// Entries in the order of their ID fields. A lock that is not the data's may be that of the next ID.
+/// By sector number; an entry found later stands behind those of its number.
+fn put_in_order(index: &mut Index, entry: IndexEntry) {
+    let count = index.count as usize;
+    let at = index.entries[..count].iter().rposition(|other| other.sector <= entry.sector).map_or(0, |last| last + 1);
+    index.entries.copy_within(at..count, at + 1);
+    index.entries[at] = entry;
+    index.count += 1;
+}
+
+/// A lock that is not the data's may be that of the next ID.
 pub fn index_track<F: Fields>(p: Profile, intervals: &[u16]) -> Index {
     if let Err(refusal) = check_profile(&p) {
         return answered(refusal.number, refusal.place);
@@ -90,13 +99,14 @@ pub fn index_track<F: Fields>(p: Profile, intervals: &[u16]) -> Index {
             next = find(lock + 1);
             continue;
         };
-        let Some(place) = index.entries.get_mut(index.count as usize) else { return answered(CROWDED, 0) };
+        if index.count == MOST_SECTORS as u64 {
+            return answered(CROWDED, 0);
+        }
         next = find(end);
         if let Some(after) = next.and_then(|lock| read_data::<F>(&p, intervals, lock, &mut entry)) {
             next = find(after);
         }
-        *place = entry;
-        index.count += 1;
+        put_in_order(&mut index, entry);
     }
     index
 }

@@ -1,6 +1,7 @@
 //! The index of a track: every end and change of a short one, how many entries fit, damaged, moved and long tracks.
 
 mod call;
+pub mod order;
 mod pieces;
 pub mod told;
 
@@ -169,12 +170,14 @@ pub fn damaged_sectors(compare: &mut Compare, random: &mut Random) {
     }
 }
 
-/// A track of made sectors, every interval moved by at most the margin, has exactly these, with their data and sums.
+/// A track of made sectors, every interval moved by at most the margin, has exactly these, with their data and sums, by
+/// number, those of one number as they were written.
 pub fn made_tracks(compare: &mut Compare, random: &mut Random) {
     for count in (1..=8).chain([9, 16, 26, 31, 32]) {
         let eleven = random.true_profile();
-        let ids = random_ids(count, if count <= 9 { 3 } else { 0 }, random);
+        let mut ids = random_ids(count, if count <= 9 { 3 } else { 0 }, random);
         let track = shifted(&eleven, &stream_of(&eleven, &made_sectors(&ids, random)), random);
+        ids.sort_by_key(|id| id[2]);
         compare.index(&eleven, &track);
         let index = library_index(&eleven, &track);
         let entry = |which: usize| index.entries[which];

@@ -1,4 +1,4 @@
-//! What is on this track, request (iii): the ID fields that read, and the data field of each.
+//! What is on this track, requests (iii) and (x): the ID fields that read, and the data field of each.
 
 use super::{check_profile, first_lock, read_field, refuse, Eleven, Field, Refused};
 
@@ -20,7 +20,8 @@ pub struct Data {
     pub holds: bool,
 }
 
-/// The index of a track: 1, 2, 15. All entries are gathered before they are counted.
+/// The index of a track: 1, 2, 15. All entries are gathered before they are counted, and ordered after that: by sector
+/// number, then by ID place.
 pub fn index_track(eleven: &Eleven, intervals: &[u16]) -> Result<Vec<Entry>, Refused> {
     check_profile(eleven)?;
     let track = Track { eleven, intervals };
@@ -41,6 +42,7 @@ pub fn index_track(eleven: &Eleven, intervals: &[u16]) -> Result<Vec<Entry>, Ref
     if entries.len() > MOST_ENTRIES {
         return refuse(15, 0);
     }
+    entries.sort_by_key(|entry| (entry.id[2], entry.id_place));
     Ok(entries)
 }
 

@@ -12,7 +12,7 @@ use crate::random::Random;
 /// An entry by the numbers of its pieces: the ID's, and the data's with whether its sum holds.
 type Told = (usize, Option<(usize, bool)>);
 
-/// The index that a track of pieces is told to have.
+/// The index that a track of pieces is told to have, its entries in this order.
 fn told_index(pieces: &[Piece], told: &[Told]) -> Index {
     let places = places_of(pieces);
     let entry = |(which, found): &Told| {
@@ -53,7 +53,8 @@ pub fn sectors(compare: &mut Compare, random: &mut Random) {
     tell("a sector twice", &[&a, &good, &a, &good], &[(0, Some((1, true))), (2, Some((3, true)))]);
     tell("an ID and no more", &[&a], &[(0, None)]);
     tell("another ID before the data", &[&a, &b, &good], &[(0, None), (1, Some((2, true)))]);
-    tell("IDs alone", &[&b, &a, &b], &[(0, None), (1, None), (2, None)]);
+    tell("IDs alone, the lower number first", &[&b, &a, &b], &[(1, None), (0, None), (2, None)]);
+    tell("the later data first", &[&b, &good, &a, &bad], &[(2, Some((3, false))), (0, Some((1, true)))]);
     tell("data alone", &[&good, &good], &[]);
     tell("data twice", &[&a, &good, &good], &[(0, Some((1, true)))]);
     for name in [0xF8, 0xFA, 0xFC, 0xFE, 0xFF, 0xA1, 0xBF, A1] {
@@ -140,7 +141,7 @@ pub fn sizes(compare: &mut Compare, random: &mut Random) {
     compare.index(&WORKED, &track);
     let index = library_index(&WORKED, &track);
     let sectors = index.entries.map(|entry| (entry.sector, entry.found));
-    compare.claim("an ID within data of no ID", index.count == 3 && sectors[..3] == [(1, 0), (5, 0), (2, 1)]);
+    compare.claim("an ID within data of no ID", index.count == 3 && sectors[..3] == [(1, 0), (2, 1), (5, 0)]);
     // 262 bytes from the lock of 134 take in the next ID field and the lock of its data
     let swallowed = [id(1, 1), small_data(), id(2, 0), small_data(), id(3, 0), small_data()];
     tell(compare, random, "data shorter than its code", &swallowed, &[(0, Some((1, false))), (4, Some((5, true)))]);
@@ -176,7 +177,7 @@ pub fn search_after_id(compare: &mut Compare, random: &mut Random) {
     for (length, found) in [(7, None), (8, None), (9, Some((1, true))), (10, Some((1, true)))] {
         let behind = Piece { sync: vec![0; length], ..small_data() };
         tell(compare, random, "sync close behind the ID", &[id_ending_in(0), behind], &[(0, found)]);
-        let other = Piece { sync: vec![0; length], ..id(2, 0) };
+        let other = Piece { sync: vec![0; length], ..id(255, 0) };
         let entries: &[Told] = if found.is_some() { &[(0, None), (1, None)] } else { &[(0, None)] };
         tell(compare, random, "another ID close behind the ID", &[id_ending_in(0), other], entries);
     }
