@@ -1,0 +1,65 @@
+//! Tracks made from raw sectors.
+
+use ism::{Refusal, SectorId};
+
+use crate::disk::{Place, Turn, DOUBLE_DENSITY, HIGH_DENSITY};
+use crate::geometry::Geometry;
+
+/// Bytes that a sector takes on the track besides its data: what the sector maker adds, each check order as two bytes.
+const OVERHEAD: usize = ism::SECTOR_OVERHEAD + 2;
+/// Gap bytes before the first sector, where there is room.
+const FIRST_GAP: usize = 80;
+/// Gap bytes that may be cut off the end of the last sector, of its 54.
+const CUT: usize = 30;
+/// A gap byte.
+const GAP: u16 = 0x4E;
+
+/// The slowest of the two bit rates at which the sectors of a track fit in a turn.
+pub fn rate_for(geometry: &Geometry) -> Option<u16> {
+    let bytes = geometry.sectors * (geometry.size() + OVERHEAD);
+    [DOUBLE_DENSITY, HIGH_DENSITY].into_iter().find(|rate| bytes <= bytes_in_turn(*rate) + CUT)
+}
+
+/// Bytes in a turn at 300 turns a minute: a fifth of a second.
+pub fn bytes_in_turn(rate: u16) -> usize {
+    usize::from(rate) * 1000 / 8 / 5
+}
+
+/// The turn with the sectors of one track, numbered on from the first, in the order of the data; and the sector that was
+/// refused, if one is.
+///
+/// A sector is made and turned into code words by itself, since a track can have more bytes than the library takes at
+/// once. A made sector ends in 4E, whose last bit is 0, and an image begins after a 0, so the words can be joined.
+pub fn turn_of(geometry: &Geometry, place: Place, rate: u16, data: &[u8]) -> Result<Turn, (u8, Refusal)> {
+    let room = bytes_in_turn(rate);
+    let taken = geometry.sectors * (geometry.size() + OVERHEAD);
+    let mut words = vec![0; room.max(taken)];
+    let mut end = FIRST_GAP.min(room.saturating_sub(taken));
+    for (i, bytes) in data.chunks(geometry.size()).enumerate() {
+        let id = SectorId {
+            track: place.track as u8,
+            side: place.side as u8,
+            sector: geometry.first + i as u8,
+            code: geometry.code,
+        };
+        end += make_sector(id, bytes, &mut words[end..]).map_err(|refusal| (id.sector, refusal))?;
+    }
+    fill_gaps(&mut words, FIRST_GAP.min(room.saturating_sub(taken)), end);
+    words.truncate(room);
+    Ok(Turn::of(words.iter().flat_map(|word| word.to_be_bytes()).collect()))
+}
+
+fn make_sector(id: SectorId, data: &[u8], words: &mut [u16]) -> Result<usize, Refusal> {
+    let mut items = [0; 1_024 + ism::SECTOR_OVERHEAD];
+    let count = ism::make_sector(id, data, &mut items)?;
+    ism::make_image(&items[..count], words)
+}
+
+/// Gap bytes before the first sector and behind the last.
+fn fill_gaps(words: &mut [u16], first: usize, end: usize) {
+    let mut gap = [0];
+    // one item and room for its word: never refused
+    let _ = ism::make_image(&[GAP], &mut gap);
+    words[..first].fill(gap[0]);
+    words[end..].fill(gap[0]);
+}

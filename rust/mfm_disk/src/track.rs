@@ -1,0 +1,157 @@
+//! The sectors of one turn. The library says what is a sector; here stands only how much of the turn it is shown.
+
+use ism::{IndexEntry, Profile, Refusal, SectorId};
+
+use crate::disk::Turn;
+use crate::timing::Lengths;
+
+/// The most intervals between the locks of an ID and of its own data. A made sector has 278 to 295; with a gap of 41
+/// bytes, the longest in use, it is some 420. The data of the next sector begins 1,200 or more behind.
+const FARTHEST_OWN_DATA: usize = 500;
+
+/// The bytes of an ID field from the first mark to its sum.
+const ID_BYTES: u64 = 10;
+
+/// What was read behind an ID.
+#[derive(Clone, Debug, PartialEq, Eq)]
+pub enum Data {
+    /// no data field of the ID's length code at the next lock
+    Missing,
+    /// a data field that is too far behind the ID: its own lock is lost
+    NotItsOwn { at: usize },
+    /// the ID's data, and whether its sum holds
+    Own { at: usize, holds: bool, bytes: Vec<u8> },
+}
+
+/// An ID and what was read behind it.
+#[derive(Clone, Debug, PartialEq, Eq)]
+pub struct Found {
+    pub id: SectorId,
+    /// the interval at which the ID's lock stands, from the first transition of the turn
+    pub at: usize,
+    pub data: Data,
+}
+
+/// The intervals of a turn, and of its start again as far as a sector reaches that the start cuts.
+pub struct Window {
+    profile: Profile,
+    intervals: Vec<u16>,
+    /// the half cell of each transition of the turn
+    transitions: Vec<u32>,
+    half_cells: usize,
+}
+
+impl Window {
+    /// One turn, and behind it again all that stands before its first ID: so no sector is cut and none shown twice.
+    pub fn of(turn: &Turn, profile: Profile, lengths: &Lengths) -> Window {
+        let transitions = turn.transitions();
+        let half_cells = turn.len();
+        let mut intervals = Vec::with_capacity(transitions.len() + 4_096);
+        intervals.extend(transitions.windows(2).map(|pair| lengths.interval(pair[1] - pair[0])));
+        if let (Some(&first), Some(&last)) = (transitions.first(), transitions.last()) {
+            intervals.push(lengths.interval(half_cells as u32 - last + first));
+        }
+        let again = first_id(profile, &intervals).unwrap_or(intervals.len());
+        intervals.extend_from_within(..again);
+        Window { profile, intervals, transitions, half_cells }
+    }
+
+    /// The sectors by number, then by the place of the ID.
+    pub fn sectors(&self) -> Result<Vec<Found>, Refusal> {
+        let index = ism::index_track(self.profile, &self.intervals)?;
+        let mut read = self.data_found(index.entries())?.into_iter();
+        let mut sectors = Vec::with_capacity(index.len());
+        for entry in index.entries() {
+            let data = match entry.data {
+                None => Data::Missing,
+                Some(field) => {
+                    let bytes = read.next().unwrap_or_default();
+                    if field.place - entry.place > FARTHEST_OWN_DATA {
+                        Data::NotItsOwn { at: field.place }
+                    } else {
+                        Data::Own { at: field.place, holds: field.holds, bytes }
+                    }
+                }
+            };
+            sectors.push(Found { id: entry.id, at: entry.place, data });
+        }
+        sectors.sort_by_key(|sector| (sector.id.sector, sector.at));
+        Ok(sectors)
+    }
+
+    /// The data of each entry that has some, in the order of the index.
+    fn data_found(&self, entries: impl Iterator<Item = IndexEntry>) -> Result<Vec<Vec<u8>>, Refusal> {
+        let mut items = [0; ism::MAX_FIELD_BYTES as usize];
+        let mut found = Vec::with_capacity(ism::MAX_SECTORS);
+        for entry in entries {
+            let Some(field) = entry.data else { continue };
+            let size = size_of(entry.id.code);
+            ism::read_field(self.profile, &self.intervals[field.place..], size as u64 + 6, &mut items)?;
+            found.push(items[4..4 + size].iter().map(|item| *item as u8).collect());
+        }
+        Ok(found)
+    }
+
+    /// The least clearance of the intervals that the ID and its own data used.
+    pub fn clearance(&self, sector: &Found) -> Result<u32, Refusal> {
+        let id = self.field_clearance(sector.at, ID_BYTES)?;
+        match sector.data {
+            Data::Own { at, .. } => Ok(id.min(self.field_clearance(at, size_of(sector.id.code) as u64 + 6)?)),
+            Data::Missing | Data::NotItsOwn { .. } => Ok(id),
+        }
+    }
+
+    fn field_clearance(&self, at: usize, bytes: u64) -> Result<u32, Refusal> {
+        let mut items = [0; ism::MAX_FIELD_BYTES as usize];
+        Ok(ism::read_field(self.profile, &self.intervals[at..], bytes, &mut items)?.clearance)
+    }
+
+    /// The half cell behind the last one of a sector, counted on past the end of the turn.
+    pub fn end_of(&self, sector: &Found) -> Result<usize, Refusal> {
+        let (at, bytes) = match sector.data {
+            Data::Own { at, .. } => (at, size_of(sector.id.code) as u64 + 6),
+            Data::Missing | Data::NotItsOwn { .. } => (sector.at, ID_BYTES),
+        };
+        let mut items = [0; ism::MAX_FIELD_BYTES as usize];
+        let used = ism::read_field(self.profile, &self.intervals[at..], bytes, &mut items)?.used;
+        Ok(self.half_cell(at + used))
+    }
+
+    /// The half cell of the transition before an interval, counted on past the end of the turn.
+    fn half_cell(&self, interval: usize) -> usize {
+        let turn = self.transitions.len();
+        interval / turn * self.half_cells + self.transitions[interval % turn] as usize
+    }
+
+    /// The half cells at which the first marks of the locks of one turn begin, in order. A mark's word begins two half
+    /// cells behind the transition before its lock, which is the clock bit of the last 0 of the sync field.
+    pub fn marks(&self) -> Vec<usize> {
+        let turn = self.transitions.len();
+        locks(self.profile, &self.intervals[..turn]).map(|place| self.half_cell(place) + 2).collect()
+    }
+}
+
+/// The bytes of data in a sector of a length code.
+pub fn size_of(code: u8) -> usize {
+    128 << code
+}
+
+/// The locks of a list, each searched at the place after the one before.
+fn locks(profile: Profile, intervals: &[u16]) -> impl Iterator<Item = usize> + '_ {
+    let mut start = 0;
+    std::iter::from_fn(move || {
+        let place = ism::find_lock(profile, intervals, start).ok()?;
+        start = place as u64 + 1;
+        Some(place)
+    })
+}
+
+/// The first lock at which an ID stands: three A1 marks, FE, a length code of 0 to 3, and a sum that holds.
+fn first_id(profile: Profile, intervals: &[u16]) -> Option<usize> {
+    const BEGINS: [u16; 4] = [ism::MARK_A1, ism::MARK_A1, ism::MARK_A1, 0xFE];
+    locks(profile, intervals).find(|place| {
+        let mut items = [0; ID_BYTES as usize];
+        let field = ism::read_field(profile, &intervals[*place..], ID_BYTES, &mut items);
+        field.is_ok_and(|field| field.holds) && items[..4] == BEGINS && items[7] <= 3
+    })
+}
