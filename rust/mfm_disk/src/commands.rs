@@ -167,7 +167,10 @@ fn write_image(request: &Request, name: &str, passes: &[&ReadDisk], target: &Tar
         return target.write(&image.bytes);
     }
     let all = geometry.sides * geometry.tracks * geometry.sectors;
-    let counted = format!("{name}: {} of {all} sectors were not read", image.unread.len());
+    let counted = match image.unread.len() {
+        0 => format!("{name}: not every sector has a place in the image"),
+        count => format!("{name}: {count} of {all} sectors were not read"),
+    };
     if request.partial {
         target.write(&image.bytes)?;
         tell(&counted);

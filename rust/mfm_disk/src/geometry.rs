@@ -95,5 +95,5 @@ fn numbers(disks: &[&ReadDisk], code: u8, formatted: usize) -> Option<(u8, u8)> 
     }
     let mut common = (0..=255).filter(|number| tracks[usize::from(*number)] * 4 >= formatted.max(1));
     let low = common.next()?;
-    Some((low, common.last().unwrap_or(low)))
+    Some((low, common.next_back().unwrap_or(low)))
 }

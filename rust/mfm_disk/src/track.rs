@@ -106,7 +106,8 @@ impl Window {
         Ok(ism::read_field(self.profile, &self.intervals[at..], bytes, &mut items)?.clearance)
     }
 
-    /// The half cell behind the last one of a sector, counted on past the end of the turn.
+    /// The half cell behind the last one of a sector, counted on past the end of the turn. The last transition of a field
+    /// can be the clock bit of its last bit, which ends two half cells later.
     pub fn end_of(&self, sector: &Found) -> Result<usize, Refusal> {
         let (at, bytes) = match sector.data {
             Data::Own { at, .. } => (at, size_of(sector.id.code) as u64 + 6),
@@ -114,7 +115,7 @@ impl Window {
         };
         let mut items = [0; ism::MAX_FIELD_BYTES as usize];
         let used = ism::read_field(self.profile, &self.intervals[at..], bytes, &mut items)?.used;
-        Ok(self.half_cell(at + used))
+        Ok(self.half_cell(at + used) + 2)
     }
 
     /// The half cell of the transition before an interval, counted on past the end of the turn.
