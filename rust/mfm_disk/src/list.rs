@@ -94,6 +94,9 @@ impl List {
                 "{:>5} {:>4} {:>6} {:>4} {:>7} {:>7}  {:<12} {:>9}",
                 place.track, place.side, id.sector, id.code, sector.at, at, sum, clearance
             );
+            if let Data::Missing { refusal: Some(refusal) } = sector.data {
+                let _ = write!(text, "  {}", refused(refusal));
+            }
             if (usize::from(id.track), usize::from(id.side)) != (place.track, place.side) {
                 let _ = write!(text, "  its ID names track {}, side {}", id.track, id.side);
             }
@@ -133,7 +136,7 @@ impl List {
 /// The place of the data, if there is some, and what there is to say of its sum.
 fn data_and_sum(data: &Data) -> (Option<usize>, &'static str) {
     match data {
-        Data::Missing => (None, "no data"),
+        Data::Missing { .. } => (None, "no data"),
         Data::NotItsOwn { at } => (Some(*at), "not its own"),
         Data::Own { at, holds: true, .. } => (Some(*at), "holds"),
         Data::Own { at, holds: false, .. } => (Some(*at), "fails"),
@@ -143,9 +146,13 @@ fn data_and_sum(data: &Data) -> (Option<usize>, &'static str) {
 fn json_row(row: &Row) -> String {
     let (id, (at, sum)) = (row.sector.id, data_and_sum(&row.sector.data));
     let at = at.map_or("null".to_string(), |at| at.to_string());
+    let refusal = match row.sector.data {
+        Data::Missing { refusal: Some(refusal) } => quoted(&word_of(refusal)),
+        _ => "null".to_string(),
+    };
     format!(
         "{{\"track\":{},\"side\":{},\"sector\":{},\"code\":{},\"id_at\":{},\"data_at\":{at},\"sum\":{},\
-         \"clearance\":{},\"id_track\":{},\"id_side\":{}}}",
+         \"refusal\":{refusal},\"clearance\":{},\"id_track\":{},\"id_side\":{}}}",
         row.place.track,
         row.place.side,
         id.sector,

@@ -15,8 +15,8 @@ const ID_BYTES: u64 = 10;
 /// What was read behind an ID.
 #[derive(Clone, Debug, PartialEq, Eq)]
 pub enum Data {
-    /// no data field of the ID's length code at the next lock
-    Missing,
+    /// no data field of the ID's length code at the next lock: the refusal, or none where another field stands there
+    Missing { refusal: Option<Refusal> },
     /// a data field that is too far behind the ID: its own lock is lost
     NotItsOwn { at: usize },
     /// the ID's data, and whether its sum holds
@@ -63,7 +63,7 @@ impl Window {
         let mut sectors = Vec::with_capacity(index.len());
         for entry in index.entries() {
             let data = match entry.data {
-                None => Data::Missing,
+                None => Data::Missing { refusal: self.why_missing(entry).err() },
                 Some(field) => {
                     let bytes = read.next().unwrap_or_default();
                     if field.place - entry.place > FARTHEST_OWN_DATA {
@@ -92,12 +92,21 @@ impl Window {
         Ok(found)
     }
 
+    /// What the library says where an ID has no data: nothing, if the field at the next lock reads and is no data.
+    fn why_missing(&self, entry: IndexEntry) -> Result<(), Refusal> {
+        let mut items = [0; ism::MAX_FIELD_BYTES as usize];
+        let id = ism::read_field(self.profile, &self.intervals[entry.place..], ID_BYTES, &mut items)?;
+        let lock = ism::find_lock(self.profile, &self.intervals, (entry.place + id.used) as u64)?;
+        let bytes = size_of(entry.id.code) as u64 + 6;
+        ism::read_field(self.profile, &self.intervals[lock..], bytes, &mut items).map(|_| ())
+    }
+
     /// The least clearance of the intervals that the ID and its own data used.
     pub fn clearance(&self, sector: &Found) -> Result<u32, Refusal> {
         let id = self.field_clearance(sector.at, ID_BYTES)?;
         match sector.data {
             Data::Own { at, .. } => Ok(id.min(self.field_clearance(at, size_of(sector.id.code) as u64 + 6)?)),
-            Data::Missing | Data::NotItsOwn { .. } => Ok(id),
+            Data::Missing { .. } | Data::NotItsOwn { .. } => Ok(id),
         }
     }
 
@@ -111,7 +120,7 @@ impl Window {
     pub fn end_of(&self, sector: &Found) -> Result<usize, Refusal> {
         let (at, bytes) = match sector.data {
             Data::Own { at, .. } => (at, size_of(sector.id.code) as u64 + 6),
-            Data::Missing | Data::NotItsOwn { .. } => (sector.at, ID_BYTES),
+            Data::Missing { .. } | Data::NotItsOwn { .. } => (sector.at, ID_BYTES),
         };
         let mut items = [0; ism::MAX_FIELD_BYTES as usize];
         let used = ism::read_field(self.profile, &self.intervals[at..], bytes, &mut items)?.used;

@@ -50,7 +50,19 @@ fn an_id_whose_data_lock_is_lost_has_data_that_is_not_its_own() {
 #[test]
 fn an_id_before_another_id_has_no_data() {
     let disk = harmed(44, 12, 0x92);
-    assert_eq!(sectors(&disk)[2].data, Data::Missing);
+    assert_eq!(sectors(&disk)[2].data, Data::Missing { refusal: None });
+}
+
+#[test]
+fn an_id_whose_data_does_not_read_says_the_refusal() {
+    let disk = harmed(BEFORE_DATA + 200, 4, 0);
+    let Data::Missing { refusal: Some(refusal) } = sectors(&disk)[2].data else { panic!() };
+    assert_eq!(refusal.number(), 6);
+    let list = List::of(&disk, profile_of(&disk, None));
+    assert!(list.text().contains("no data             15  wide (refusal 6): interval "), "{}", list.text());
+    assert!(list.json("a", "b").contains("\"data_at\":null,\"sum\":\"no data\",\"refusal\":\"wide\""));
+    let (_, image) = image_of(&disk).unwrap();
+    assert!(image.unread[0].why.starts_with("no data was found behind its ID: wide (refusal 6): interval "));
 }
 
 #[test]
@@ -59,7 +71,7 @@ fn a_changed_byte_makes_the_sum_fail_in_every_container() {
     for format in FORMATS {
         let file = format.build(&disk, profile_of(&disk, None)).unwrap();
         let found = sectors(&format.parse(&file).unwrap());
-        assert!(matches!(found[2].data, Data::Own { holds: false, .. } | Data::Missing), "{format:?}");
+        assert!(matches!(found[2].data, Data::Own { holds: false, .. } | Data::Missing { .. }), "{format:?}");
         let good = found.iter().filter(|sector| matches!(sector.data, Data::Own { holds: true, .. })).count();
         assert_eq!((found.len(), good), (9, 8), "{format:?}");
     }
