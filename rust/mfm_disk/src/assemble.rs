@@ -81,7 +81,7 @@ fn copy_of<'a>(found: &'a Found, geometry: &Geometry, place: Place) -> Result<Se
             Err(format!("no data was found behind its ID: {}", refused(*refusal)))
         }
         Data::Missing { refusal: None } => Err("no data was found behind its ID, but another field".to_string()),
-        Data::NotItsOwn { .. } => Err("the data behind its ID is not its own".to_string()),
+        Data::NotItsOwn { .. } => Err("data not its own: the lock of its data is lost".to_string()),
         Data::Own { holds, bytes, .. } => Ok(Sector { number: id.sector, code: id.code, holds: *holds, data: bytes }),
     }
 }
@@ -170,7 +170,7 @@ mod tests {
         let expected = [
             (1, "the sum of its data fails"),
             (2, "its ID names track 7"),
-            (3, "the data behind its ID is not its own"),
+            (3, "data not its own: the lock of its data is lost"),
         ];
         assert_eq!(whys(&image), expected);
     }

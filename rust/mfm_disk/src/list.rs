@@ -84,14 +84,14 @@ impl List {
 
     /// The list as text.
     pub fn text(&self) -> String {
-        let mut text = String::from("track side sector code   ID at data at  sum          clearance\n");
+        let mut text = String::from("track side sector code   ID at data at  sum              clearance\n");
         for Row { place, sector, clearance } in &self.rows {
             let id = sector.id;
             let (at, sum) = data_and_sum(&sector.data);
             let at = at.map_or("-".to_string(), |at| at.to_string());
             let _ = write!(
                 text,
-                "{:>5} {:>4} {:>6} {:>4} {:>7} {:>7}  {:<12} {:>9}",
+                "{:>5} {:>4} {:>6} {:>4} {:>7} {:>7}  {:<16} {:>9}",
                 place.track, place.side, id.sector, id.code, sector.at, at, sum, clearance
             );
             if let Data::Missing { refusal: Some(refusal) } = sector.data {
@@ -137,7 +137,7 @@ impl List {
 fn data_and_sum(data: &Data) -> (Option<usize>, &'static str) {
     match data {
         Data::Missing { .. } => (None, "no data"),
-        Data::NotItsOwn { at } => (Some(*at), "not its own"),
+        Data::NotItsOwn { at } => (Some(*at), "data not its own"),
         Data::Own { at, holds: true, .. } => (Some(*at), "holds"),
         Data::Own { at, holds: false, .. } => (Some(*at), "fails"),
     }

@@ -41,10 +41,10 @@ fn an_id_whose_data_lock_is_lost_has_data_that_is_not_its_own() {
     assert!(matches!(found[2].data, Data::NotItsOwn { .. }));
     let list = List::of(&disk, profile_of(&disk, None));
     assert!(!list.all_read());
-    assert!(list.text().contains("not its own"));
+    assert!(list.text().contains("data not its own"));
     let (_, image) = image_of(&disk).unwrap();
     let why: Vec<_> = image.unread.iter().map(|unread| (unread.number, unread.why.as_str())).collect();
-    assert_eq!(why, [(3, "the data behind its ID is not its own"), (4, "no ID of it was read")]);
+    assert_eq!(why, [(3, "data not its own: the lock of its data is lost"), (4, "no ID of it was read")]);
 }
 
 #[test]
@@ -59,7 +59,7 @@ fn an_id_whose_data_does_not_read_says_the_refusal() {
     let Data::Missing { refusal: Some(refusal) } = sectors(&disk)[2].data else { panic!() };
     assert_eq!(refusal.number(), 6);
     let list = List::of(&disk, profile_of(&disk, None));
-    assert!(list.text().contains("no data             15  wide (refusal 6): interval "), "{}", list.text());
+    assert!(list.text().contains("no data                 15  wide (refusal 6): interval "), "{}", list.text());
     assert!(list.json("a", "b").contains("\"data_at\":null,\"sum\":\"no data\",\"refusal\":\"wide\""));
     let (_, image) = image_of(&disk).unwrap();
     assert!(image.unread[0].why.starts_with("no data was found behind its ID: wide (refusal 6): interval "));

@@ -59,9 +59,9 @@ fn a_turn_may_begin_anywhere() {
     for geometry in [geometry(1, 1, 9, 2, 1), geometry(1, 1, 32, 1, 1), geometry(1, 1, 1, 3, 1)] {
         let (image, disk) = random_disk(&mut random, &geometry);
         let length = disk.turns[0].len();
-        for i in 0..400 {
-            // every half cell of the first fields, then anywhere
-            let start = if i < 200 { 1_280 + 37 * i } else { random.below(length) };
+        for i in 0..160 {
+            // in the fields of the first sector, then anywhere
+            let start = if i < 80 { 1_280 + 91 * i } else { random.below(length) };
             let turn = begun_later(&disk.turns[0], start);
             let later = Disk { turns: vec![turn], ..disk };
             for format in FORMATS {

@@ -9,7 +9,7 @@ use mfm_disk::geometry::Geometry;
 use mfm_disk::list::List;
 use mfm_disk::read::profile_of;
 
-const CASES: usize = 12_000;
+const CASES: usize = 6_000;
 
 /// A disk of short turns, two sectors on each, so that many files can be tried.
 fn short_disk(random: &mut Random) -> Disk {
