@@ -77,10 +77,8 @@ fn copy_of<'a>(found: &'a Found, geometry: &Geometry, place: Place) -> Result<Se
         return Err(format!("it has length code {}, not {}", id.code, geometry.code));
     }
     match &found.data {
-        Data::Missing { refusal: Some(refusal) } => {
-            Err(format!("no data was found behind its ID: {}", refused(*refusal)))
-        }
-        Data::Missing { refusal: None } => Err("no data was found behind its ID, but another field".to_string()),
+        Data::Missing { refusal: Some(refusal) } => Err(format!("no data: {}", refused(*refusal))),
+        Data::Missing { refusal: None } => Err("no data: another field stands behind its ID".to_string()),
         Data::NotItsOwn { .. } => Err("data not its own: the lock of its data is lost".to_string()),
         Data::Own { holds, bytes, .. } => Ok(Sector { number: id.sector, code: id.code, holds: *holds, data: bytes }),
     }

@@ -1,8 +1,8 @@
 //! DMK: tracks as bytes, with the places of the IDs.
 //!
-//! A header of 16 bytes: whether it is write-protected, the tracks, the length of a track, flags. A track has a table of
-//! 64 places of ID marks FE, counted from the table's start, bit 15 set for double density, and then its bytes. Which
-//! A1 are marks is not said: those before an FE that the table names, and those before the data mark behind it.
+//! A header of 16 bytes: whether it is write-protected, the tracks, the length of a track, flags. A track has a table
+//! of 64 places of ID marks FE, counted from the table's start, bit 15 set for double density, and then its bytes.
+//! Which A1 are marks is not said: those before an FE that the table names, and those before the data mark behind it.
 
 mod decode;
 mod encode;
@@ -82,4 +82,59 @@ pub fn build(sides: usize, tracks: &[Decoded]) -> Result<Vec<u8>, String> {
         file.resize(begin + length, 0x4E);
     }
     Ok(file)
+}
+
+#[cfg(test)]
+mod tests {
+    use super::*;
+
+    fn file(sides: usize, lengths: &[usize]) -> Vec<u8> {
+        let track = |length: &usize| Decoded { bytes: vec![0x4E; *length], ids: vec![] };
+        build(sides, &lengths.iter().map(track).collect::<Vec<_>>()).unwrap()
+    }
+
+    #[test]
+    fn the_header_and_the_tables_are_as_described() {
+        let tracks = [Decoded { bytes: vec![1; 300], ids: vec![7, 200] }, Decoded { bytes: vec![2; 298], ids: vec![] }];
+        let file = build(1, &tracks).unwrap();
+        assert_eq!(file[..16], [0, 2, 0xAC, 1, 0x10, 0, 0, 0, 0, 0, 0, 0, 0, 0, 0, 0]);
+        assert_eq!(file[16..22], [0x87, 0x80, 0x48, 0x81, 0, 0]);
+        assert_eq!((file.len(), file[16 + 128], file[16 + 428 + 128 + 297]), (16 + 2 * 428, 1, 2));
+        assert_eq!(file[16 + 428 + 128 + 298..], [0x4E, 0x4E], "filled with gap bytes");
+    }
+
+    #[test]
+    fn sides_and_rate_are_told_by_the_header() {
+        let disk = parse(&file(2, &[6_250; 4])).unwrap();
+        assert_eq!((disk.sides, disk.tracks(), disk.rate, disk.turns[3].len()), (2, 2, 250, 100_000));
+        let disk = parse(&file(1, &[12_500; 3])).unwrap();
+        assert_eq!((disk.sides, disk.tracks(), disk.rate), (1, 3, 500));
+    }
+
+    #[test]
+    fn what_is_no_such_file_is_told() {
+        let good = file(2, &[300; 4]);
+        let with = |at: usize, bytes: &[u8]| {
+            let mut file = good.clone();
+            file[at..at + bytes.len()].copy_from_slice(bytes);
+            parse(&file).unwrap_err()
+        };
+        assert!(with(0, &[7]).contains("no DMK file"));
+        assert!(with(1, &[0]).contains("no DMK file"));
+        assert!(with(2, &[128, 0]).contains("no DMK file"));
+        assert!(with(2, &[1, 0x40]).contains("no DMK file"));
+        assert!(with(1, &[3]).contains("stops too early"));
+        assert!(with(1, &[1]).contains("is longer than it says"));
+        assert!(with(12, &REAL_DRIVE).contains("a real drive"));
+        assert!(with(16 + 428, &[1, 0x80]).contains("track 0, side 1: its ID 0 is at 1, outside the track"));
+        assert!(parse(&good[..15]).unwrap_err().contains("no DMK file"));
+    }
+
+    #[test]
+    fn tracks_and_ids_beyond_the_room_are_told() {
+        let long = [Decoded { bytes: vec![0; LONGEST - TABLE + 1], ids: vec![] }];
+        assert!(build(1, &long).unwrap_err().contains("room for 16256"));
+        let crowded = [Decoded { bytes: vec![0; 300], ids: (0..65).collect() }];
+        assert!(build(1, &crowded).unwrap_err().contains("track 0, side 0 has 65 IDs"));
+    }
 }

@@ -97,3 +97,60 @@ fn numbers(disks: &[&ReadDisk], code: u8, formatted: usize) -> Option<(u8, u8)> 
     let low = common.next()?;
     Some((low, common.next_back().unwrap_or(low)))
 }
+
+#[cfg(test)]
+mod tests {
+    use super::*;
+    use crate::read::ReadTrack;
+    use crate::track::{Data, Found};
+    use ism::SectorId;
+
+    /// A disk whose tracks, on one side, have these sectors of these codes.
+    fn disk(tracks: &[&[(u8, u8)]]) -> ReadDisk {
+        let found = |track: usize, (sector, code): &(u8, u8)| Found {
+            id: SectorId { track: track as u8, side: 0, sector: *sector, code: *code },
+            at: 0,
+            data: Data::Missing { refusal: None },
+        };
+        let read = |(track, sectors): (usize, &&[(u8, u8)])| ReadTrack {
+            place: Place { track, side: 0 },
+            sectors: Ok(sectors.iter().map(|sector| found(track, sector)).collect()),
+            single_density: 0,
+        };
+        ReadDisk { tracks: tracks.iter().enumerate().map(read).collect() }
+    }
+
+    fn found(tracks: &[&[(u8, u8)]], wanted: Wanted) -> Option<Geometry> {
+        Geometry::found(&[&disk(tracks)], wanted)
+    }
+
+    #[test]
+    fn what_most_tracks_have_decides() {
+        let usual: &[(u8, u8)] = &[(1, 2), (2, 2), (3, 2)];
+        let tracks = [usual, &[(1, 2), (3, 2)], usual, &[(1, 2), (2, 2), (3, 2), (99, 2), (4, 3)], usual, &[]];
+        let expected = Geometry { sides: 1, tracks: 5, sectors: 3, code: 2, first: 1 };
+        assert_eq!(found(&tracks, Wanted::default()), Some(expected));
+    }
+
+    #[test]
+    fn the_command_line_comes_first() {
+        let wanted = Wanted { sides: Some(2), tracks: Some(9), sectors: Some(4), code: Some(1), first: Some(0) };
+        let expected = Geometry { sides: 2, tracks: 9, sectors: 4, code: 1, first: 0 };
+        assert_eq!(found(&[&[(1, 2)]], wanted), Some(expected));
+        assert_eq!(found(&[], wanted), Some(expected));
+        let wanted = Wanted { first: Some(0), ..Wanted::default() };
+        assert_eq!(found(&[&[(1, 2), (2, 2)]], wanted).map(|geometry| geometry.sectors), Some(3));
+    }
+
+    #[test]
+    fn a_disk_without_ids_has_no_geometry() {
+        assert_eq!(found(&[&[], &[]], Wanted::default()), None);
+    }
+
+    #[test]
+    fn a_sector_number_has_its_place() {
+        let geometry = Geometry { sides: 1, tracks: 1, sectors: 3, code: 3, first: 254 };
+        assert_eq!([253, 254, 255, 0].map(|number| geometry.place_of(number)), [None, Some(0), Some(1), None]);
+        assert_eq!((geometry.size(), geometry.image_bytes()), (1_024, 3_072));
+    }
+}

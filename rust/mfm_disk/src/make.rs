@@ -1,9 +1,11 @@
-//! Tracks made from raw sectors.
+//! Disks and tracks made from raw sectors.
 
 use ism::{Refusal, SectorId};
 
-use crate::disk::{Place, Turn, DOUBLE_DENSITY, HIGH_DENSITY};
+use crate::disk::{Disk, Place, Turn, DOUBLE_DENSITY, HIGH_DENSITY};
+use crate::failure::refused;
 use crate::geometry::Geometry;
+use crate::progress::Progress;
 
 /// Bytes that a sector takes on the track besides its data: what the sector maker adds, each check order as two bytes.
 const OVERHEAD: usize = ism::SECTOR_OVERHEAD + 2;
@@ -13,6 +15,20 @@ const FIRST_GAP: usize = 80;
 const CUT: usize = 30;
 /// A gap byte.
 const GAP: u16 = 0x4E;
+
+/// The disk of a raw image that has the bytes of its geometry.
+pub fn disk_of(geometry: &Geometry, image: &[u8]) -> Result<Disk, String> {
+    let rate = rate_for(geometry)
+        .ok_or_else(|| format!("{} sectors of {} bytes do not fit in a turn", geometry.sectors, geometry.size()))?;
+    let mut progress = Progress::new("pack", geometry.sides * geometry.tracks);
+    let mut turns: Vec<Turn> = Vec::with_capacity(geometry.sides * geometry.tracks);
+    for (place, data) in geometry.places().zip(image.chunks(geometry.track_bytes())) {
+        progress.step(place);
+        let turn = turn_of(geometry, place, rate, data);
+        turns.push(turn.map_err(|(sector, refusal)| format!("{place}, sector {sector}: {}", refused(refusal)))?);
+    }
+    Ok(Disk { sides: geometry.sides, rate, turns })
+}
 
 /// The slowest of the two bit rates at which the sectors of a track fit in a turn.
 pub fn rate_for(geometry: &Geometry) -> Option<u16> {
@@ -25,8 +41,8 @@ pub fn bytes_in_turn(rate: u16) -> usize {
     usize::from(rate) * 1000 / 8 / 5
 }
 
-/// The turn with the sectors of one track, numbered on from the first, in the order of the data; and the sector that was
-/// refused, if one is.
+/// The turn with the sectors of one track, numbered on from the first, in the order of the data; or the sector that is
+/// refused.
 ///
 /// A sector is made and turned into code words by itself, since a track can have more bytes than the library takes at
 /// once. A made sector ends in 4E, whose last bit is 0, and an image begins after a 0, so the words can be joined.

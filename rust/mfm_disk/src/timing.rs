@@ -5,8 +5,8 @@ use ism::Profile;
 /// Half clocks in a microsecond where the tool makes the profile.
 const HALF_CLOCKS_PER_MICROSECOND: u32 = 16;
 
-/// A profile for the cells of a container: a transition stands in the middle of its window, and nothing is early or late.
-/// At 250 thousand bits a second a half cell is 32 half clocks, at 500 thousand 16.
+/// A profile for the cells of a container: a transition stands in the middle of its window, and nothing is early or
+/// late. At 250 thousand bits a second a half cell is 32 half clocks, at 500 thousand 16.
 pub fn profile_for(rate: u16) -> Profile {
     let t0 = (HALF_CLOCKS_PER_MICROSECOND * 500 / u32::from(rate.max(1))).clamp(4, 500) as u16;
     let (half, t1) = (t0 / 2, 2 * t0);

@@ -2,12 +2,13 @@
 
 use ism::{IndexEntry, Profile, Refusal, SectorId};
 
-use crate::disk::Turn;
+use crate::disk::{Turn, HALF_CELLS_PER_BYTE};
 use crate::timing::Lengths;
 
-/// The most intervals between the locks of an ID and of its own data. A made sector has 278 to 295; with a gap of 41
-/// bytes, the longest in use, it is some 420. The data of the next sector begins 1,200 or more behind.
-const FARTHEST_OWN_DATA: usize = 500;
+/// The most half cells between the locks of an ID and of its own data: 80 bytes. A made sector has 44, one with a gap
+/// of 41 bytes, the longest in use, 63; the data of the next sector is at least 200 more behind. Intervals do not tell,
+/// since a stretch without transitions is one interval however long.
+const FARTHEST_OWN_DATA: usize = 80 * HALF_CELLS_PER_BYTE;
 
 /// The bytes of an ID field from the first mark to its sum.
 const ID_BYTES: u64 = 10;
@@ -66,7 +67,7 @@ impl Window {
                 None => Data::Missing { refusal: self.why_missing(entry).err() },
                 Some(field) => {
                     let bytes = read.next().unwrap_or_default();
-                    if field.place - entry.place > FARTHEST_OWN_DATA {
+                    if self.half_cell(field.place) - self.half_cell(entry.place) > FARTHEST_OWN_DATA {
                         Data::NotItsOwn { at: field.place }
                     } else {
                         Data::Own { at: field.place, holds: field.holds, bytes }
@@ -115,8 +116,8 @@ impl Window {
         Ok(ism::read_field(self.profile, &self.intervals[at..], bytes, &mut items)?.clearance)
     }
 
-    /// The half cell behind the last one of a sector, counted on past the end of the turn. The last transition of a field
-    /// can be the clock bit of its last bit, which ends two half cells later.
+    /// The half cell behind the last one of a sector, counted on past the end of the turn. The last transition of a
+    /// field can be the clock bit of its last bit, which ends two half cells later.
     pub fn end_of(&self, sector: &Found) -> Result<usize, Refusal> {
         let (at, bytes) = match sector.data {
             Data::Own { at, .. } => (at, size_of(sector.id.code) as u64 + 6),

@@ -48,6 +48,15 @@ fn an_id_whose_data_lock_is_lost_has_data_that_is_not_its_own() {
 }
 
 #[test]
+fn a_stretch_without_transitions_does_not_bring_other_data_near() {
+    // from the data's sync field to the next sector's, without its ID
+    let disk = harmed(44, SECTOR, 0);
+    let found = sectors(&disk);
+    assert!(matches!(found[2].data, Data::NotItsOwn { at } if at - found[2].at < 300));
+    assert_eq!(found.len(), 8);
+}
+
+#[test]
 fn an_id_before_another_id_has_no_data() {
     let disk = harmed(44, 12, 0x92);
     assert_eq!(sectors(&disk)[2].data, Data::Missing { refusal: None });
@@ -62,7 +71,7 @@ fn an_id_whose_data_does_not_read_says_the_refusal() {
     assert!(list.text().contains("no data                 15  wide (refusal 6): interval "), "{}", list.text());
     assert!(list.json("a", "b").contains("\"data_at\":null,\"sum\":\"no data\",\"refusal\":\"wide\""));
     let (_, image) = image_of(&disk).unwrap();
-    assert!(image.unread[0].why.starts_with("no data was found behind its ID: wide (refusal 6): interval "));
+    assert!(image.unread[0].why.starts_with("no data: wide (refusal 6): interval "));
 }
 
 #[test]
@@ -94,7 +103,7 @@ fn a_track_of_33_sectors_is_crowded() {
 #[test]
 fn length_code_0_is_not_made() {
     let geometry = Geometry { sides: 1, tracks: 1, sectors: 9, code: 0, first: 1 };
-    let told = mfm_disk::commands::packed(&geometry, &[0; 9 * 128]).unwrap_err();
+    let told = make::disk_of(&geometry, &[0; 9 * 128]).unwrap_err();
     assert!(told.starts_with("track 0, side 0, sector 1: misfit (refusal 13)"), "{told}");
 }
 

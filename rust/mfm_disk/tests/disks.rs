@@ -5,6 +5,7 @@ mod common;
 use common::{begun_later, image_of, random_disk, Random, FORMATS};
 use mfm_disk::disk::Disk;
 use mfm_disk::geometry::Geometry;
+use mfm_disk::make;
 use mfm_disk::read::{profile_of, read_disk};
 
 fn geometry(sides: usize, tracks: usize, sectors: usize, code: u8, first: u8) -> Geometry {
@@ -31,7 +32,7 @@ fn every_number_of_sectors_that_fits_comes_back() {
         for sectors in 1..=most {
             comes_back(&mut random, geometry(1 + sectors % 2, 1 + sectors % 3, sectors, code, (sectors % 2) as u8));
         }
-        assert!(mfm_disk::make::rate_for(&geometry(1, 1, [34, 20, 11][usize::from(code) - 1], code, 1)).is_none());
+        assert!(make::rate_for(&geometry(1, 1, [34, 20, 11][usize::from(code) - 1], code, 1)).is_none());
     }
 }
 
@@ -48,7 +49,7 @@ fn full_and_empty_sectors_come_back() {
     let geometry = geometry(1, 1, 9, 2, 1);
     for byte in 0..=255 {
         let image = vec![byte; geometry.image_bytes()];
-        let disk = mfm_disk::commands::packed(&geometry, &image).unwrap();
+        let disk = make::disk_of(&geometry, &image).unwrap();
         assert!(image_of(&disk).expect("sectors").1.bytes == image, "{byte}");
     }
 }

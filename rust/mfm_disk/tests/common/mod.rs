@@ -2,10 +2,10 @@
 #![allow(dead_code)]
 
 use mfm_disk::assemble::{assemble, Image};
-use mfm_disk::commands::packed;
 use mfm_disk::disk::{Disk, Turn};
 use mfm_disk::format::Format;
 use mfm_disk::geometry::{Geometry, Wanted};
+use mfm_disk::make;
 use mfm_disk::read::{profile_of, read_disk};
 
 pub const FORMATS: [Format; 3] = [Format::Hfe, Format::Mfm, Format::Dmk];
@@ -33,7 +33,7 @@ impl Random {
 /// A random raw image and its disk.
 pub fn random_disk(random: &mut Random, geometry: &Geometry) -> (Vec<u8>, Disk) {
     let image = random.bytes(geometry.image_bytes());
-    let disk = packed(geometry, &image).expect("a geometry that fits");
+    let disk = make::disk_of(geometry, &image).expect("a geometry that fits");
     (image, disk)
 }
 
