@@ -61,12 +61,17 @@ pub fn read_disk(disk: &Disk, profile: Profile, what: &str) -> ReadDisk {
 }
 
 impl ReadTrack {
-    /// Whether both tracks give the same sectors, wherever they stand on the track.
-    pub fn reads_like(&self, other: &ReadTrack) -> bool {
-        match (&self.sectors, &other.sectors) {
-            (Ok(one), Ok(two)) => one.len() == two.len() && one.iter().zip(two).all(|(one, two)| alike(one, two)),
-            (one, two) => one == two,
-        }
+    /// The numbers of the sectors that only one of two tracks gives so, wherever they stand on the track.
+    pub fn unlike(&self, other: &ReadTrack) -> Vec<u8> {
+        let sectors = |track: &ReadTrack| track.sectors.clone().unwrap_or_default();
+        let (one, two) = (sectors(self), sectors(other));
+        let lacks = |some: &[Found], sector: &Found| !some.iter().any(|other| alike(sector, other));
+        let here = one.iter().filter(|sector| lacks(&two, sector));
+        let there = two.iter().filter(|sector| lacks(&one, sector));
+        let mut numbers: Vec<u8> = here.chain(there).map(|sector| sector.id.sector).collect();
+        numbers.sort_unstable();
+        numbers.dedup();
+        numbers
     }
 }
 
@@ -76,4 +81,27 @@ fn alike(one: &Found, two: &Found) -> bool {
             (Data::Own { holds: a, bytes: x, .. }, Data::Own { holds: b, bytes: y, .. }) => a == b && x == y,
             (one, two) => std::mem::discriminant(one) == std::mem::discriminant(two),
         }
+}
+
+#[cfg(test)]
+mod tests {
+    use super::*;
+    use ism::SectorId;
+
+    fn track(sectors: &[(u8, u8, bool)]) -> ReadTrack {
+        let found = |(sector, byte, holds): &(u8, u8, bool)| Found {
+            id: SectorId { track: 0, side: 0, sector: *sector, code: 0 },
+            at: usize::from(*byte),
+            data: Data::Own { at: 300, holds: *holds, bytes: vec![*byte; 128] },
+        };
+        let sectors = Ok(sectors.iter().map(found).collect());
+        ReadTrack { place: Place { track: 0, side: 0 }, sectors, single_density: 0 }
+    }
+
+    #[test]
+    fn tracks_differ_in_the_sectors_that_one_lacks() {
+        let one = track(&[(1, 5, true), (2, 6, true), (3, 7, true), (4, 8, true)]);
+        assert_eq!(one.unlike(&track(&[(1, 5, true), (2, 6, false), (4, 9, true), (5, 1, true)])), [2, 3, 4, 5]);
+        assert_eq!(one.unlike(&one), []);
+    }
 }

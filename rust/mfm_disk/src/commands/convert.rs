@@ -9,6 +9,7 @@ use crate::failure::Failure;
 use crate::files::Target;
 use crate::format::Format;
 use crate::read::{profile_of, read_disk};
+use crate::unread::{self, Unread};
 
 /// Makes the disk and reads it again.
 pub fn convert(request: &Request) -> Result<(), Failure> {
@@ -31,19 +32,22 @@ pub fn convert(request: &Request) -> Result<(), Failure> {
     }
 }
 
-/// The tracks whose sectors read otherwise in the file that was made than on the disk that it was made from.
+/// The sectors that read otherwise in the file that was made than on the disk that it was made from.
 fn differences(disk: &Disk, file: &[u8], format: Format, profile: Profile) -> Result<Vec<String>, Failure> {
     let made = format.parse(file).map_err(|text| Failure::Unread(format!("what was made does not read: {text}")))?;
     let (before, after) = (read_disk(disk, profile, "convert"), read_disk(&made, profile, "convert"));
-    let mut lines = Vec::new();
+    let (mut lines, mut unread) = (Vec::new(), Vec::new());
     for (old, new) in before.tracks.iter().zip(&after.tracks) {
         if old.single_density > 0 {
             let count = old.single_density;
             lines.push(format!("{}: {count} IDs of single density (FM), which is not converted", old.place));
         }
-        if !old.reads_like(new) {
-            lines.push(format!("{}: its sectors read otherwise in {}", old.place, format.name()));
+        let why = format!("it reads otherwise in {}", format.name());
+        unread.extend(old.unlike(new).into_iter().map(|number| Unread { place: old.place, number, why: why.clone() }));
+        if old.sectors.is_err() != new.sectors.is_err() {
+            lines.push(format!("{}: it is crowded in one of the two", old.place));
         }
     }
+    lines.extend(unread::lines(&unread));
     Ok(lines)
 }

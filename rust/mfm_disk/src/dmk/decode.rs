@@ -22,7 +22,8 @@ pub fn decode(turn: &Turn, profile: ism::Profile) -> Decoded {
     let lengths = Lengths::of(profile);
     let turn = behind_the_cut(turn, profile, &lengths);
     let marks = Window::of(&turn, profile, &lengths).marks();
-    let mut starts: Vec<usize> = marks.iter().map(|mark| mark.saturating_sub(SYNC_BYTES * 16)).collect();
+    let mut starts: Vec<usize> =
+        marks.iter().map(|mark| mark.saturating_sub(SYNC_BYTES * HALF_CELLS_PER_BYTE)).collect();
     let first = starts.first().map_or(0, |start| start % HALF_CELLS_PER_BYTE);
     starts.insert(0, first);
     starts.push(turn.len());
