@@ -5,6 +5,8 @@
 //! back. `track` shows a turn to the library, `make` makes one from sectors; `assemble` puts sectors in their places in
 //! a raw image.
 
+#![forbid(unsafe_code)]
+
 pub mod arguments;
 pub mod assemble;
 mod bytes;

@@ -1,5 +1,7 @@
 //! The command line of `mfm_disk`.
 
+#![forbid(unsafe_code)]
+
 use std::process::ExitCode;
 
 use mfm_disk::{arguments, commands};
