@@ -92,8 +92,8 @@ fn merge_all(mut copies: Vec<Sector<'_>>) -> (Vec<u8>, Vec<(u8, Refusal)>) {
         match merge_passes(&copies) {
             Ok(set) => return (set, at_odds),
             Err(refusal @ Refusal::SectorsAtOdds { sector }) if at_odds.len() < 256 => {
-                at_odds.push((sector as u8, refusal));
-                copies.retain(|copy| u32::from(copy.number) != sector);
+                at_odds.push((sector, refusal));
+                copies.retain(|copy| copy.number != sector);
             }
             // more than 32 numbers cannot be, since a geometry has at most 32
             Err(_) => return (Vec::new(), at_odds),

@@ -26,7 +26,7 @@ pub struct List {
     tracks: usize,
     sides: usize,
     rate: u16,
-    margin: u64,
+    margin: u32,
 }
 
 impl List {

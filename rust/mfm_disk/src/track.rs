@@ -11,7 +11,7 @@ use crate::timing::Lengths;
 const FARTHEST_OWN_DATA: usize = 80 * HALF_CELLS_PER_BYTE;
 
 /// The bytes of an ID field from the first mark to its sum.
-const ID_BYTES: u64 = 10;
+const ID_BYTES: usize = 10;
 
 /// What was read behind an ID.
 #[derive(Clone, Debug, PartialEq, Eq)]
@@ -82,12 +82,12 @@ impl Window {
 
     /// The data of each entry that has some, in the order of the index.
     fn data_found(&self, entries: impl Iterator<Item = IndexEntry>) -> Result<Vec<Vec<u8>>, Refusal> {
-        let mut items = [0; ism::MAX_FIELD_BYTES as usize];
+        let mut items = [0; ism::MAX_FIELD_BYTES];
         let mut found = Vec::with_capacity(ism::MAX_SECTORS);
         for entry in entries {
             let Some(field) = entry.data else { continue };
             let size = size_of(entry.id.code);
-            ism::read_field(self.profile, &self.intervals[field.place..], size as u64 + 6, &mut items)?;
+            ism::read_field(self.profile, &self.intervals[field.place..], size + 6, &mut items)?;
             found.push(items[4..4 + size].iter().map(|item| *item as u8).collect());
         }
         Ok(found)
@@ -95,10 +95,10 @@ impl Window {
 
     /// What the library says where an ID has no data: nothing, if the field at the next lock reads and is no data.
     fn why_missing(&self, entry: IndexEntry) -> Result<(), Refusal> {
-        let mut items = [0; ism::MAX_FIELD_BYTES as usize];
+        let mut items = [0; ism::MAX_FIELD_BYTES];
         let id = ism::read_field(self.profile, &self.intervals[entry.place..], ID_BYTES, &mut items)?;
-        let lock = ism::find_lock(self.profile, &self.intervals, (entry.place + id.used) as u64)?;
-        let bytes = size_of(entry.id.code) as u64 + 6;
+        let lock = ism::find_lock(self.profile, &self.intervals, entry.place + id.used)?;
+        let bytes = size_of(entry.id.code) + 6;
         ism::read_field(self.profile, &self.intervals[lock..], bytes, &mut items).map(|_| ())
     }
 
@@ -106,13 +106,13 @@ impl Window {
     pub fn clearance(&self, sector: &Found) -> Result<u32, Refusal> {
         let id = self.field_clearance(sector.at, ID_BYTES)?;
         match sector.data {
-            Data::Own { at, .. } => Ok(id.min(self.field_clearance(at, size_of(sector.id.code) as u64 + 6)?)),
+            Data::Own { at, .. } => Ok(id.min(self.field_clearance(at, size_of(sector.id.code) + 6)?)),
             Data::Missing { .. } | Data::NotItsOwn { .. } => Ok(id),
         }
     }
 
-    fn field_clearance(&self, at: usize, bytes: u64) -> Result<u32, Refusal> {
-        let mut items = [0; ism::MAX_FIELD_BYTES as usize];
+    fn field_clearance(&self, at: usize, bytes: usize) -> Result<u32, Refusal> {
+        let mut items = [0; ism::MAX_FIELD_BYTES];
         Ok(ism::read_field(self.profile, &self.intervals[at..], bytes, &mut items)?.clearance)
     }
 
@@ -120,10 +120,10 @@ impl Window {
     /// field can be the clock bit of its last bit, which ends two half cells later.
     pub fn end_of(&self, sector: &Found) -> Result<usize, Refusal> {
         let (at, bytes) = match sector.data {
-            Data::Own { at, .. } => (at, size_of(sector.id.code) as u64 + 6),
+            Data::Own { at, .. } => (at, size_of(sector.id.code) + 6),
             Data::Missing { .. } | Data::NotItsOwn { .. } => (sector.at, ID_BYTES),
         };
-        let mut items = [0; ism::MAX_FIELD_BYTES as usize];
+        let mut items = [0; ism::MAX_FIELD_BYTES];
         let used = ism::read_field(self.profile, &self.intervals[at..], bytes, &mut items)?.used;
         Ok(self.half_cell(at + used) + 2)
     }
@@ -152,7 +152,7 @@ fn locks(profile: Profile, intervals: &[u16]) -> impl Iterator<Item = usize> + '
     let mut start = 0;
     std::iter::from_fn(move || {
         let place = ism::find_lock(profile, intervals, start).ok()?;
-        start = place as u64 + 1;
+        start = place + 1;
         Some(place)
     })
 }
@@ -161,7 +161,7 @@ fn locks(profile: Profile, intervals: &[u16]) -> impl Iterator<Item = usize> + '
 fn first_id(profile: Profile, intervals: &[u16]) -> Option<usize> {
     const BEGINS: [u16; 4] = [ism::MARK_A1, ism::MARK_A1, ism::MARK_A1, 0xFE];
     locks(profile, intervals).find(|place| {
-        let mut items = [0; ID_BYTES as usize];
+        let mut items = [0; ID_BYTES];
         let field = ism::read_field(profile, &intervals[*place..], ID_BYTES, &mut items);
         field.is_ok_and(|field| field.holds) && items[..4] == BEGINS && items[7] <= 3
     })
