@@ -1,11 +1,12 @@
 -- What the profile's rule means: where it accepts, every number is in range and every window holds its lengths, since
--- each test of the definition gave the answer that let the next be asked. Rests on no axiom.
+-- each test of the definition gave the answer that let the next be asked; and where that is so it accepts. Rests on no
+-- axiom.
 use Prim.Native.Nat.{ℕ, suc, _+_, _*_, _≤_, _<_}
 use mathlib.Core.Path.{_≡_, refl, ap}
 use mathlib.Core.Bool.{Bool, true, false, cond, not, _&&_}
 use native.Mathlib.Omega.{arith}
 use native.Mathlib.Nat.{zero-add}
-use borrow.Author.Tests.{ltb-true, leb-true}
+use borrow.Author.Tests.{ltb-true, leb-true, lt-ltb, le-leb}
 use Rattle.lists.specs.Place.{anywhere, lowest, passed}
 use Rattle.lists.proofs.BoolLaws.{both}
 use Rattle.refusal.specs.Answer.{accepted, refused, refuseIf}
@@ -13,7 +14,7 @@ use Rattle.timing.specs.Numbers.{ranges, numbersOf}
 use Rattle.timing.specs.Profile.{unset, swing, advance, delay, isTrueShort, isTrueLong, isTrue, profileRule}
 use Rattle.timing.specs.Profile.{lowestUnset, InRange}
 use Rattle.timing.specs.declared.Profile.{Profile}
-use Rattle.timing.proofs.RangeLaws.{none-outside-all-inside, unsetFrom}
+use Rattle.timing.proofs.RangeLaws.{none-outside-all-inside, all-inside-none-outside, unsetFrom}
 
 -- all that an accepted profile means: for each side of an edge, that the lengths there stand on that side
 pub record Kept (p : Profile) : Type 0 where
@@ -81,6 +82,29 @@ unfolding profileRule
 kept p e =
     let (in-ranges, windows) = accepts-tests (anywhere passed (unset p)) (isTrue p) (lowest passed (unset p)) e in
     kept-if-true p (none-unset-in-range p in-ranges) windows
+
+-- and the other way round
+pub true-if-kept : (p : Profile) → Kept p → isTrue p ≡ true
+unfolding isTrue isTrueShort isTrueLong
+true-if-kept p k =
+    rw (
+      le-leb _ _ (k .early-first),
+      le-leb _ _ (k .late-last),
+      le-leb _ _ (k .above-min),
+      lt-ltb _ _ (k .below-b23-short),
+      le-leb _ _ (k .above-b23-short),
+      lt-ltb _ _ (k .below-b34-short),
+      le-leb _ _ (k .above-b34-short),
+      lt-ltb _ _ (k .below-b23-long),
+      le-leb _ _ (k .above-b23-long),
+      lt-ltb _ _ (k .below-b34-long),
+      le-leb _ _ (k .above-b34-long),
+      lt-ltb _ _ (k .below-rpt),
+    )
+
+pub accepts-if-kept : (p : Profile) → Kept p → profileRule p .number ≡ 0
+unfolding profileRule unset
+accepts-if-kept p k = rw (all-inside-none-outside ranges (numbersOf p) (k .ranges), true-if-kept p k)
 
 -- a number that is out of range decides the rule; where none is, the windows do
 rule-by-place

@@ -1,0 +1,5 @@
+pub mod TrialLaws
+pub mod MarginLaws
+pub mod RuleLaws
+pub mod RoomLaws
+pub mod BestLaws

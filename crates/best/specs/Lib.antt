@@ -1,0 +1,4 @@
+pub mod Best
+pub mod machine
+pub mod Claims
+pub mod Equal
