@@ -29,7 +29,7 @@ pub parts-of : (w : Writing) → Possible w → swingOf w ≡ advanceOf w + dela
 parts-of w k = let h = k .early-first in let g = k .late-last in omega (arith, h, g)
 
 -- the lesser of two, the second halved
-lesser-fits : (a b c d : ℕ) → b < a → d < c → (b + min (a - b - 1) ((c - d - 1) / 2) < a)
+pub lesser-fits : (a b c d : ℕ) → b < a → d < c → (b + min (a - b - 1) ((c - d - 1) / 2) < a)
     × (d + 2 * min (a - b - 1) ((c - d - 1) / 2) < c)
 lesser-fits a b c d h g = (omega arith, omega arith)
 
@@ -44,7 +44,7 @@ margin-fits w k =
     record { below-t1 = f .0; below-t0 = f .1 }
 
 -- nothing larger does
-fits-lesser : (a b c d m : ℕ) → b + m < a → d + 2 * m < c → m ≤ min (a - b - 1) ((c - d - 1) / 2)
+pub fits-lesser : (a b c d m : ℕ) → b + m < a → d + 2 * m < c → m ≤ min (a - b - 1) ((c - d - 1) / 2)
 fits-lesser a b c d m h g = omega arith
 
 pub fits-is-within-the-margin

@@ -48,7 +48,7 @@ kept-if-spare p m within early late s =
     }
 
 -- a bound between a length and one that is short enough is in range
-bound-in-range : (b m low high : ℕ) → low + m < b → b + m ≤ high → high ≤ 4095 → (1 ≤ b) × (b ≤ 4095)
+pub bound-in-range : (b m low high : ℕ) → low + m < b → b + m ≤ high → high ≤ 4095 → (1 ≤ b) × (b ≤ 4095)
 bound-in-range b m low high h g few = (omega (arith, h), omega (arith, g, few))
 
 -- ---- over bare numbers: T1, T0, D and its parts, and a margin that fits

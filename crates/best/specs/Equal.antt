@@ -2,8 +2,9 @@
 -- profile of nine numbers, beside the best with pairs. No lemmas here.
 use Prim.Native.Nat.{ℕ, _+_, _-_, _*_, _/_, _≤_, _<_, min}
 use mathlib.Core.Path.{_≡_}
-use mathlib.Core.Bool.{true}
-use Rattle.refusal.specs.Answer.{accepted}
+use mathlib.Core.List.{[], _∷_}
+use Rattle.refusal.specs.Answer.{accepted, refused}
+use Rattle.timing.specs.Numbers.{numbersOf}
 use Rattle.timing.specs.EqualPairs.{Nine, paired}
 use Rattle.lengths.specs.Margin.{marginOf}
 use Rattle.best.specs.Best.{swingOf, delayOf, middle, bestMargin, bestProfile, bestRule}
@@ -66,6 +67,14 @@ writing t1 t0 early normal late =
 -- 12 with pairs and 10 with equal ones; and with a T0 of 5 to 8, which is above l and not above D, unequal pairs alone
 pub record WorkedDrive : Type 0 where
   pub with-pairs : bestRule (writing 58 29 8 10 12) ≡ accepted 12
+  pub profile
+      : numbersOf (bestProfile (writing 58 29 8 10 12))
+      ≡ 58 ∷ 29 ∷ 8 ∷ 10 ∷ 12 ∷ 38 ∷ 75 ∷ 71 ∷ 108 ∷ 104 ∷ 137 ∷ []
   pub with-equal-pairs : equalMargin (writing 58 29 8 10 12) ≡ 10
   pub short : bestRule (writing 58 8 8 10 12) ≡ accepted 1
   pub short-has-no-equal-pairs : (n : Nine) → Chosen (writing 58 8 8 10 12) (paired n) → ⊥
+  -- T0 is not above l, T1 not above D, a point is out of order, a number out of range
+  pub t0-too-short : bestRule (writing 58 4 8 10 12) ≡ refused 2 0
+  pub t1-too-short : bestRule (writing 8 29 8 10 12) ≡ refused 2 0
+  pub late-before-normal : bestRule (writing 58 29 8 12 10) ≡ refused 2 0
+  pub late-out-of-range : bestRule (writing 58 29 8 10 16) ≡ refused 1 5
