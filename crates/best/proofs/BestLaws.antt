@@ -128,12 +128,12 @@ its-unset-number q h = five-decide _ _ _ _ _ _ _ _ h
 
 module _ (w : Writing) where
   -- which of the three answers it is
-  data Which : Answer → Type 0 where
-    out-of-range : (place : ℕ) → anywhere passed (unsetOf w) ≡ true → Which (refused 1 place)
-    impossible : hasWindows w ≡ false → Which (refused 2 0)
+  pub data Which : Answer → Type 0 where
+    out-of-range : anywhere passed (unsetOf w) ≡ true → Which (refused 1 (suc (lowest passed (unsetOf w))))
+    impossible : anywhere passed (unsetOf w) ≡ false → hasWindows w ≡ false → Which (refused 2 0)
     answered : Accepts w → Which (accepted (bestMargin w))
 
-  which : Which (bestRule w)
+  pub which : Which (bestRule w)
   unfolding bestRule
   which = by-test (anywhere passed (unsetOf w)) (hasWindows w) refl refl
     where
@@ -142,10 +142,17 @@ module _ (w : Writing) where
           → anywhere passed (unsetOf w) ≡ any
           → hasWindows w ≡ some
           → Which (refuseIf any 1 (suc (lowest passed (unsetOf w))) (refuseIf (not some) 2 0 (accepted (bestMargin w))))
-      by-test true some p q = out-of-range _ p
-      by-test false false p q = impossible q
+      by-test true some p q = out-of-range p
+      by-test false false p q = impossible p q
       by-test false true p q =
           answered (record { none-unset = p; some-true = q; answer = sym (possible-decides w p q .0) })
+
+  pub none-if-impossible : hasWindows w ≡ false → (q : Profile) → Chosen w q → ⊥
+  none-if-impossible none q c =
+      let some =
+      subst (λ v. hasWindows v ≡ true) (c .same-five)
+      (has-windows-if-possible (writingOf q) (its-windows-are-possible q (c .accepted-profile))) in
+      false≢true (sym none ∙ some)
 
   some-if-chosen : (q : Profile) → Chosen w q → bestRule w ≡ accepted (bestMargin w)
   some-if-chosen q c =
@@ -158,13 +165,13 @@ module _ (w : Writing) where
 
   crossed
       : (a : Answer) → Which a → (a .number ≡ 1 → ⊥) → ((q : Profile) → Chosen w q → ⊥) → a .number ≡ 2
-  crossed a (out-of-range place p) some none = absurd (some refl)
-  crossed a (impossible q) some none = refl
+  crossed a (out-of-range p) some none = absurd (some refl)
+  crossed a (impossible p q) some none = refl
   crossed a (answered x) some none = absurd (none (bestProfile w) (given-is-chosen w x))
 
   unset-if-1 : (a : Answer) → Which a → a .number ≡ 1 → anywhere passed (unsetOf w) ≡ true
-  unset-if-1 a (out-of-range place p) e = p
-  unset-if-1 a (impossible q) e = absurd (omega (arith, e))
+  unset-if-1 a (out-of-range p) e = p
+  unset-if-1 a (impossible p q) e = absurd (omega (arith, e))
   unset-if-1 a (answered x) e = absurd (omega (arith, e))
 
   one-margin : (q : Profile) → profileRule q .number ≡ 0 → (m : ℕ) → IsMargin q m → m ≤ marginOf q

@@ -2,8 +2,8 @@
 use mathlib.Core.Path.{refl}
 use native.Mathlib.Omega.{arith}
 use Rattle.lists.specs.Place.{anywhere, lowest}
-use Rattle.best.specs.Best.{unsetOf, hasWindows, bestMargin, bestProfile, bestRule}
-use Rattle.best.specs.Equal.{equalMargin, writing, WorkedDrive}
+use Rattle.best.specs.Best.{writing, unsetOf, hasWindows, bestMargin, bestProfile, bestRule}
+use Rattle.best.specs.Equal.{equalMargin, WorkedDrive}
 use Rattle.best.proofs.EqualLaws.{what-pairs-are-worth}
 
 pub worked-drive : WorkedDrive

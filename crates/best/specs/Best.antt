@@ -14,6 +14,16 @@ use Rattle.best.specs.declared.Writing.{Writing}
 
 -- ---- the five numbers
 
+abbrev pub writing : ℕ → ℕ → ℕ → ℕ → ℕ → Writing
+writing t1 t0 early normal late =
+    record {
+      t1 = record { 0 = t1 };
+      t0 = record { 0 = t0 };
+      early = record { 0 = early };
+      normal = record { 0 = normal };
+      late = record { 0 = late };
+    }
+
 -- those that a profile writes with
 abbrev pub writingOf : Profile → Writing
 writingOf p =

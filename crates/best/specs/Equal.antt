@@ -7,7 +7,7 @@ use Rattle.refusal.specs.Answer.{accepted, refused}
 use Rattle.timing.specs.Numbers.{numbersOf}
 use Rattle.timing.specs.EqualPairs.{Nine, paired}
 use Rattle.lengths.specs.Margin.{marginOf}
-use Rattle.best.specs.Best.{swingOf, delayOf, middle, bestMargin, bestProfile, bestRule}
+use Rattle.best.specs.Best.{writing, swingOf, delayOf, middle, bestMargin, bestProfile, bestRule}
 use Rattle.best.specs.Claims.{Chosen}
 use Rattle.best.specs.declared.Writing.{Writing}
 
@@ -53,16 +53,6 @@ abbrev pub WhatPairsAreWorth : Type 0
 WhatPairsAreWorth = (w : Writing) → bestRule w .number ≡ 0 → Worth w
 
 -- ---- the worked drive
-
-abbrev pub writing : ℕ → ℕ → ℕ → ℕ → ℕ → Writing
-writing t1 t0 early normal late =
-    record {
-      t1 = record { 0 = t1 };
-      t0 = record { 0 = t0 };
-      early = record { 0 = early };
-      normal = record { 0 = normal };
-      late = record { 0 = late };
-    }
 
 -- 12 with pairs and 10 with equal ones; and with a T0 of 5 to 8, which is above l and not above D, unequal pairs alone
 pub record WorkedDrive : Type 0 where
