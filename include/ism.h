@@ -4,8 +4,9 @@
  * The library turns data bytes, mark bytes and check orders into the intervals between flux transitions, with write
  * precompensation, and turns measured intervals back into bytes. It also finds locks, where the classes of a mark stand
  * behind a sync field, reads one field, makes the items of one sector, lists the sectors of a track, reports how worn a
- * drive is, says what holds a drive type's margin down, merges the sectors of two passes over a track, exchanges bit
- * images with drive emulators and models the chip's two-item FIFO with its error register.
+ * drive is, says what holds a drive type's margin down and which windows have the largest, merges the sectors of two
+ * passes over a track, exchanges bit images with drive emulators and models the chip's two-item FIFO with its error
+ * register.
  *
  * Common to all functions
  *
@@ -19,8 +20,9 @@
  *   and 4 KB at most for ism_index_track with the index that it returns.
  *
  *   Every argument value is answered. A refusal comes back in `number` and `place`, changes no buffer, and leaves
- *   `count`, `used`, `holds`, `clearance`, the rows of a report, every field of an index's entries and the limits of a
- *   margin 0. When several causes hold at once, the first in the order listed at the function is answered.
+ *   `count`, `used`, `holds`, `clearance`, `margin`, the rows of a report, every field of an index's entries, the
+ *   limits of a margin and the numbers of a best profile 0. When several causes hold at once, the first in the order
+ *   listed at the function is answered.
  *
  *   On acceptance `number` and `place` are 0, the result fills the front of the output, and the rest of the output
  *   keeps its contents. Fields of an answer that a function does not give are 0.
@@ -226,6 +228,33 @@ typedef struct {
  *   refusals  ISM_UNSET, ISM_CROSSED
  */
 ism_limits ism_margin_limits(ism_profile profile);
+
+/*
+ * The best windows: given the five numbers that a drive writes with, the profile with the largest margin that any
+ * choice of the other six has. With D = 2 x (late - early) and l = 2 x (late - normal) that margin is
+ *
+ *   the lesser of t1 - D - 1 and (t0 - l - 1) / 2, rounded down
+ *
+ * and no choice makes a profile true where early, normal and late are out of order, t1 <= D or t0 <= l. With both of
+ * each pair equal, D stands for l: pairs are worth up to normal - early half clocks, and where l < t0 <= D only unequal
+ * ones are true.
+ *
+ * Of several profiles with that margin this one is given: each of both b23 and both b34 in the middle between the
+ * longest length below it and the shortest above, the lower number on a tie, so that each has the most room that it can
+ * have; min and rpt where the margin just fits, and no further out, so that ism_read still tells a stray transition
+ * and a dropout as ISM_NARROW and ISM_WIDE.
+ *
+ *   margin    the margin, which ism_margin gives for the profile too
+ *   profile   the eleven numbers, the first five as they were given; all 0 on a refusal
+ *   refusals  ISM_UNSET (place 1 to 5), ISM_CROSSED where no choice of the six is true
+ */
+typedef struct {
+    uint32_t number, place;
+    uint64_t margin;
+    ism_profile profile;
+} ism_best;
+
+ism_best ism_best_windows(uint16_t t1, uint16_t t0, uint16_t early, uint16_t normal, uint16_t late);
 
 /*
  * Classes of an interval, as ism_class counts them. The edges b23 and b34 are b23_short and b34_short after an interval

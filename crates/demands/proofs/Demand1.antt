@@ -50,6 +50,7 @@ use Rattle.demands.proofs.OrderLaws.{means-either, means-at, answers-ac
 use Rattle.demands.proofs.OrderLaws.{NoCauseOf, not-answered, told-after, told-by-test}
 use Rattle.demands.proofs.OrderLaws.{told-once-accepted, told-room, told-if-room, told-bytes, settled-is-lent}
 use Rattle.demands.proofs.OrderLaws.{means-equal}
+use Rattle.demands.proofs.BestTurn.{best-in-turn}
 use Rattle.demands.proofs.StopLaws.{edges-in-turn, stop-in-turn}
 
 -- ---- finder
@@ -94,6 +95,7 @@ demand-1 =
     record {
       margin = λ p. profile-first p _ answers-accepted;
       margin-limits = λ p. profile-first p _ answers-accepted;
+      best-windows = best-in-turn;
       class = λ p two d. profile-first p _ answers-accepted;
       writer = λ p items room.
           profile-first p _

@@ -4,6 +4,7 @@ pub mod StopLaws
 pub mod ProgramLaws
 pub mod FifoLaws
 pub mod RestLaws
+pub mod BestTurn
 pub mod Demand1
 pub mod SettledCases
 pub mod ListLaws

@@ -25,6 +25,8 @@ use Rattle.merge.specs.Merge.{merged}
 use Rattle.merge.specs.Rule.{mergeRule, mergeAnswer, mergeOutput}
 use Rattle.track.specs.Index.{indexRule}
 use Rattle.limits.specs.Limits.{limitsRule}
+use Rattle.best.specs.Best.{bestRule}
+use Rattle.best.specs.declared.Writing.{Writing}
 use Rattle.fifo.specs.State.{State}
 use Rattle.fifo.specs.Sides.{Processor, Chip}
 use Rattle.fifo.specs.Rules.{Put, ChipPut, ruleOf}
@@ -36,6 +38,7 @@ use Rattle.demands.specs.ReportCauses.{reportOrder, addOrder}
 use Rattle.demands.specs.ImageCauses.{imageMakerOrder, imageReaderOrder}
 use Rattle.demands.specs.IndexCauses.{indexOrder}
 use Rattle.demands.specs.MergeCauses.{mergeOrder, countedInBytes}
+use Rattle.demands.specs.BestCauses.{bestOrder}
 use Rattle.demands.specs.FifoCauses.{PutsInTurn, TakesRefuseNothing}
 use Rattle.demands.specs.ProgramCauses.{programOrder}
 
@@ -43,6 +46,7 @@ pub record Demand1 : Type 0 where
   -- refused first, and accepted then: every operation by its order
   pub margin : (p : Profile) → Answers (profileOrder p accept) (marginRule p)
   pub margin-limits : (p : Profile) → Answers (profileOrder p accept) (limitsRule p)
+  pub best-windows : (w : Writing) → Answers (bestOrder w) (bestRule w)
   pub class : (p : Profile) (two : Bool) (d : ℕ) → Answers (profileOrder p accept) (classRule p two d)
   pub writer : (p : Profile) (items : List ℕ) (room : ℕ) → Answers (writerOrder p items room) (writeRule p items room)
   pub strip-reader : (p : Profile) (ds : List ℕ) (room : ℕ) → Answers (stripOrder p ds room) (readRule p ds room)

@@ -1,4 +1,5 @@
 pub mod Answers
 pub mod Reports
 pub mod Cards
+pub mod Windows
 pub mod Version

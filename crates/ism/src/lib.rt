@@ -21,6 +21,7 @@ pub mod index;
 pub mod passes;
 pub mod queue;
 pub mod version;
+pub mod windows;
 
 #[repr(C)]
 pub struct IsmProfile {

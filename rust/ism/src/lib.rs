@@ -26,6 +26,7 @@
 #[cfg(test)]
 extern crate std;
 
+mod best;
 mod fifo;
 mod index;
 mod limits;
@@ -36,6 +37,7 @@ pub mod sys;
 #[cfg(test)]
 mod tests;
 
+pub use best::{best_windows, Best};
 pub use fifo::{Fifo, FifoMode};
 pub use index::{index_track, DataField, Index, IndexEntry};
 pub use limits::{margin_limits, After, Edge, Limit, Limits, Side, MAX_LIMITS};

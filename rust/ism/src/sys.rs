@@ -79,6 +79,16 @@ pub struct Limits {
     pub limits: [Limit; 10],
 }
 
+/// `ism_best`
+#[repr(C)]
+#[derive(Clone, Copy, Debug, PartialEq, Eq)]
+pub struct Best {
+    pub number: u32,
+    pub place: u32,
+    pub margin: u64,
+    pub profile: Profile,
+}
+
 /// `ism_report_row`: the intervals of one class
 #[repr(C)]
 #[derive(Clone, Copy, Debug, Default, PartialEq, Eq)]
@@ -178,6 +188,7 @@ extern "C" {
     pub fn ism_interface_9() -> u32;
     pub fn ism_margin(profile: Profile) -> Answer;
     pub fn ism_margin_limits(profile: Profile) -> Limits;
+    pub fn ism_best_windows(t1: u16, t0: u16, early: u16, normal: u16, late: u16) -> Best;
     pub fn ism_class(profile: Profile, interval: u16, after_short: u32) -> Answer;
     pub fn ism_write(profile: Profile, items: *const u16, n: usize, out: *mut u16, room: usize) -> Answer;
     pub fn ism_read(profile: Profile, intervals: *const u16, n: usize, out: *mut u16, room: usize) -> Answer;

@@ -1,5 +1,6 @@
 //! The groups of cases.
 
+pub mod best;
 pub mod bit_images;
 pub mod clearances;
 pub mod faults;

@@ -62,6 +62,12 @@ fn library() {
     compare.group("held down: evidence", 0x1E, cases::held_down::evidence);
     compare.group("held down: longer lists", 0x1F, cases::held_down::longer_lists);
     compare.group("held down: the drawing", 0x23, cases::held_down::drawing);
+    compare.group("best windows: by hand", 0x24, cases::best::by_hand);
+    compare.group("best windows: small drives", 0x25, cases::best::every_small_drive);
+    compare.group("best windows: every profile", 0x26, cases::best::every_profile);
+    compare.group("best windows: out of range", 0x27, cases::best::out_of_range);
+    compare.group("best windows: random drives", 0x28, cases::best::random_drives);
+    compare.group("best windows: pairs", 0x29, cases::best::pairs);
     compare.group("every list up to two items", 0x20, strips::every_short_list);
     compare.group("every number as an item", 0x21, strips::every_number);
     compare.group("random lists", 0x22, strips::random_lists);
@@ -166,6 +172,7 @@ fn check_coverage(compare: &Compare) {
     let orders: &[(&str, &[u32])] = &[
         ("ism_margin", &[0, 1, 2]),
         ("ism_margin_limits", &[0, 1, 2]),
+        ("ism_best_windows", &[0, 1, 2]),
         ("ism_class", &[0, 1, 2]),
         ("ism_drive_report", &[0, 1, 2, 4]),
         ("ism_add_reports", &[0, 4]),

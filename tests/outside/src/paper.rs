@@ -3,6 +3,7 @@
 //! The shape is chosen to differ from any quick implementation: bits, symbols and classes are text, the CRC register is
 //! sixteen single bits, limits are found by trying. Nothing here is meant to be fast. A module stands for a section.
 
+pub mod best;
 mod cells;
 pub mod fifo;
 pub mod held;

@@ -6,7 +6,8 @@ use super::{cell_shapes, refuse, Refused};
 /// after any other, B34 after class 2, B34 after any other, Rpt.
 pub type Eleven = [u16; 11];
 
-const RANGES: [(u16, u16); 11] =
+/// The least and the most that each may be.
+pub const RANGES: [(u16, u16); 11] =
     [(1, 1023), (1, 1023), (0, 15), (0, 15), (0, 15), (1, 4095), (1, 4095), (1, 4095), (1, 4095), (1, 4095), (1, 4095)];
 
 /// Refusals 1 and 2.
