@@ -10,14 +10,18 @@
  *
  * Common to all functions
  *
- *   Built for x86-64 processors (System V calling convention) alone, today.
+ *   The same proved functions come as libism.a, for x86-64 (System V calling convention), and as portable/ism.c, one
+ *   file of strict C99 for any processor. Proved is the MIR of every function, its code on Rattle's abstract machine.
+ *   Not proved are the kit's back end for the one, the translator and your compiler for the other. 69,000 seeded calls
+ *   of all functions were compared: portable/ism.c answers as libism.a does on x86-64, aarch64, 32-bit ARM, riscv64,
+ *   big-endian PowerPC and a bare Cortex-M4, all but the first under emulation. No board was tried.
  *
  *   No state, no heap, no input or output. The library calls memcpy and memset and nothing else: firmware without a C
  *   library provides these two. Every function is a plain function of its arguments, so calls on buffers of
  *   their own may run at the same time. From an interrupt handler too, if the handler keeps what the code uses as any
  *   compiled code does: the SSE registers, and the 128 bytes below the stack pointer that the convention gives to the
  *   code that was interrupted (the red zone). docs/BENCHMARKS.md gives the stack of each function: 3,300 bytes at most,
- *   and 4 KB at most for ism_index_track with the index that it returns.
+ *   and 4 KB at most for ism_index_track with the index that it returns; portable/README.md that of portable/ism.c.
  *
  *   Every argument value is answered. A refusal comes back in `number` and `place`, changes no buffer, and leaves
  *   `count`, `used`, `holds`, `clearance`, `margin`, the rows of a report, every field of an index's entries, the
@@ -578,7 +582,7 @@ ism_fifo_answer ism_fifo_read_error(ism_fifo fifo);
  */
 #if !defined(ISM_WITHOUT_LIBRARY) && !defined(ISM_INTERFACE_ASKED) && defined(__GNUC__)
 #define ISM_INTERFACE_ASKED
-#if defined(__has_attribute)
+#if defined(__has_attribute) && defined(__linux__) /* elsewhere gcc knows `retain` and warns that it is ignored */
 #if __has_attribute(retain)
 __attribute__((retain))
 #endif

@@ -1,5 +1,5 @@
-//! The implementations behind one set of function pointers: the library, and C of each compiler and Rust, careful and
-//! at their limit.
+//! The implementations behind one set of function pointers: the library, the library as C, and C of each compiler and
+//! Rust, careful and at their limit.
 
 use bench::careful::*;
 use bench::plain::*;
@@ -12,6 +12,8 @@ pub type Id = [u8; 4];
 #[derive(Clone, Copy, PartialEq, Eq)]
 pub enum Kind {
     Library,
+    /// the library as C, portable/ism.c
+    Portable,
     /// C at its limit
     PlainC,
     /// C without vector tricks and tables: writer, readers, finder and index alone
@@ -26,6 +28,7 @@ impl Kind {
     pub fn word(self) -> &'static str {
         match self {
             Kind::Library => "library",
+            Kind::Portable => "portable",
             Kind::PlainC => "plain-c",
             Kind::CarefulC => "careful-c",
             Kind::CarefulRust => "careful-rust",
@@ -171,6 +174,11 @@ macro_rules! c_interface {
 
 c_interface!(library, "ism_");
 
+c_interface!(portable_gcc_o2, "portable_gcc_o2_");
+c_interface!(portable_gcc_o3, "portable_gcc_o3_");
+c_interface!(portable_clang_o2, "portable_clang_o2_");
+c_interface!(portable_clang_o3, "portable_clang_o3_");
+
 c_interface!(gcc_o2, "plain_gcc_o2_");
 c_interface!(gcc_o3, "plain_gcc_o3_");
 c_interface!(clang_o2, "plain_clang_o2_");
@@ -268,9 +276,13 @@ const CAREFUL_RUST: Implementation = Implementation {
 };
 
 /// The library first.
-pub fn all() -> [Implementation; 11] {
+pub fn all() -> [Implementation; 15] {
     [
         library::implementation(Kind::Library, "library"),
+        portable_gcc_o2::implementation(Kind::Portable, "portable-gcc-O2"),
+        portable_gcc_o3::implementation(Kind::Portable, "portable-gcc-O3"),
+        portable_clang_o2::implementation(Kind::Portable, "portable-clang-O2"),
+        portable_clang_o3::implementation(Kind::Portable, "portable-clang-O3"),
         gcc_o2::implementation(Kind::PlainC, "gcc-O2"),
         gcc_o3::implementation(Kind::PlainC, "gcc-O3"),
         clang_o2::implementation(Kind::PlainC, "clang-O2"),

@@ -1,0 +1,4455 @@
+/*
+ * The library ism as one C file, for any processor.
+ *
+ * Made by portable/from_mir from what `rt mir ism` prints, with rattle-kit-5b-plain logic 097e4c862dff5811: from the
+ * MIR of every function, for which the proofs hold on Rattle's abstract machine. The translator and the C compiler are
+ * not proved; portable/README.md says how they are tested. Not to be edited: change the Rattle source, prove it, and
+ * make this file again.
+ *
+ * Strict C99 without undefined behaviour; no heap, no library function, no state. Needs ism.h beside it or on the
+ * include path: cc -std=c99 -O2 -Iinclude -c portable/ism.c
+ *
+ * Each function is named by its path in the Rattle source, with _ for ::, and carries the comment that it has there. A
+ * number of n bits is a uintn_t, usize is uint64_t, a slice is a pointer and a length, an array is a struct of one so
+ * that it can be assigned, and an enum is a tag and a union. Sums, differences and products are proved to stay within
+ * their widths. Temporaries that MIR has and the source does not are named t and a number.
+ */
+#include "ism.h"
+
+#include <stdbool.h>
+#include <stddef.h>
+#include <stdint.h>
+
+/* The structs of the header lie as those that were proved: sizes and places in bytes. */
+#define SIZE(type, size) typedef char size_of_##type[sizeof(type) == (size) ? 1 : -1]
+#define FIELD(type, field, place, size) \
+    typedef char place_of_##type##_##field[ \
+            offsetof(type, field) == (place) && sizeof(((type *)0)->field) == (size) ? 1 : -1]
+
+SIZE(ism_answer, 32);
+FIELD(ism_answer, number, 0, 4);
+FIELD(ism_answer, place, 4, 4);
+FIELD(ism_answer, count, 8, 8);
+FIELD(ism_answer, used, 16, 8);
+FIELD(ism_answer, holds, 24, 4);
+FIELD(ism_answer, clearance, 28, 4);
+
+SIZE(ism_fifo, 10);
+FIELD(ism_fifo, mode, 0, 2);
+FIELD(ism_fifo, held, 2, 2);
+FIELD(ism_fifo, first, 4, 2);
+FIELD(ism_fifo, second, 6, 2);
+FIELD(ism_fifo, error, 8, 2);
+
+SIZE(ism_fifo_answer, 20);
+FIELD(ism_fifo_answer, number, 0, 4);
+FIELD(ism_fifo_answer, place, 4, 4);
+FIELD(ism_fifo_answer, item, 8, 2);
+FIELD(ism_fifo_answer, next, 10, 10);
+
+SIZE(ism_index, 784);
+FIELD(ism_index, number, 0, 4);
+FIELD(ism_index, place, 4, 4);
+FIELD(ism_index, count, 8, 8);
+FIELD(ism_index, entries, 16, 768);
+
+SIZE(ism_index_entry, 24);
+FIELD(ism_index_entry, id_place, 0, 8);
+FIELD(ism_index_entry, data_place, 8, 8);
+FIELD(ism_index_entry, track, 16, 1);
+FIELD(ism_index_entry, side, 17, 1);
+FIELD(ism_index_entry, sector, 18, 1);
+FIELD(ism_index_entry, code, 19, 1);
+FIELD(ism_index_entry, found, 20, 1);
+FIELD(ism_index_entry, holds, 21, 1);
+
+SIZE(ism_limit, 12);
+FIELD(ism_limit, edge, 0, 2);
+FIELD(ism_limit, after, 2, 2);
+FIELD(ism_limit, above, 4, 2);
+FIELD(ism_limit, item, 6, 2);
+FIELD(ism_limit, interval, 8, 2);
+FIELD(ism_limit, moved, 10, 2);
+
+SIZE(ism_limits, 136);
+FIELD(ism_limits, number, 0, 4);
+FIELD(ism_limits, place, 4, 4);
+FIELD(ism_limits, count, 8, 8);
+FIELD(ism_limits, limits, 16, 120);
+
+SIZE(ism_profile, 22);
+FIELD(ism_profile, t1, 0, 2);
+FIELD(ism_profile, t0, 2, 2);
+FIELD(ism_profile, early, 4, 2);
+FIELD(ism_profile, normal, 6, 2);
+FIELD(ism_profile, late, 8, 2);
+FIELD(ism_profile, min, 10, 2);
+FIELD(ism_profile, b23_short, 12, 2);
+FIELD(ism_profile, b23_long, 14, 2);
+FIELD(ism_profile, b34_short, 16, 2);
+FIELD(ism_profile, b34_long, 18, 2);
+FIELD(ism_profile, rpt, 20, 2);
+
+SIZE(ism_report, 168);
+FIELD(ism_report, number, 0, 4);
+FIELD(ism_report, place, 4, 4);
+FIELD(ism_report, rows, 8, 160);
+
+SIZE(ism_report_row, 32);
+FIELD(ism_report_row, count, 0, 8);
+FIELD(ism_report_row, least, 8, 8);
+FIELD(ism_report_row, greatest, 16, 8);
+FIELD(ism_report_row, sum, 24, 8);
+
+struct slice_u16_mut {
+    uint16_t *at;
+    uint64_t len;
+};
+
+struct slice_u8 {
+    const uint8_t *at;
+    uint64_t len;
+};
+
+struct slice_u8_mut {
+    uint8_t *at;
+    uint64_t len;
+};
+
+struct slice_u16 {
+    const uint16_t *at;
+    uint64_t len;
+};
+
+/* refusal::Refusal, crates/refusal/src/lib.rt */
+enum { refusal_Refusal_ProfileOutOfRange, refusal_Refusal_ProfileInconsistent, refusal_Refusal_NotAnItem,
+        refusal_Refusal_TooLong, refusal_Refusal_IntervalTooShort, refusal_Refusal_IntervalTooLong,
+        refusal_Refusal_NotWholeBytes, refusal_Refusal_MisplacedMark, refusal_Refusal_OutputTooShort,
+        refusal_Refusal_NoLock, refusal_Refusal_EndsEarly, refusal_Refusal_CountOutOfRange,
+        refusal_Refusal_SectorSizeMismatch, refusal_Refusal_MalformedInput, refusal_Refusal_TooManySectors,
+        refusal_Refusal_UnrulyWord, refusal_Refusal_SectorsAtOdds };
+struct refusal_Refusal {
+    uint8_t tag;
+    union {
+        uint32_t ProfileOutOfRange;
+        uint32_t NotAnItem;
+        uint32_t IntervalTooShort;
+        uint32_t IntervalTooLong;
+        uint32_t MisplacedMark;
+        uint32_t MalformedInput;
+        uint32_t UnrulyWord;
+        uint32_t SectorsAtOdds;
+    } u;
+};
+
+/* refusal::Counted, crates/refusal/src/lib.rt */
+enum { refusal_Counted_Count, refusal_Counted_Refused };
+struct refusal_Counted {
+    uint8_t tag;
+    union {
+        uint64_t Count;
+        struct refusal_Refusal Refused;
+    } u;
+};
+
+/* items::Check, crates/items/src/lib.rt */
+struct items_Check {
+    uint16_t register_;
+    bool marked;
+};
+
+/* items::list::Stored, crates/items/src/list.rt */
+struct items_list_Stored {
+    struct items_Check check;
+    uint64_t count;
+};
+
+/* refusal::Verdict, crates/refusal/src/lib.rt */
+enum { refusal_Verdict_Accepted, refusal_Verdict_Refused };
+struct refusal_Verdict {
+    uint8_t tag;
+    union {
+        struct refusal_Refusal Refused;
+    } u;
+};
+
+struct array_u16_256 {
+    uint16_t a[256];
+};
+
+/* merge::Merged, crates/merge/src/lib.rt */
+enum { merge_Merged_Set, merge_Merged_Refused };
+struct merge_Merged {
+    uint8_t tag;
+    union {
+        struct {
+            uint64_t count;
+            uint64_t bytes;
+        } Set;
+        struct refusal_Refusal Refused;
+    } u;
+};
+
+/* symbols::Reading, crates/symbols/src/lib.rt */
+struct symbols_Reading {
+    uint32_t bits;
+    uint32_t held;
+    uint32_t words;
+    uint32_t place;
+    bool stray;
+};
+
+/* timing::HalfClocks, crates/timing/src/lib.rt */
+struct timing_HalfClocks {
+    uint16_t f0;
+};
+
+/* timing::Bounds, crates/timing/src/lib.rt */
+struct timing_Bounds {
+    struct timing_HalfClocks b23;
+    struct timing_HalfClocks b34;
+};
+
+/* timing::cursor::Cursor, crates/timing/src/cursor.rt */
+struct timing_cursor_Cursor {
+    struct timing_HalfClocks min;
+    struct timing_Bounds bounds;
+    struct timing_HalfClocks rpt;
+    struct timing_Bounds short_;
+    struct timing_Bounds long_;
+};
+
+/* timing::Clocks, crates/timing/src/lib.rt */
+struct timing_Clocks {
+    uint16_t f0;
+};
+
+/* timing::Profile, crates/timing/src/lib.rt */
+struct timing_Profile {
+    struct timing_HalfClocks t1;
+    struct timing_HalfClocks t0;
+    struct timing_Clocks early;
+    struct timing_Clocks normal;
+    struct timing_Clocks late;
+    struct timing_HalfClocks min;
+    struct timing_Bounds short_;
+    struct timing_Bounds long_;
+    struct timing_HalfClocks rpt;
+};
+
+/* timing::Class, crates/timing/src/lib.rt */
+enum { timing_Class_Narrow, timing_Class_Two, timing_Class_Three, timing_Class_Four, timing_Class_Wide };
+struct timing_Class {
+    uint8_t tag;
+};
+
+struct array_u16_11 {
+    uint16_t a[11];
+};
+
+/* timing::Range, crates/timing/src/lib.rt */
+struct timing_Range {
+    uint16_t low;
+    uint16_t high;
+};
+
+struct array_timing_Range_11 {
+    struct timing_Range a[11];
+};
+
+/* timing::cursor::Classed, crates/timing/src/cursor.rt */
+struct timing_cursor_Classed {
+    struct timing_Class class;
+    struct timing_cursor_Cursor next;
+};
+
+struct slice_u32 {
+    const uint32_t *at;
+    uint64_t len;
+};
+
+/* intervals::Pass, crates/intervals/src/lib.rt */
+struct intervals_Pass {
+    struct symbols_Reading reading;
+    uint64_t used;
+};
+
+/* intervals::block::Progress, crates/intervals/src/block.rt */
+struct intervals_block_Progress {
+    struct intervals_Pass pass;
+    struct timing_cursor_Cursor cursor;
+};
+
+/* intervals::fours::Fours, crates/intervals/src/fours.rt */
+struct intervals_fours_Fours {
+    struct symbols_Reading reading;
+    uint64_t count;
+};
+
+struct slice_u32_mut {
+    uint32_t *at;
+    uint64_t len;
+};
+
+struct array_u32_16 {
+    uint32_t a[16];
+};
+
+struct array_u8_64 {
+    uint8_t a[64];
+};
+
+struct slice_u64 {
+    const uint64_t *at;
+    uint64_t len;
+};
+
+/* fields::reader::FieldRead, crates/fields/src/reader.rt */
+enum { fields_reader_FieldRead_Field, fields_reader_FieldRead_Refused };
+struct fields_reader_FieldRead {
+    uint8_t tag;
+    union {
+        struct {
+            uint64_t count;
+            uint64_t used;
+            bool holds;
+        } Field;
+        struct refusal_Refusal Refused;
+    } u;
+};
+
+struct array_u64_5 {
+    uint64_t a[5];
+};
+
+struct array_u64_10 {
+    uint64_t a[10];
+};
+
+/* fields::gather::Summed, crates/fields/src/gather.rt */
+struct fields_gather_Summed {
+    struct intervals_Pass pass;
+    struct items_Check check;
+};
+
+struct array_u16_65 {
+    uint16_t a[65];
+};
+
+/* fields::gather::Gathered, crates/fields/src/gather.rt */
+struct fields_gather_Gathered {
+    struct refusal_Counted end;
+    bool holds;
+};
+
+struct array_u16_16 {
+    uint16_t a[16];
+};
+
+struct array_u16_1030 {
+    uint16_t a[1030];
+};
+
+struct array_u64_15 {
+    uint64_t a[15];
+};
+
+struct array_u16_10 {
+    uint16_t a[10];
+};
+
+struct array_u16_64 {
+    uint16_t a[64];
+};
+
+struct array_u64_4 {
+    uint64_t a[4];
+};
+
+struct array_u64_4_5 {
+    struct array_u64_4 a[5];
+};
+
+/* track::DataField, crates/track/src/lib.rt */
+enum { track_DataField_Found, track_DataField_Missing };
+struct track_DataField {
+    uint8_t tag;
+    union {
+        struct {
+            uint64_t place;
+            bool holds;
+        } Found;
+    } u;
+};
+
+/* track::Entry, crates/track/src/lib.rt */
+struct track_Entry {
+    uint8_t track;
+    uint8_t side;
+    uint8_t sector;
+    uint8_t code;
+    uint64_t place;
+    struct track_DataField field;
+};
+
+/* track::id::IdRead, crates/track/src/id.rt */
+enum { track_id_IdRead_Id, track_id_IdRead_NoId };
+struct track_id_IdRead {
+    uint8_t tag;
+    union {
+        struct {
+            uint8_t track;
+            uint8_t side;
+            uint8_t sector;
+            uint8_t code;
+            uint64_t used;
+        } Id;
+    } u;
+};
+
+/* track::opening::Opened, crates/track/src/opening.rt */
+enum { track_opening_Opened_Field, track_opening_Opened_NoField };
+struct track_opening_Opened {
+    uint8_t tag;
+    union {
+        struct {
+            uint64_t used;
+            bool holds;
+        } Field;
+    } u;
+};
+
+struct array_u16_4 {
+    uint16_t a[4];
+};
+
+/* track::content::Sought, crates/track/src/content.rt */
+struct track_content_Sought {
+    struct track_DataField field;
+    uint64_t end;
+};
+
+/* track::Step, crates/track/src/lib.rt */
+enum { track_Step_End, track_Step_Other, track_Step_Begins };
+struct track_Step {
+    uint8_t tag;
+    union {
+        struct {
+            uint64_t next;
+        } Other;
+        struct {
+            struct track_Entry entry;
+            uint64_t next;
+        } Begins;
+    } u;
+};
+
+struct array_track_index_IndexEntry_32 {
+    ism_index_entry a[32];
+};
+
+struct array_u16_512 {
+    uint16_t a[512];
+};
+
+/* images::count::Tally, crates/images/src/count.rt */
+struct images_count_Tally {
+    uint16_t cells;
+    uint16_t previous;
+};
+
+/* images::count::Part, crates/images/src/count.rt */
+struct images_count_Part {
+    struct images_count_Tally tally;
+    struct items_Check check;
+};
+
+/* codec::pen::Pen, crates/codec/src/pen.rt */
+struct codec_pen_Pen {
+    uint32_t since;
+    uint32_t window;
+    uint64_t cells;
+};
+
+/* codec::bytes::Track, crates/codec/src/bytes.rt */
+struct codec_bytes_Track {
+    struct codec_pen_Pen pen;
+    uint16_t previous;
+};
+
+/* codec::pen::Rest, crates/codec/src/pen.rt */
+struct codec_pen_Rest {
+    uint32_t last;
+    uint32_t window;
+    uint64_t cells;
+    uint32_t ones;
+};
+
+struct array_u16_0 {
+    uint16_t a[1];
+};
+
+/* codec::writer::Part, crates/codec/src/writer.rt */
+struct codec_writer_Part {
+    struct codec_bytes_Track track;
+    struct items_Check check;
+};
+
+/* clearance::extremes::Extremes, crates/clearance/src/extremes.rt */
+struct clearance_extremes_Extremes {
+    uint16_t shortest;
+    uint16_t longest;
+    uint16_t from;
+    uint16_t below;
+};
+
+/* clearance::seen::Seen, crates/clearance/src/seen.rt */
+struct clearance_seen_Seen {
+    struct clearance_extremes_Extremes extremes;
+    struct timing_cursor_Cursor cursor;
+};
+
+struct array_u16_1 {
+    uint16_t a[1];
+};
+
+/* clearance::ClearCount, crates/clearance/src/lib.rt */
+struct clearance_ClearCount {
+    struct refusal_Counted counted;
+    uint16_t clearance;
+};
+
+/* clearance::ClearFieldRead, crates/clearance/src/lib.rt */
+struct clearance_ClearFieldRead {
+    struct fields_reader_FieldRead read;
+    uint16_t clearance;
+};
+
+/* limits::side::Kind, crates/limits/src/side.rt */
+enum { limits_side_Kind_Both, limits_side_Kind_Short, limits_side_Kind_Long };
+struct limits_side_Kind {
+    uint8_t tag;
+};
+
+/* limits::side::Edge, crates/limits/src/side.rt */
+enum { limits_side_Edge_Min, limits_side_Edge_B23, limits_side_Edge_B34, limits_side_Edge_Rpt };
+struct limits_side_Edge {
+    uint8_t tag;
+};
+
+/* limits::side::Side, crates/limits/src/side.rt */
+struct limits_side_Side {
+    struct limits_side_Edge edge;
+    struct limits_side_Kind after;
+    bool above;
+};
+
+/* limits::search::Seen, crates/limits/src/search.rt */
+enum { limits_search_Seen_At, limits_search_Seen_Nowhere };
+struct limits_search_Seen {
+    uint8_t tag;
+    union {
+        struct {
+            uint16_t item;
+            uint16_t interval;
+        } At;
+    } u;
+};
+
+/* limits::Limit, crates/limits/src/lib.rt */
+struct limits_Limit {
+    struct limits_side_Side side;
+    uint16_t item;
+    uint16_t interval;
+    uint16_t moved;
+};
+
+struct array_limits_Limit_10 {
+    struct limits_Limit a[10];
+};
+
+/* limits::Limits, crates/limits/src/lib.rt */
+struct limits_Limits {
+    uint64_t count;
+    struct array_limits_Limit_10 limits;
+};
+
+/* limits::Held, crates/limits/src/lib.rt */
+struct limits_Held {
+    struct refusal_Counted answer;
+    struct array_limits_Limit_10 limits;
+};
+
+struct array_ism_card_IsmLimit_10 {
+    ism_limit a[10];
+};
+
+struct array_ism_drive_IsmReportRow_5 {
+    ism_report_row a[5];
+};
+
+static struct slice_u16_mut slice_u16_mut(uint16_t *at, uint64_t len) {
+    return (struct slice_u16_mut){.at = at, .len = len};
+}
+
+static struct slice_u8 slice_u8(const uint8_t *at, uint64_t len) {
+    return (struct slice_u8){.at = at, .len = len};
+}
+
+static struct slice_u8_mut slice_u8_mut(uint8_t *at, uint64_t len) {
+    return (struct slice_u8_mut){.at = at, .len = len};
+}
+
+static struct slice_u16 slice_u16(const uint16_t *at, uint64_t len) {
+    return (struct slice_u16){.at = at, .len = len};
+}
+
+static struct slice_u32 slice_u32(const uint32_t *at, uint64_t len) {
+    return (struct slice_u32){.at = at, .len = len};
+}
+
+static struct slice_u32_mut slice_u32_mut(uint32_t *at, uint64_t len) {
+    return (struct slice_u32_mut){.at = at, .len = len};
+}
+
+static struct slice_u64 slice_u64(const uint64_t *at, uint64_t len) {
+    return (struct slice_u64){.at = at, .len = len};
+}
+
+/* The zeros above the highest one; 32 where there is none. */
+static uint32_t leading_zeros(uint32_t bits) {
+#if defined(__GNUC__) && __SIZEOF_INT__ == 4
+    return bits == 0 ? 32 : (uint32_t)__builtin_clz(bits);
+#else
+    uint32_t zeros = 32;
+    for (; bits != 0; bits >>= 1) zeros--;
+    return zeros;
+#endif
+}
+
+/* The ones of each two bits, of each four, of each eight, and of all. */
+static uint32_t count_ones(uint32_t bits) {
+    bits = bits - ((bits >> 1) & 0x55555555);
+    bits = (bits & 0x33333333) + ((bits >> 2) & 0x33333333);
+    bits = (bits + (bits >> 4)) & 0x0F0F0F0F;
+    return (uint32_t)(bits * 0x01010101) >> 24;
+}
+
+/* The crate std */
+
+/* std::num::wrapping_add_u16, of the kit's library */
+static uint16_t std_num_wrapping_add_u16(uint16_t p1, uint16_t p2) {
+    return (uint16_t)(p1 + p2);
+}
+
+/* std::num::wrapping_add_u32, of the kit's library */
+static uint32_t std_num_wrapping_add_u32(uint32_t p1, uint32_t p2) {
+    return (uint32_t)(p1 + p2);
+}
+
+/* std::num::wrapping_sub_u16, of the kit's library */
+static uint16_t std_num_wrapping_sub_u16(uint16_t p1, uint16_t p2) {
+    return (uint16_t)(p1 - p2);
+}
+
+/* std::num::wrapping_sub_u32, of the kit's library */
+static uint32_t std_num_wrapping_sub_u32(uint32_t p1, uint32_t p2) {
+    return (uint32_t)(p1 - p2);
+}
+
+/* The crate half_cells */
+
+/*
+ * half_cells::cells_since, crates/half_cells/src/lib.rt
+ * With its half cells in the low places of these bits, but for a surplus: the cells that end after the first missing
+ * clock, one for each 1.
+ */
+static uint32_t half_cells_cells_since(uint32_t bits, uint32_t surplus, uint32_t gaps) {
+    uint32_t below = (surplus + 32 - leading_zeros(gaps)) % 32;
+    return count_ones(bits & ((uint32_t)((uint32_t)1 << below) - 1));
+}
+
+/* half_cells::data_bits, crates/half_cells/src/lib.rt: Every second bit of a word, moved together. */
+static uint16_t half_cells_data_bits(uint16_t word) {
+    uint16_t alone = word & 0x5555;
+    uint16_t pairs = (alone | (alone >> 1)) & 0x3333;
+    uint16_t fours = (pairs | (pairs >> 2)) & 0xF0F;
+    return (fours | (fours >> 4)) & 0xFF;
+}
+
+/*
+ * half_cells::byte_of, crates/half_cells/src/lib.rt
+ * The one byte that can have a word of 16 half cells: whether it has it depends on the data bit before.
+ */
+static uint16_t half_cells_byte_of(uint16_t word) {
+    if (word == 17545) return 417;
+    if (word == 21028) return 450;
+    return half_cells_data_bits(word);
+}
+
+/*
+ * half_cells::first_of_cells, crates/half_cells/src/lib.rt
+ * The place of the first of so many cells, the last of which stands at this place.
+ */
+static uint32_t half_cells_first_of_cells(uint32_t at, uint32_t cells) {
+    return std_num_wrapping_sub_u32(std_num_wrapping_add_u32(at, 1), cells);
+}
+
+/* half_cells::is_mark, crates/half_cells/src/lib.rt */
+static bool half_cells_is_mark(uint32_t x) {
+    uint16_t word = (uint16_t)(x % 65536);
+    return (word == 17545) | (word == 21028);
+}
+
+/*
+ * half_cells::missing, crates/half_cells/src/lib.rt
+ * The clock bits that a gap leaves out, each at the place above its own: it is 0 between two data bits 0.
+ */
+static uint32_t half_cells_missing(uint32_t x) {
+    return (uint32_t)~(x | (uint32_t)(x << 1) | (uint32_t)(x << 2)) & 0x15554;
+}
+
+/* half_cells::fits, crates/half_cells/src/lib.rt: Whether no gap of a byte is out of place. */
+static bool half_cells_fits(uint32_t x) {
+    bool t3 = half_cells_missing(x) == 0;
+    return t3 | half_cells_is_mark(x);
+}
+
+/* half_cells::words_to_bytes, crates/half_cells/src/lib.rt: Each word of a list replaced by its byte. */
+static void half_cells_words_to_bytes(struct slice_u16_mut words) {
+    uint64_t k = 0;
+    while (k < words.len) {
+        words.at[k] = half_cells_byte_of(words.at[k]);
+        k++;
+    }
+}
+
+/* The crate lists */
+
+/* lists::at_most, crates/lists/src/lib.rt: As many as there are, or so many. */
+static uint64_t lists_at_most(uint64_t most, uint64_t count) {
+    if (count < most) return count;
+    return most;
+}
+
+/* lists::copy, crates/lists/src/lib.rt: Bytes from a place on, where all have room. */
+static void lists_copy(struct slice_u8 bytes, uint64_t at, struct slice_u8_mut out) {
+    uint64_t k = 0;
+    while (k < bytes.len) {
+        out.at[at + k] = bytes.at[k];
+        k++;
+    }
+}
+
+/* lists::put, crates/lists/src/lib.rt: Past the end nothing is stored. */
+static void lists_put(struct slice_u16_mut out, uint64_t at, uint16_t number) {
+    if (at < out.len) out.at[at] = number;
+}
+
+/* lists::store, crates/lists/src/lib.rt: Numbers from a place on, as many as there is room for. */
+static void lists_store(struct slice_u16 numbers, uint64_t at, struct slice_u16_mut out) {
+    if (out.len <= at) return;
+    uint64_t count = lists_at_most(out.len - at, numbers.len);
+    uint64_t k = 0;
+    while (k < count) {
+        out.at[at + k] = numbers.at[k];
+        k++;
+    }
+}
+
+/* The crate refusal */
+
+/* refusal::Counted::count, crates/refusal/src/lib.rt: What was counted; 0 for a refusal. */
+static uint64_t refusal_Counted_count(struct refusal_Counted self) {
+    if (self.tag == refusal_Counted_Count) return self.u.Count;
+    return 0;
+}
+
+/* refusal::Refusal::number, crates/refusal/src/lib.rt: The number in document 01's table. */
+static uint32_t refusal_Refusal_number(struct refusal_Refusal self) {
+    switch (self.tag) {
+    case refusal_Refusal_ProfileOutOfRange: return 1;
+    case refusal_Refusal_ProfileInconsistent: return 2;
+    case refusal_Refusal_NotAnItem: return 3;
+    case refusal_Refusal_TooLong: return 4;
+    case refusal_Refusal_IntervalTooShort: return 5;
+    case refusal_Refusal_IntervalTooLong: return 6;
+    case refusal_Refusal_NotWholeBytes: return 7;
+    case refusal_Refusal_MisplacedMark: return 8;
+    case refusal_Refusal_OutputTooShort: return 9;
+    case refusal_Refusal_NoLock: return 10;
+    case refusal_Refusal_EndsEarly: return 11;
+    case refusal_Refusal_CountOutOfRange: return 12;
+    case refusal_Refusal_SectorSizeMismatch: return 13;
+    case refusal_Refusal_MalformedInput: return 14;
+    case refusal_Refusal_TooManySectors: return 15;
+    case refusal_Refusal_UnrulyWord: return 16;
+    default: return 17; /* refusal_Refusal_SectorsAtOdds */
+    }
+}
+
+/* refusal::Counted::number, crates/refusal/src/lib.rt: The number in document 01's table; 0 for a count. */
+static uint32_t refusal_Counted_number(struct refusal_Counted self) {
+    if (self.tag == refusal_Counted_Count) return 0;
+    return refusal_Refusal_number(self.u.Refused);
+}
+
+/*
+ * refusal::Refusal::place, crates/refusal/src/lib.rt
+ * The place in document 01's table; 0 where the table gives none.
+ */
+static uint32_t refusal_Refusal_place(struct refusal_Refusal self) {
+    switch (self.tag) {
+    case refusal_Refusal_ProfileOutOfRange: return self.u.ProfileOutOfRange;
+    case refusal_Refusal_ProfileInconsistent: return 0;
+    case refusal_Refusal_NotAnItem: return self.u.NotAnItem;
+    case refusal_Refusal_TooLong: return 0;
+    case refusal_Refusal_IntervalTooShort: return self.u.IntervalTooShort;
+    case refusal_Refusal_IntervalTooLong: return self.u.IntervalTooLong;
+    case refusal_Refusal_NotWholeBytes: return 0;
+    case refusal_Refusal_MisplacedMark: return self.u.MisplacedMark;
+    case refusal_Refusal_OutputTooShort: return 0;
+    case refusal_Refusal_NoLock: return 0;
+    case refusal_Refusal_EndsEarly: return 0;
+    case refusal_Refusal_CountOutOfRange: return 0;
+    case refusal_Refusal_SectorSizeMismatch: return 0;
+    case refusal_Refusal_MalformedInput: return self.u.MalformedInput;
+    case refusal_Refusal_TooManySectors: return 0;
+    case refusal_Refusal_UnrulyWord: return self.u.UnrulyWord;
+    default: return self.u.SectorsAtOdds; /* refusal_Refusal_SectorsAtOdds */
+    }
+}
+
+/* refusal::Counted::place, crates/refusal/src/lib.rt: The place in document 01's table; 0 for a count. */
+static uint32_t refusal_Counted_place(struct refusal_Counted self) {
+    if (self.tag == refusal_Counted_Count) return 0;
+    return refusal_Refusal_place(self.u.Refused);
+}
+
+/* The crate register */
+
+/*
+ * register::feed, crates/register/src/lib.rt
+ * The byte and the register's high byte, added, leave at the top, and each of their bits adds the polynomial's terms,
+ * x^12, x^5 and 1. Of what x^12 adds, four bits leave at the top in their turn.
+ */
+static uint16_t register_feed(uint16_t register_, uint16_t byte) {
+    uint16_t top = (register_ >> 8) ^ (byte & 0xFF);
+    uint16_t x = top ^ (top >> 4);
+    uint16_t t9 = (uint16_t)((uint32_t)x << 12) ^ (uint16_t)((uint32_t)x << 5) ^ x;
+    return (uint16_t)((uint32_t)register_ << 8) ^ t9;
+}
+
+/*
+ * register::feed_two, crates/register/src/lib.rt
+ * Two data bytes at once: all 16 bits leave at the top, and of what they add, x^12 brings bits to the top three times
+ * more and x^5 once.
+ */
+static uint16_t register_feed_two(uint16_t register_, uint16_t high, uint16_t low) {
+    uint16_t top = register_ ^ (uint16_t)((uint32_t)high << 8) ^ low;
+    uint16_t y = top ^ (top >> 4);
+    uint16_t x = y ^ (y >> 8) ^ (top >> 11);
+    return (uint16_t)((uint32_t)x << 12) ^ (uint16_t)((uint32_t)x << 5) ^ x;
+}
+
+/* The crate items */
+
+/*
+ * items::Check::after_check, crates/items/src/lib.rt
+ * The state after a check order's two bytes: whatever the register was, they leave 0.
+ */
+static struct items_Check items_Check_after_check(struct items_Check self) {
+    (void)self;
+    return (struct items_Check){.register_ = 0, .marked = false};
+}
+
+/* items::Check::before_mark, crates/items/src/lib.rt: The register that a mark byte passes through. */
+static uint16_t items_Check_before_mark(struct items_Check self) {
+    if (self.marked) return self.register_;
+    return 65535;
+}
+
+/* items::Check::fresh, crates/items/src/lib.rt */
+static struct items_Check items_Check_fresh(void) {
+    return (struct items_Check){.register_ = 65535, .marked = false};
+}
+
+/* items::Check::high, crates/items/src/lib.rt: The two bytes that a check order writes. */
+static uint16_t items_Check_high(struct items_Check self) {
+    return self.register_ / 256;
+}
+
+/* items::is_check, crates/items/src/lib.rt */
+static bool items_is_check(uint16_t n) {
+    return n == 512;
+}
+
+/* items::bytes_of, crates/items/src/lib.rt: How many written bytes a number counts for, an item or not. */
+static uint64_t items_bytes_of(uint16_t n) {
+    if (items_is_check(n)) return 2;
+    return 1;
+}
+
+/* items::is_mark, crates/items/src/lib.rt */
+static bool items_is_mark(uint16_t n) {
+    return n == 417 || n == 450;
+}
+
+/* items::Check::after_byte, crates/items/src/lib.rt */
+static struct items_Check items_Check_after_byte(struct items_Check self, uint16_t byte) {
+    if (items_is_mark(byte)) {
+        return (struct items_Check){.register_ = register_feed(items_Check_before_mark(self), byte), .marked = true};
+    }
+    return (struct items_Check){.register_ = register_feed(self.register_, byte), .marked = false};
+}
+
+/* items::Check::after_item, crates/items/src/lib.rt */
+static struct items_Check items_Check_after_item(struct items_Check self, uint16_t n) {
+    if (items_is_check(n)) return items_Check_after_check(self);
+    return items_Check_after_byte(self, n);
+}
+
+/*
+ * items::Check::after_run, crates/items/src/lib.rt
+ * A run of bytes from a place on: the number there, and then data bytes, two at a time. Answers the state and the
+ * place after the run.
+ */
+static struct items_list_Stored items_Check_after_run(struct items_Check self, struct slice_u16 bytes, uint64_t from) {
+    uint64_t last = bytes.len - 1;
+    struct items_Check check = items_Check_after_byte(self, bytes.at[from]);
+    uint64_t k = from + 1;
+    while (k < last) {
+        uint16_t high = bytes.at[k];
+        uint16_t low = bytes.at[k + 1];
+        if (255 < (high | low)) return (struct items_list_Stored){.check = check, .count = k};
+        check = (struct items_Check){.register_ = register_feed_two(check.register_, high, low), .marked = false};
+        k += 2;
+    }
+    return (struct items_list_Stored){.check = check, .count = k};
+}
+
+/* items::Check::after_bytes, crates/items/src/lib.rt: The state after written bytes have passed through. */
+static struct items_Check items_Check_after_bytes(struct items_Check self, struct slice_u16 bytes) {
+    struct items_Check check = self;
+    uint64_t k = 0;
+    while (k < bytes.len) {
+        struct items_list_Stored next = items_Check_after_run(check, bytes, k);
+        check = next.check;
+        k = next.count;
+    }
+    return check;
+}
+
+/* items::is_item, crates/items/src/lib.rt */
+static bool items_is_item(uint16_t n) {
+    if (n < 256) return true;
+    if (items_is_mark(n)) return true;
+    return items_is_check(n);
+}
+
+/*
+ * items::list::find_foreign, crates/items/src/list.rt
+ * The place of the lowest number that is no item; the length where there is none.
+ */
+static uint64_t items_list_find_foreign(struct slice_u16 items) {
+    uint64_t k = 0;
+    while (k < items.len) {
+        if (items_is_item(items.at[k])) {
+            k++;
+        } else {
+            return k;
+        }
+    }
+    return k;
+}
+
+/* items::Check::low, crates/items/src/lib.rt */
+static uint16_t items_Check_low(struct items_Check self) {
+    return self.register_ % 256;
+}
+
+/* items::list::put_item, crates/items/src/list.rt: Stores an item's bytes from `at` on. */
+static void items_list_put_item(struct slice_u16_mut out, uint64_t at, struct items_Check check, uint16_t n) {
+    if (items_is_check(n)) {
+        uint16_t high = items_Check_high(check);
+        uint16_t low = items_Check_low(check);
+        if (at < out.len) {
+            lists_put(out, at, high);
+            lists_put(out, at + 1, low);
+        }
+    } else {
+        lists_put(out, at, n);
+    }
+}
+
+/*
+ * items::list::write_each, crates/items/src/list.rt
+ * Stores a list's bytes item by item, so that a check order finds the register as it is then.
+ */
+static struct items_list_Stored items_list_write_each(struct items_Check start, struct slice_u16 items,
+        struct slice_u16_mut out) {
+    struct items_Check check = start;
+    uint64_t at = 0;
+    uint64_t k = 0;
+    while (k < items.len) {
+        uint16_t n = items.at[k];
+        items_list_put_item(out, at, check, n);
+        check = items_Check_after_item(check, n);
+        at += items_bytes_of(n);
+        k++;
+    }
+    return (struct items_list_Stored){.check = check, .count = at};
+}
+
+/* items::list::written_bytes, crates/items/src/list.rt: How many bytes a list writes. */
+static uint64_t items_list_written_bytes(struct slice_u16 items) {
+    uint64_t count = 0;
+    uint64_t k = 0;
+    while (k < items.len) {
+        count += items_bytes_of(items.at[k]);
+        k++;
+    }
+    return count;
+}
+
+/* items::list::check_list, crates/items/src/list.rt: Whether the list may be written: 4, then 3. */
+static struct refusal_Verdict items_list_check_list(struct slice_u16 items) {
+    if (6400 < items.len) {
+        return (struct refusal_Verdict){.tag = refusal_Verdict_Refused, .u.Refused = {.tag = refusal_Refusal_TooLong}};
+    }
+    if (6400 < items_list_written_bytes(items)) {
+        return (struct refusal_Verdict){.tag = refusal_Verdict_Refused, .u.Refused = {.tag = refusal_Refusal_TooLong}};
+    }
+    uint64_t k = items_list_find_foreign(items);
+    if (k < items.len) {
+        return (struct refusal_Verdict){.tag = refusal_Verdict_Refused,
+                .u.Refused = {.tag = refusal_Refusal_NotAnItem, .u.NotAnItem = (uint32_t)k}};
+    }
+    return (struct refusal_Verdict){.tag = refusal_Verdict_Accepted};
+}
+
+/*
+ * items::list::write_bytes, crates/items/src/list.rt
+ * Stores a list's bytes, from a state of the register on, from the front of `out` on, as far as it reaches. A list
+ * with no check order is its own bytes.
+ */
+static struct items_list_Stored items_list_write_bytes(struct items_Check start, struct slice_u16 items,
+        struct slice_u16_mut out) {
+    uint64_t count = items_list_written_bytes(items);
+    if (count == items.len) {
+        lists_store(items, 0, out);
+        return (struct items_list_Stored){.check = items_Check_after_bytes(start, items), .count = count};
+    }
+    return items_list_write_each(start, items, out);
+}
+
+/* The crate fifo */
+
+/* fifo::steps::given, crates/fifo/src/steps.rt */
+static ism_fifo_answer fifo_steps_given(uint16_t item, ism_fifo next) {
+    return (ism_fifo_answer){.number = 0, .place = 0, .item = item, .next = next};
+}
+
+/* fifo::Fifo::new, crates/fifo/src/lib.rt: Empty, with register 0, in the mode that `mode` says. */
+static ism_fifo fifo_Fifo_new(uint16_t mode) {
+    return (ism_fifo){.mode = mode, .held = 0, .first = 0, .second = 0, .error = 0};
+}
+
+/* fifo::steps::not_an_item, crates/fifo/src/steps.rt */
+static ism_fifo_answer fifo_steps_not_an_item(ism_fifo next) {
+    struct refusal_Refusal why = {.tag = refusal_Refusal_NotAnItem, .u.NotAnItem = 0};
+    uint32_t t3 = refusal_Refusal_number(why);
+    return (ism_fifo_answer){.number = t3, .place = refusal_Refusal_place(why), .item = 0, .next = next};
+}
+
+/* fifo::Fifo::read_error, crates/fifo/src/lib.rt: The processor reads the error register, in either mode. */
+static ism_fifo_answer fifo_Fifo_read_error(ism_fifo self) {
+    ism_fifo t2 = {.mode = self.mode, .held = self.held, .first = self.first, .second = self.second, .error = 0};
+    return fifo_steps_given(self.error, t2);
+}
+
+/* fifo::steps::with_fault, crates/fifo/src/steps.rt: A bit is set only while none is; a bit of 0 is no fault. */
+static ism_fifo fifo_steps_with_fault(ism_fifo fifo, uint16_t bit) {
+    uint16_t t10;
+    if (fifo.error == 0) {
+        t10 = bit;
+    } else {
+        t10 = fifo.error;
+    }
+    return (ism_fifo){.mode = fifo.mode, .held = fifo.held, .first = fifo.first, .second = fifo.second, .error = t10};
+}
+
+/* fifo::steps::with_items, crates/fifo/src/steps.rt */
+static ism_fifo fifo_steps_with_items(ism_fifo fifo, uint16_t held, uint16_t first, uint16_t second) {
+    return (ism_fifo){.mode = fifo.mode, .held = held, .first = first, .second = second, .error = fifo.error};
+}
+
+/*
+ * fifo::steps::append, crates/fifo/src/steps.rt
+ * An item comes last; where there is no room, `fault` is the bit.
+ */
+static ism_fifo_answer fifo_steps_append(ism_fifo fifo, uint16_t item, uint16_t fault) {
+    if (items_is_item(item)) {
+        if (fifo.held == 0) return fifo_steps_given(0, fifo_steps_with_items(fifo, 1, item, 0));
+        if (fifo.held == 1) return fifo_steps_given(0, fifo_steps_with_items(fifo, 2, fifo.first, item));
+        return fifo_steps_given(0, fifo_steps_with_fault(fifo, fault));
+    }
+    return fifo_steps_not_an_item(fifo);
+}
+
+/* fifo::Fifo::chip_put, crates/fifo/src/lib.rt: The chip puts an item. */
+static ism_fifo_answer fifo_Fifo_chip_put(ism_fifo self, uint16_t item) {
+    if (self.mode == 0) return fifo_steps_given(0, self);
+    return fifo_steps_append(self, item, 1);
+}
+
+/* fifo::Fifo::put, crates/fifo/src/lib.rt: The processor puts an item. */
+static ism_fifo_answer fifo_Fifo_put(ism_fifo self, uint16_t item) {
+    if (self.mode == 0) return fifo_steps_append(self, item, 4);
+    return fifo_steps_given(0, self);
+}
+
+/* fifo::steps::without_first, crates/fifo/src/steps.rt: The first item leaves. */
+static ism_fifo fifo_steps_without_first(ism_fifo fifo) {
+    if (fifo.held < 2) return fifo_steps_with_items(fifo, 0, 0, 0);
+    return fifo_steps_with_items(fifo, 1, fifo.second, 0);
+}
+
+/*
+ * fifo::steps::shift, crates/fifo/src/steps.rt
+ * The first item leaves; where there is none, `fault` is the bit; where it is a mark, `mark`.
+ */
+static ism_fifo_answer fifo_steps_shift(ism_fifo fifo, uint16_t fault, uint16_t mark) {
+    if (fifo.held == 0) return fifo_steps_given(0, fifo_steps_with_fault(fifo, fault));
+    if (items_is_mark(fifo.first)) {
+        return fifo_steps_given(fifo.first, fifo_steps_with_fault(fifo_steps_without_first(fifo), mark));
+    }
+    return fifo_steps_given(fifo.first, fifo_steps_without_first(fifo));
+}
+
+/* fifo::Fifo::chip_take, crates/fifo/src/lib.rt: The chip takes an item. */
+static ism_fifo_answer fifo_Fifo_chip_take(ism_fifo self) {
+    if (self.mode == 0) return fifo_steps_shift(self, 1, 0);
+    return fifo_steps_given(0, self);
+}
+
+/*
+ * fifo::Fifo::take_data, crates/fifo/src/lib.rt
+ * The processor takes an item at the data location, where a mark is a fault.
+ */
+static ism_fifo_answer fifo_Fifo_take_data(ism_fifo self) {
+    if (self.mode == 0) return fifo_steps_given(0, self);
+    return fifo_steps_shift(self, 4, 2);
+}
+
+/* fifo::Fifo::take_mark, crates/fifo/src/lib.rt: The processor takes an item at the mark location. */
+static ism_fifo_answer fifo_Fifo_take_mark(ism_fifo self) {
+    if (self.mode == 0) return fifo_steps_given(0, self);
+    return fifo_steps_shift(self, 4, 0);
+}
+
+/* The crate sectors */
+
+/* sectors::put_data, crates/sectors/src/lib.rt */
+static uint64_t sectors_put_data(struct slice_u16_mut out, uint64_t at, struct slice_u8 bytes) {
+    uint64_t k = 0;
+    while (k < bytes.len) {
+        out.at[at + k] = (uint16_t)bytes.at[k];
+        k++;
+    }
+    out.at[at + k] = 512;
+    return at + k + 1;
+}
+
+/* sectors::put_identity, crates/sectors/src/lib.rt */
+static uint64_t sectors_put_identity(struct slice_u16_mut out, uint64_t at, uint8_t track, uint8_t side, uint8_t sector,
+        uint8_t code) {
+    out.at[at] = (uint16_t)track;
+    out.at[at + 1] = (uint16_t)side;
+    out.at[at + 2] = (uint16_t)sector;
+    out.at[at + 3] = (uint16_t)code;
+    out.at[at + 4] = 512;
+    return at + 5;
+}
+
+/* sectors::repeat, crates/sectors/src/lib.rt */
+static uint64_t sectors_repeat(struct slice_u16_mut out, uint64_t at, uint64_t count, uint16_t item) {
+    uint64_t k = 0;
+    while (k < count) {
+        out.at[at + k] = item;
+        k++;
+    }
+    return at + count;
+}
+
+/*
+ * sectors::open_field, crates/sectors/src/lib.rt
+ * 12 of 00, three marks A1, and the byte that tells an ID field from a data field.
+ */
+static uint64_t sectors_open_field(struct slice_u16_mut out, uint64_t at, uint16_t kind) {
+    uint64_t marks = sectors_repeat(out, at, 12, 0);
+    uint64_t end = sectors_repeat(out, marks, 3, 417);
+    out.at[end] = kind;
+    return end + 1;
+}
+
+/* sectors::put_sector, crates/sectors/src/lib.rt: The whole sector at the front of the output. */
+static void sectors_put_sector(struct slice_u16_mut out, uint8_t track, uint8_t side, uint8_t sector, uint8_t code,
+        struct slice_u8 bytes) {
+    uint64_t id = sectors_open_field(out, 0, 254);
+    uint64_t gap = sectors_put_identity(out, id, track, side, sector, code);
+    uint64_t second = sectors_repeat(out, gap, 22, 78);
+    uint64_t first = sectors_open_field(out, second, 251);
+    uint64_t end = sectors_put_data(out, first, bytes);
+    sectors_repeat(out, end, 54, 78);
+}
+
+/* sectors::sector_size, crates/sectors/src/lib.rt: The bytes of data in a sector of a length code, 0 to 3. */
+static uint64_t sectors_sector_size(uint8_t code) {
+    switch (code) {
+    case 0: return 128;
+    case 1: return 256;
+    case 2: return 512;
+    default: return 1024;
+    }
+}
+
+/*
+ * sectors::make_sector, crates/sectors/src/lib.rt
+ * 13, for length code 0 too, then 9; on acceptance the items fill the front of the output and their number is
+ * answered.
+ */
+static struct refusal_Counted sectors_make_sector(uint8_t track, uint8_t side, uint8_t sector, uint8_t code,
+        struct slice_u8 bytes, struct slice_u16_mut out) {
+    if (code < 1) {
+        return (struct refusal_Counted){.tag = refusal_Counted_Refused,
+                .u.Refused = {.tag = refusal_Refusal_SectorSizeMismatch}};
+    }
+    if (3 < code) {
+        return (struct refusal_Counted){.tag = refusal_Counted_Refused,
+                .u.Refused = {.tag = refusal_Refusal_SectorSizeMismatch}};
+    }
+    if (bytes.len != sectors_sector_size(code)) {
+        return (struct refusal_Counted){.tag = refusal_Counted_Refused,
+                .u.Refused = {.tag = refusal_Refusal_SectorSizeMismatch}};
+    }
+    uint64_t count = bytes.len + 114;
+    if (out.len < count) {
+        return (struct refusal_Counted){.tag = refusal_Counted_Refused,
+                .u.Refused = {.tag = refusal_Refusal_OutputTooShort}};
+    }
+    sectors_put_sector(out, track, side, sector, code, bytes);
+    return (struct refusal_Counted){.tag = refusal_Counted_Count, .u.Count = count};
+}
+
+/* The crate merge */
+
+/* merge::check_counts, crates/merge/src/lib.rt */
+static struct refusal_Verdict merge_check_counts(uint64_t first, uint64_t second) {
+    if (32 < first) {
+        return (struct refusal_Verdict){.tag = refusal_Verdict_Refused,
+                .u.Refused = {.tag = refusal_Refusal_TooManySectors}};
+    }
+    if (32 < second) {
+        return (struct refusal_Verdict){.tag = refusal_Verdict_Refused,
+                .u.Refused = {.tag = refusal_Refusal_TooManySectors}};
+    }
+    return (struct refusal_Verdict){.tag = refusal_Verdict_Accepted};
+}
+
+/* merge::index::entry, crates/merge/src/index.rt */
+static uint16_t merge_index_entry(uint16_t old, uint16_t place) {
+    if (old == 0) return place;
+    return 65535;
+}
+
+/* merge::output::entry_size, crates/merge/src/output.rt */
+static uint64_t merge_output_entry_size(struct slice_u8 set, uint16_t entry) {
+    if (entry == 0) return 0;
+    uint64_t code = (uint64_t)entry;
+    return 3 + sectors_sector_size(set.at[code]);
+}
+
+/* merge::index::in_either, crates/merge/src/index.rt */
+static bool merge_index_in_either(uint16_t a, uint16_t b) {
+    if (a != 0) return true;
+    return b != 0;
+}
+
+/* merge::index::count_numbers, crates/merge/src/index.rt: How many different numbers two sets have. */
+static uint64_t merge_index_count_numbers(const struct array_u16_256 *a, const struct array_u16_256 *b) {
+    uint64_t count = 0;
+    uint64_t n = 0;
+    while (n < 256) {
+        if (merge_index_in_either(a->a[n], b->a[n])) count++;
+        n++;
+    }
+    return count;
+}
+
+/*
+ * merge::index::index_set, crates/merge/src/index.rt
+ * 32 sectors have at most 32,864 bytes, so a place fits 16 bits and is not 65,535.
+ */
+static void merge_index_index_set(struct slice_u8 set, struct array_u16_256 *index) {
+    uint64_t start = 0;
+    while (start < set.len) {
+        uint64_t code = start + 1;
+        uint64_t number = (uint64_t)set.at[start];
+        index->a[number] = merge_index_entry(index->a[number], (uint16_t)code);
+        start = code + 2 + sectors_sector_size(set.at[code]);
+    }
+}
+
+/*
+ * merge::choice::same_bytes, crates/merge/src/choice.rt
+ * Looks at every byte: a loop that could end early would go byte by byte.
+ */
+static bool merge_choice_same_bytes(struct slice_u8 a, struct slice_u8 b) {
+    if (a.len != b.len) return false;
+    bool same = true;
+    uint64_t k = 0;
+    while (k < a.len) {
+        same = same & (a.at[k] == b.at[k]);
+        k++;
+    }
+    return same;
+}
+
+/* merge::choice::copies_disagree, crates/merge/src/choice.rt: Both sums good and unlike bytes. */
+static bool merge_choice_copies_disagree(struct slice_u8 first, uint64_t a, struct slice_u8 second, uint64_t b) {
+    if (first.at[a + 1] == 0) return false;
+    if (second.at[b + 1] == 0) return false;
+    uint8_t code = first.at[a];
+    if (code != second.at[b]) return true;
+    uint64_t size = sectors_sector_size(code);
+    uint64_t a_data = a + 2;
+    uint64_t a_end = a_data + size;
+    uint64_t b_data = b + 2;
+    uint64_t b_end = b_data + size;
+    struct slice_u8 t24 = slice_u8(second.at + b_data, b_end - b_data);
+    return !merge_choice_same_bytes(slice_u8(first.at + a_data, a_end - a_data), t24);
+}
+
+/* merge::choice::at_odds, crates/merge/src/choice.rt */
+static bool merge_choice_at_odds(struct slice_u8 first, uint16_t a, struct slice_u8 second, uint16_t b) {
+    if (a == 65535) return true;
+    if (b == 65535) return true;
+    if (a == 0) return false;
+    if (b == 0) return false;
+    return merge_choice_copies_disagree(first, (uint64_t)a, second, (uint64_t)b);
+}
+
+/*
+ * merge::choice::lowest_at_odds, crates/merge/src/choice.rt
+ * The lowest number at which the sets are at odds; 256 where there is none.
+ */
+static uint64_t merge_choice_lowest_at_odds(struct slice_u8 first, const struct array_u16_256 *a,
+        struct slice_u8 second, const struct array_u16_256 *b) {
+    uint64_t n = 0;
+    while (n < 256) {
+        if (merge_choice_at_odds(first, a->a[n], second, b->a[n])) return n;
+        n++;
+    }
+    return n;
+}
+
+/*
+ * merge::check_numbers, crates/merge/src/lib.rt
+ * 15 for more than 32 different numbers, then 17; else how many there are.
+ */
+static struct refusal_Counted merge_check_numbers(struct slice_u8 first, const struct array_u16_256 *a,
+        struct slice_u8 second, const struct array_u16_256 *b) {
+    uint64_t count = merge_index_count_numbers(a, b);
+    if (32 < count) {
+        return (struct refusal_Counted){.tag = refusal_Counted_Refused,
+                .u.Refused = {.tag = refusal_Refusal_TooManySectors}};
+    }
+    uint64_t lowest = merge_choice_lowest_at_odds(first, a, second, b);
+    if (lowest < 256) {
+        return (struct refusal_Counted){.tag = refusal_Counted_Refused,
+                .u.Refused = {.tag = refusal_Refusal_SectorsAtOdds, .u.SectorsAtOdds = (uint32_t)lowest}};
+    }
+    return (struct refusal_Counted){.tag = refusal_Counted_Count, .u.Count = count};
+}
+
+/* merge::index::sector_end, crates/merge/src/index.rt: The place after the sector that begins at a place. */
+static struct refusal_Counted merge_index_sector_end(struct slice_u8 set, uint64_t start) {
+    uint64_t left = set.len - start;
+    if (left < 3) {
+        return (struct refusal_Counted){.tag = refusal_Counted_Refused,
+                .u.Refused = {.tag = refusal_Refusal_SectorSizeMismatch}};
+    }
+    uint8_t code = set.at[start + 1];
+    if (3 < code) {
+        return (struct refusal_Counted){.tag = refusal_Counted_Refused,
+                .u.Refused = {.tag = refusal_Refusal_SectorSizeMismatch}};
+    }
+    uint64_t size = sectors_sector_size(code);
+    if (left - 3 < size) {
+        return (struct refusal_Counted){.tag = refusal_Counted_Refused,
+                .u.Refused = {.tag = refusal_Refusal_SectorSizeMismatch}};
+    }
+    return (struct refusal_Counted){.tag = refusal_Counted_Count, .u.Count = start + 3 + size};
+}
+
+/*
+ * merge::index::count_sectors, crates/merge/src/index.rt
+ * 13, looked for to the end of the set, or how many sectors it has.
+ */
+static struct refusal_Counted merge_index_count_sectors(struct slice_u8 set) {
+    uint64_t count = 0;
+    uint64_t start = 0;
+    while (start < set.len) {
+        struct refusal_Counted t8 = merge_index_sector_end(set, start);
+        if (t8.tag == refusal_Counted_Refused) {
+            return (struct refusal_Counted){.tag = refusal_Counted_Refused, .u.Refused = t8.u.Refused};
+        }
+        count++;
+        start = t8.u.Count;
+    }
+    return (struct refusal_Counted){.tag = refusal_Counted_Count, .u.Count = count};
+}
+
+/* merge::check_sets, crates/merge/src/lib.rt: 13, then 15 for a set of more than 32 sectors. */
+static struct refusal_Verdict merge_check_sets(struct slice_u8 first, struct slice_u8 second) {
+    struct refusal_Counted t7 = merge_index_count_sectors(first);
+    if (t7.tag == refusal_Counted_Refused) {
+        return (struct refusal_Verdict){.tag = refusal_Verdict_Refused, .u.Refused = t7.u.Refused};
+    }
+    uint64_t a = t7.u.Count;
+    struct refusal_Counted t9 = merge_index_count_sectors(second);
+    if (t9.tag == refusal_Counted_Refused) {
+        return (struct refusal_Verdict){.tag = refusal_Verdict_Refused, .u.Refused = t9.u.Refused};
+    }
+    return merge_check_counts(a, t9.u.Count);
+}
+
+/* merge::output::sum_byte, crates/merge/src/output.rt */
+static uint8_t merge_output_sum_byte(uint8_t sum) {
+    if (sum == 0) return 0;
+    return 1;
+}
+
+/* merge::output::put_sector, crates/merge/src/output.rt: The sector whose length code stands at a place. */
+static uint64_t merge_output_put_sector(struct slice_u8 set, uint64_t code, struct slice_u8_mut out, uint64_t start) {
+    uint64_t size = sectors_sector_size(set.at[code]);
+    out.at[start] = set.at[code - 1];
+    out.at[start + 1] = set.at[code];
+    out.at[start + 2] = merge_output_sum_byte(set.at[code + 1]);
+    uint64_t data = code + 2;
+    uint64_t end = data + size;
+    lists_copy(slice_u8(set.at + data, end - data), start + 3, out);
+    return start + 3 + size;
+}
+
+/* merge::output::put_entry, crates/merge/src/output.rt */
+static uint64_t merge_output_put_entry(struct slice_u8 set, uint16_t entry, struct slice_u8_mut out, uint64_t start) {
+    if (entry == 0) return start;
+    return merge_output_put_sector(set, (uint64_t)entry, out, start);
+}
+
+/* merge::choice::takes_second, crates/merge/src/choice.rt: Whether it is the second set's copy that is taken. */
+static bool merge_choice_takes_second(struct slice_u8 first, uint16_t a, struct slice_u8 second, uint16_t b) {
+    if (a == 0) return true;
+    if (b == 0) return false;
+    uint64_t a_sum = (uint64_t)a + 1;
+    if (first.at[a_sum] != 0) return false;
+    uint64_t b_sum = (uint64_t)b + 1;
+    return second.at[b_sum] != 0;
+}
+
+/* merge::output::put_taken, crates/merge/src/output.rt: The copy taken, if one of the sets has the number. */
+static uint64_t merge_output_put_taken(struct slice_u8 first, uint16_t a, struct slice_u8 second, uint16_t b,
+        struct slice_u8_mut out, uint64_t start) {
+    if (merge_choice_takes_second(first, a, second, b)) {
+        return merge_output_put_entry(second, b, out, start);
+    }
+    return merge_output_put_entry(first, a, out, start);
+}
+
+/*
+ * merge::output::taken_size, crates/merge/src/output.rt
+ * The bytes that the copy taken has; none where neither set has the number.
+ */
+static uint64_t merge_output_taken_size(struct slice_u8 first, uint16_t a, struct slice_u8 second, uint16_t b) {
+    if (merge_choice_takes_second(first, a, second, b)) return merge_output_entry_size(second, b);
+    return merge_output_entry_size(first, a);
+}
+
+/* merge::ascending::merged_size, crates/merge/src/ascending.rt */
+static uint64_t merge_ascending_merged_size(struct slice_u8 first, const struct array_u16_256 *a,
+        struct slice_u8 second, const struct array_u16_256 *b) {
+    uint64_t size = 0;
+    uint64_t n = 0;
+    while (n < 256) {
+        size += merge_output_taken_size(first, a->a[n], second, b->a[n]);
+        n++;
+    }
+    return size;
+}
+
+/* merge::ascending::write_merged, crates/merge/src/ascending.rt */
+static void merge_ascending_write_merged(struct slice_u8 first, const struct array_u16_256 *a, struct slice_u8 second,
+        const struct array_u16_256 *b, struct slice_u8_mut out) {
+    uint64_t start = 0;
+    uint64_t n = 0;
+    while (n < 256) {
+        start = merge_output_put_taken(first, a->a[n], second, b->a[n], out, start);
+        n++;
+    }
+}
+
+/* merge::deliver, crates/merge/src/lib.rt: 9, or the merged set at the front of the output. */
+static struct merge_Merged merge_deliver(struct slice_u8 first, const struct array_u16_256 *a, struct slice_u8 second,
+        const struct array_u16_256 *b, uint64_t count, struct slice_u8_mut out) {
+    uint64_t bytes = merge_ascending_merged_size(first, a, second, b);
+    if (out.len < bytes) {
+        return (struct merge_Merged){.tag = merge_Merged_Refused, .u.Refused = {.tag = refusal_Refusal_OutputTooShort}};
+    }
+    merge_ascending_write_merged(first, a, second, b, out);
+    return (struct merge_Merged){.tag = merge_Merged_Set, .u.Set = {.count = count, .bytes = bytes}};
+}
+
+/* merge::merge_checked, crates/merge/src/lib.rt: Two sets of at most 32 sectors each. */
+static struct merge_Merged merge_merge_checked(struct slice_u8 first, struct slice_u8 second, struct slice_u8_mut out) {
+    struct array_u16_256 a = {0};
+    struct array_u16_256 b = {0};
+    merge_index_index_set(first, &a);
+    merge_index_index_set(second, &b);
+    struct refusal_Counted t11 = merge_check_numbers(first, &a, second, &b);
+    if (t11.tag == refusal_Counted_Refused) {
+        return (struct merge_Merged){.tag = merge_Merged_Refused, .u.Refused = t11.u.Refused};
+    }
+    return merge_deliver(first, &a, second, &b, t11.u.Count, out);
+}
+
+/*
+ * merge::merge_sets, crates/merge/src/lib.rt
+ * 13, 15, 17, 9. On acceptance the merged set fills the front of the output, by ascending sector number.
+ */
+static struct merge_Merged merge_merge_sets(struct slice_u8 first, struct slice_u8 second, struct slice_u8_mut out) {
+    struct refusal_Verdict t5 = merge_check_sets(first, second);
+    if (t5.tag == refusal_Verdict_Refused) {
+        return (struct merge_Merged){.tag = merge_Merged_Refused, .u.Refused = t5.u.Refused};
+    }
+    return merge_merge_checked(first, second, out);
+}
+
+/* The crate symbols */
+
+/*
+ * symbols::Reading::close, crates/symbols/src/lib.rt
+ * On to the next byte after the cell at this place made one whole. Of the gaps out of place the lowest is kept.
+ */
+static struct symbols_Reading symbols_Reading_close(struct symbols_Reading self, uint32_t at) {
+    uint32_t surplus = (self.held - 17) % 32;
+    uint32_t x = (self.bits >> surplus) % 131072;
+    uint32_t gaps = half_cells_missing(x);
+    self.held -= 16;
+    self.words = std_num_wrapping_add_u32(self.words, 1);
+    if (gaps == 0) return self;
+    if (half_cells_is_mark(x)) return self;
+    if (self.stray) return self;
+    self.stray = true;
+    self.place = half_cells_first_of_cells(at, half_cells_cells_since(self.bits, surplus, gaps));
+    return self;
+}
+
+/* symbols::Reading::empty, crates/symbols/src/lib.rt: No half cell, to shift cells into that are to be joined. */
+static struct symbols_Reading symbols_Reading_empty(void) {
+    return (struct symbols_Reading){.bits = 0, .held = 0, .words = 0, .place = 0, .stray = false};
+}
+
+/*
+ * symbols::Reading::half_cells, crates/symbols/src/lib.rt
+ * The same with the data bit before it; where none is whole, other half cells.
+ */
+static uint32_t symbols_Reading_half_cells(struct symbols_Reading self) {
+    uint32_t surplus = std_num_wrapping_sub_u32(self.held, 17) % 32;
+    return (self.bits >> surplus) % 131072;
+}
+
+/*
+ * symbols::Reading::is_stray, crates/symbols/src/lib.rt
+ * A gap was out of place, also one on the last bit, which no later byte has shown.
+ */
+static bool symbols_Reading_is_stray(struct symbols_Reading self) {
+    return self.stray | ((self.held == 4) & (self.bits % 16 == 1));
+}
+
+/*
+ * symbols::Reading::is_whole, crates/symbols/src/lib.rt
+ * A byte is whole with its 16 half cells and the data bit before it.
+ */
+static bool symbols_Reading_is_whole(struct symbols_Reading self) {
+    return 17 <= self.held;
+}
+
+/*
+ * symbols::Reading::ease, crates/symbols/src/lib.rt
+ * On to the next byte where one is whole, without a jump. Its gaps are not looked at.
+ */
+static struct symbols_Reading symbols_Reading_ease(struct symbols_Reading self) {
+    uint32_t whole = (uint32_t)symbols_Reading_is_whole(self);
+    self.held = std_num_wrapping_sub_u32(self.held, 16 * whole);
+    self.words = std_num_wrapping_add_u32(self.words, whole);
+    return self;
+}
+
+/*
+ * symbols::Reading::join, crates/symbols/src/lib.rt
+ * Cells that were shifted into an empty register, with one shift.
+ */
+static struct symbols_Reading symbols_Reading_join(struct symbols_Reading self, struct symbols_Reading cells) {
+    self.bits = (uint32_t)(self.bits << (cells.held % 32)) | cells.bits;
+    self.held = std_num_wrapping_add_u32(self.held, cells.held);
+    return self;
+}
+
+/*
+ * symbols::Reading::new, crates/symbols/src/lib.rt
+ * The transition before the first cell is the lead's clock bit.
+ */
+static struct symbols_Reading symbols_Reading_new(void) {
+    return (struct symbols_Reading){.bits = 1, .held = 0, .words = 0, .place = 0, .stray = false};
+}
+
+/*
+ * symbols::Reading::shift, crates/symbols/src/lib.rt
+ * One cell more, of so many units: 0s, then the 1 that ends it.
+ */
+static struct symbols_Reading symbols_Reading_shift(struct symbols_Reading self, uint8_t units) {
+    uint32_t more = (uint32_t)units;
+    self.bits = (uint32_t)(self.bits << (more % 32)) | 0x1;
+    self.held = std_num_wrapping_add_u32(self.held, more);
+    return self;
+}
+
+/*
+ * symbols::Reading::stray_place, crates/symbols/src/lib.rt
+ * The place of the lowest such gap's cell, given that of the last cell.
+ */
+static uint32_t symbols_Reading_stray_place(struct symbols_Reading self, uint32_t last) {
+    if (self.stray) return self.place;
+    return last;
+}
+
+/* symbols::Reading::word, crates/symbols/src/lib.rt: The code word of a byte that is whole. */
+static uint16_t symbols_Reading_word(struct symbols_Reading self) {
+    uint32_t surplus = (self.held - 17) % 32;
+    uint32_t x = (self.bits >> surplus) % 131072;
+    return (uint16_t)(x % 65536);
+}
+
+/* The crate timing */
+
+/*
+ * timing::cursor::chosen, crates/timing/src/cursor.rt
+ * The bounds after an interval of class 2, or after any other.
+ */
+static struct timing_Bounds timing_cursor_chosen(bool two, struct timing_Bounds short_, struct timing_Bounds long_) {
+    if (two) return short_;
+    return long_;
+}
+
+/*
+ * timing::cursor::Cursor::after, crates/timing/src/cursor.rt
+ * Behind an interval of class 2, or of any other, under a profile that the caller has checked, or does not care to.
+ */
+static struct timing_cursor_Cursor timing_cursor_Cursor_after(struct timing_Profile p, bool two) {
+    struct timing_HalfClocks min = p.min;
+    struct timing_Bounds short_ = p.short_;
+    struct timing_Bounds long_ = p.long_;
+    struct timing_HalfClocks rpt = p.rpt;
+    return (struct timing_cursor_Cursor){.min = min, .bounds = timing_cursor_chosen(two, short_, long_), .rpt = rpt,
+            .short_ = short_, .long_ = long_};
+}
+
+/*
+ * timing::cursor::Cursor::behind, crates/timing/src/cursor.rt
+ * Where the classing stands behind an interval that is of class 2, or is not.
+ */
+static struct timing_cursor_Cursor timing_cursor_Cursor_behind(struct timing_cursor_Cursor self, bool two) {
+    struct timing_Bounds short_ = self.short_;
+    struct timing_Bounds long_ = self.long_;
+    struct timing_cursor_Cursor next = self;
+    next.bounds = timing_cursor_chosen(two, short_, long_);
+    return next;
+}
+
+/* timing::cursor::Cursor::class_of, crates/timing/src/cursor.rt: The class of the next interval. */
+static struct timing_Class timing_cursor_Cursor_class_of(struct timing_cursor_Cursor self, uint16_t interval) {
+    if (interval < self.min.f0) return (struct timing_Class){.tag = timing_Class_Narrow};
+    if (interval < self.bounds.b23.f0) return (struct timing_Class){.tag = timing_Class_Two};
+    if (interval < self.bounds.b34.f0) return (struct timing_Class){.tag = timing_Class_Three};
+    if (interval < self.rpt.f0) return (struct timing_Class){.tag = timing_Class_Four};
+    return (struct timing_Class){.tag = timing_Class_Wide};
+}
+
+/*
+ * timing::Profile::from_numbers, crates/timing/src/lib.rt
+ * The profile of eleven numbers in document 02's order.
+ */
+static struct timing_Profile timing_Profile_from_numbers(const struct array_u16_11 *numbers) {
+    struct timing_Bounds t43 = {.b23 = {.f0 = numbers->a[7]}, .b34 = {.f0 = numbers->a[9]}};
+    struct timing_HalfClocks t47 = {.f0 = numbers->a[10]};
+    return (struct timing_Profile){.t1 = {.f0 = numbers->a[0]}, .t0 = {.f0 = numbers->a[1]},
+            .early = {.f0 = numbers->a[2]}, .normal = {.f0 = numbers->a[3]}, .late = {.f0 = numbers->a[4]},
+            .min = {.f0 = numbers->a[5]}, .short_ = {.b23 = {.f0 = numbers->a[6]}, .b34 = {.f0 = numbers->a[8]}},
+            .long_ = t43, .rpt = t47};
+}
+
+/*
+ * timing::Clocks::in_half_clocks, crates/timing/src/lib.rt
+ * The only way from clocks to half clocks, so that a compare point is never added to a length as it is.
+ */
+static struct timing_HalfClocks timing_Clocks_in_half_clocks(struct timing_Clocks self) {
+    return (struct timing_HalfClocks){.f0 = 2 * self.f0};
+}
+
+/*
+ * timing::rule::apart, crates/timing/src/rule.rt
+ * The distance from a point to a later one, in half clocks; 0 where they are out of order.
+ */
+static struct timing_HalfClocks timing_rule_apart(struct timing_Clocks from, struct timing_Clocks to) {
+    if (to.f0 < from.f0) return (struct timing_HalfClocks){.f0 = 0};
+    return timing_Clocks_in_half_clocks((struct timing_Clocks){.f0 = to.f0 - from.f0});
+}
+
+/* timing::rule::advance, crates/timing/src/rule.rt: The parts of it before and after Normal. */
+static struct timing_HalfClocks timing_rule_advance(struct timing_Profile p) {
+    return timing_rule_apart(p.early, p.normal);
+}
+
+/* timing::rule::delay, crates/timing/src/rule.rt */
+static struct timing_HalfClocks timing_rule_delay(struct timing_Profile p) {
+    return timing_rule_apart(p.normal, p.late);
+}
+
+/*
+ * timing::cursor::Cursor::is_steady, crates/timing/src/cursor.rt
+ * Whether it stands so behind every interval: the bounds are the same after either kind.
+ */
+static bool timing_cursor_Cursor_is_steady(struct timing_cursor_Cursor self) {
+    bool t5 = self.bounds.b23.f0 == self.long_.b23.f0;
+    bool t7 = self.bounds.b34.f0 == self.long_.b34.f0;
+    return (self.bounds.b23.f0 == self.short_.b23.f0) & (self.bounds.b34.f0 == self.short_.b34.f0) & t5 & t7;
+}
+
+/* timing::rule::is_true_long, crates/timing/src/rule.rt: And those after any other. */
+static bool timing_rule_is_true_long(struct timing_Profile p) {
+    uint16_t l = timing_rule_delay(p).f0;
+    uint16_t three = p.t1.f0 + p.t0.f0;
+    uint16_t four = p.t1.f0 + 2 * p.t0.f0;
+    bool t13 = p.long_.b34.f0 <= four;
+    return (p.t1.f0 < p.long_.b23.f0 + l) & (p.long_.b23.f0 <= three) & (three + l < p.long_.b34.f0) & t13;
+}
+
+/*
+ * timing::cursor::Cursor::meets_cell, crates/timing/src/cursor.rt
+ * Whether the next interval is of class 2, 3 or 4: that goes by Min and Rpt alone, which are the same after each kind.
+ */
+static bool timing_cursor_Cursor_meets_cell(struct timing_cursor_Cursor self, uint16_t interval) {
+    return (self.min.f0 <= interval) & (interval < self.rpt.f0);
+}
+
+/*
+ * timing::cursor::Cursor::meets_two, crates/timing/src/cursor.rt
+ * Whether it is of class 2, by one compare: below Min the difference wraps to above all others.
+ */
+static bool timing_cursor_Cursor_meets_two(struct timing_cursor_Cursor self, uint16_t interval) {
+    return std_num_wrapping_sub_u16(interval, self.min.f0) < self.bounds.b23.f0 - self.min.f0;
+}
+
+/*
+ * timing::Class::number, crates/timing/src/lib.rt
+ * 2, 3 and 4 as the paper has them; 1 for narrow and 5 for wide.
+ */
+static uint64_t timing_Class_number(struct timing_Class self) {
+    switch (self.tag) {
+    case timing_Class_Narrow: return 1;
+    case timing_Class_Two: return 2;
+    case timing_Class_Three: return 3;
+    case timing_Class_Four: return 4;
+    default: return 5; /* timing_Class_Wide */
+    }
+}
+
+/* timing::Profile::numbers, crates/timing/src/lib.rt: Its numbers, in the same order. */
+static struct array_u16_11 timing_Profile_numbers(struct timing_Profile self) {
+    return (struct array_u16_11){{self.t1.f0, self.t0.f0, self.early.f0, self.normal.f0, self.late.f0, self.min.f0,
+            self.short_.b23.f0, self.long_.b23.f0, self.short_.b34.f0, self.long_.b34.f0, self.rpt.f0}};
+}
+
+/*
+ * timing::rule::lowest_unset, crates/timing/src/rule.rt
+ * Which of the numbers is the first out of range, from 1; 0 for none.
+ */
+static uint32_t timing_rule_lowest_unset(struct timing_Profile p) {
+    struct array_u16_11 numbers = timing_Profile_numbers(p);
+    struct array_timing_Range_11 ranges = {{{.low = 1, .high = 1023}, {.low = 1, .high = 1023}, {.low = 0, .high = 15},
+            {.low = 0, .high = 15}, {.low = 0, .high = 15}, {.low = 1, .high = 4095}, {.low = 1, .high = 4095},
+            {.low = 1, .high = 4095}, {.low = 1, .high = 4095}, {.low = 1, .high = 4095}, {.low = 1, .high = 4095}}};
+    uint64_t k = 0;
+    while (k < 11) {
+        struct timing_Range range = ranges.a[k];
+        uint16_t x = numbers.a[k];
+        if ((x < range.low) | (range.high < x)) return (uint32_t)k + 1;
+        k++;
+    }
+    return 0;
+}
+
+/* timing::cursor::Cursor::past, crates/timing/src/cursor.rt: Where it stands after the next interval. */
+static struct timing_cursor_Cursor timing_cursor_Cursor_past(struct timing_cursor_Cursor self, uint16_t interval) {
+    return timing_cursor_Cursor_behind(self, (self.min.f0 <= interval) & (interval < self.bounds.b23.f0));
+}
+
+/*
+ * timing::cursor::Cursor::start, crates/timing/src/cursor.rt
+ * Before the first interval of a list, where the one before counts as class 2.
+ */
+static struct timing_cursor_Cursor timing_cursor_Cursor_start(struct timing_Profile p) {
+    return timing_cursor_Cursor_after(p, true);
+}
+
+/* timing::cursor::Cursor::step, crates/timing/src/cursor.rt: The next interval of the list. */
+static struct timing_cursor_Classed timing_cursor_Cursor_step(struct timing_cursor_Cursor self, uint16_t interval) {
+    struct timing_Class t3 = timing_cursor_Cursor_class_of(self, interval);
+    return (struct timing_cursor_Classed){.class = t3, .next = timing_cursor_Cursor_past(self, interval)};
+}
+
+/*
+ * timing::rule::swing, crates/timing/src/rule.rt
+ * The distance between the latest and the earliest point (document 01's D).
+ */
+static struct timing_HalfClocks timing_rule_swing(struct timing_Profile p) {
+    return timing_rule_apart(p.early, p.late);
+}
+
+/*
+ * timing::rule::is_true_short, crates/timing/src/rule.rt
+ * Whether the lengths that can be written after a cell of class 2 are in their windows.
+ */
+static bool timing_rule_is_true_short(struct timing_Profile p) {
+    uint16_t d = timing_rule_swing(p).f0;
+    uint16_t e = timing_rule_advance(p).f0;
+    uint16_t three = p.t1.f0 + p.t0.f0;
+    uint16_t four = p.t1.f0 + 2 * p.t0.f0;
+    bool t15 = p.short_.b34.f0 <= four + e;
+    return (p.t1.f0 < p.short_.b23.f0) & (p.short_.b23.f0 <= three + e) & (three + d < p.short_.b34.f0) & t15;
+}
+
+/* timing::rule::is_true, crates/timing/src/rule.rt: Whether a profile whose numbers are in range is true. */
+static bool timing_rule_is_true(struct timing_Profile p) {
+    uint16_t d = timing_rule_swing(p).f0;
+    uint16_t four = p.t1.f0 + 2 * p.t0.f0;
+    bool t11 = timing_rule_is_true_short(p);
+    bool t13 = timing_rule_is_true_long(p);
+    bool t14 = (p.early.f0 <= p.normal.f0) & (p.normal.f0 <= p.late.f0) & (p.min.f0 + d <= p.t1.f0) & t11 & t13;
+    return t14 & (four + d < p.rpt.f0);
+}
+
+/* timing::rule::check, crates/timing/src/rule.rt: Whether the profile may be used: 1, then 2. */
+static struct refusal_Verdict timing_rule_check(struct timing_Profile p) {
+    uint32_t which = timing_rule_lowest_unset(p);
+    if (which != 0) {
+        return (struct refusal_Verdict){.tag = refusal_Verdict_Refused,
+                .u.Refused = {.tag = refusal_Refusal_ProfileOutOfRange, .u.ProfileOutOfRange = which}};
+    }
+    if (timing_rule_is_true(p)) return (struct refusal_Verdict){.tag = refusal_Verdict_Accepted};
+    return (struct refusal_Verdict){.tag = refusal_Verdict_Refused,
+            .u.Refused = {.tag = refusal_Refusal_ProfileInconsistent}};
+}
+
+/*
+ * timing::class_number, crates/timing/src/lib.rt
+ * The class operation, told whether the interval before was of class 2: the class's number, after 1 and 2.
+ */
+static struct refusal_Counted timing_class_number(struct timing_Profile p, uint16_t interval, bool two) {
+    struct refusal_Verdict t6 = timing_rule_check(p);
+    if (t6.tag == refusal_Verdict_Refused) {
+        return (struct refusal_Counted){.tag = refusal_Counted_Refused, .u.Refused = t6.u.Refused};
+    }
+    struct timing_Class class = timing_cursor_Cursor_step(timing_cursor_Cursor_after(p, two), interval).class;
+    return (struct refusal_Counted){.tag = refusal_Counted_Count, .u.Count = timing_Class_number(class)};
+}
+
+/*
+ * timing::cursor::Cursor::units, crates/timing/src/cursor.rt
+ * The units of its cell, where it is one: one more for each bound between the windows that it reaches.
+ */
+static uint8_t timing_cursor_Cursor_units(struct timing_cursor_Cursor self, uint16_t interval) {
+    return 2 + (uint8_t)(self.bounds.b23.f0 <= interval) + (uint8_t)(self.bounds.b34.f0 <= interval);
+}
+
+/* The crate intervals */
+
+/*
+ * intervals::edges::all_cells, crates/intervals/src/edges.rt
+ * Whether all are, with no jump for any, so that it is told in vector instructions.
+ */
+static bool intervals_edges_all_cells(struct timing_cursor_Cursor start, struct slice_u16 intervals) {
+    struct timing_cursor_Cursor cursor = start;
+    bool all = true;
+    uint64_t k = 0;
+    while (k < intervals.len) {
+        uint16_t interval = intervals.at[k];
+        all = all & timing_cursor_Cursor_meets_cell(cursor, interval);
+        cursor = timing_cursor_Cursor_past(cursor, interval);
+        k++;
+    }
+    return all;
+}
+
+/*
+ * intervals::fours::all_fit, crates/intervals/src/fours.rt
+ * Whether no gap is out of place, with no jump for any word, so that it is told in vector instructions.
+ */
+static bool intervals_fours_all_fit(struct slice_u32 words) {
+    bool all = true;
+    uint64_t k = 0;
+    while (k < words.len) {
+        all = all & half_cells_fits(words.at[k]);
+        k++;
+    }
+    return all;
+}
+
+/* intervals::edges::find_outside, crates/intervals/src/edges.rt: The first that is none. */
+static struct refusal_Verdict intervals_edges_find_outside(struct timing_cursor_Cursor start,
+        struct slice_u16 intervals) {
+    struct timing_cursor_Cursor cursor = start;
+    uint64_t k = 0;
+    while (k < intervals.len) {
+        struct timing_cursor_Classed classed = timing_cursor_Cursor_step(cursor, intervals.at[k]);
+        struct timing_Class class = classed.class;
+        if (timing_Class_number(class) == 1) {
+            return (struct refusal_Verdict){.tag = refusal_Verdict_Refused,
+                    .u.Refused = {.tag = refusal_Refusal_IntervalTooShort, .u.IntervalTooShort = (uint32_t)k}};
+        }
+        if (timing_Class_number(class) == 5) {
+            return (struct refusal_Verdict){.tag = refusal_Verdict_Refused,
+                    .u.Refused = {.tag = refusal_Refusal_IntervalTooLong, .u.IntervalTooLong = (uint32_t)k}};
+        }
+        cursor = classed.next;
+        k++;
+    }
+    return (struct refusal_Verdict){.tag = refusal_Verdict_Accepted};
+}
+
+/* intervals::edges::check_edges, crates/intervals/src/edges.rt: It is looked for only where there is one. */
+static struct refusal_Verdict intervals_edges_check_edges(struct timing_Profile p, struct slice_u16 intervals) {
+    if (intervals_edges_all_cells(timing_cursor_Cursor_start(p), intervals)) {
+        return (struct refusal_Verdict){.tag = refusal_Verdict_Accepted};
+    }
+    return intervals_edges_find_outside(timing_cursor_Cursor_start(p), intervals);
+}
+
+/*
+ * intervals::fours::four_cells, crates/intervals/src/fours.rt
+ * The half cells of the four cells from a place on, in a register of their own: so the reading's own register waits
+ * for one shift, not for four.
+ */
+static struct symbols_Reading intervals_fours_four_cells(struct slice_u8 units, uint64_t k) {
+    struct symbols_Reading t5 = symbols_Reading_empty();
+    struct symbols_Reading t4 = symbols_Reading_shift(t5, units.at[k]);
+    struct symbols_Reading two = symbols_Reading_shift(t4, units.at[k + 1]);
+    t4 = symbols_Reading_shift(two, units.at[k + 2]);
+    return symbols_Reading_shift(t4, units.at[k + 3]);
+}
+
+/*
+ * intervals::block::Progress::goes_on, crates/intervals/src/block.rt
+ * Whether bytes are wanted, and intervals are left to read them from.
+ */
+static bool intervals_block_Progress_goes_on(struct intervals_block_Progress self, uint32_t most, uint64_t length) {
+    return (self.pass.used < length) & (self.pass.reading.words < most);
+}
+
+/* intervals::units::greater, crates/intervals/src/units.rt */
+static uint16_t intervals_units_greater(uint16_t a, uint16_t b) {
+    if (a < b) return b;
+    return a;
+}
+
+/*
+ * intervals::units::is_clear, crates/intervals/src/units.rt
+ * Whether an interval does not lie between two bounds, told as above.
+ */
+static bool intervals_units_is_clear(uint16_t low, uint16_t high, uint16_t interval) {
+    return high - low <= std_num_wrapping_sub_u16(interval, low);
+}
+
+/* intervals::units::last_of, crates/intervals/src/units.rt */
+static uint16_t intervals_units_last_of(struct slice_u16 intervals) {
+    return intervals.at[intervals.len - 1];
+}
+
+/*
+ * intervals::last_place, crates/intervals/src/lib.rt
+ * The place of the last of so many intervals; 0 where there is none.
+ */
+static uint32_t intervals_last_place(uint64_t used) {
+    if (used == 0) return 0;
+    return (uint32_t)(used - 1);
+}
+
+/* intervals::units::lesser, crates/intervals/src/units.rt */
+static uint16_t intervals_units_lesser(uint16_t a, uint16_t b) {
+    if (a < b) return a;
+    return b;
+}
+
+/*
+ * intervals::units::all_sure, crates/intervals/src/units.rt
+ * Whether each interval is of class 2 after either kind, or after none: it does not lie between the two B23. The
+ * clearance asks it, since the one before an interval then tells its bounds.
+ */
+static bool intervals_units_all_sure(struct timing_Bounds short_, struct timing_Bounds long_,
+        struct slice_u16 intervals) {
+    uint16_t low = intervals_units_lesser(short_.b23.f0, long_.b23.f0);
+    uint16_t high = intervals_units_greater(short_.b23.f0, long_.b23.f0);
+    bool all = true;
+    uint64_t k = 0;
+    while (k < intervals.len) {
+        all = all & intervals_units_is_clear(low, high, intervals.at[k]);
+        k++;
+    }
+    return all;
+}
+
+/* intervals::units::lower, crates/intervals/src/units.rt: The lesser of both kinds of each bound. */
+static struct timing_Bounds intervals_units_lower(struct timing_Bounds short_, struct timing_Bounds long_) {
+    struct timing_HalfClocks t4 = {.f0 = intervals_units_lesser(short_.b23.f0, long_.b23.f0)};
+    return (struct timing_Bounds){.b23 = t4, .b34 = {.f0 = intervals_units_lesser(short_.b34.f0, long_.b34.f0)}};
+}
+
+/*
+ * intervals::units::same_side, crates/intervals/src/units.rt
+ * Whether two kinds of bounds, the lower and the upper of each, stand on the same side of an interval. One compare for
+ * each: between them an interval is less past the lower than the upper is; below both the difference wraps, and is no
+ * less.
+ */
+static bool intervals_units_same_side(struct timing_Bounds low, struct timing_Bounds high, uint16_t interval) {
+    bool t6 = high.b23.f0 - low.b23.f0 <= std_num_wrapping_sub_u16(interval, low.b23.f0);
+    return t6 & (high.b34.f0 - low.b34.f0 <= std_num_wrapping_sub_u16(interval, low.b34.f0));
+}
+
+/*
+ * intervals::fours::shift_fours, crates/intervals/src/fours.rt
+ * As many fours as there is room for words. Each four's half cells are stored, and the next four's in the same place
+ * where they made no byte whole.
+ */
+static struct intervals_fours_Fours intervals_fours_shift_fours(struct symbols_Reading start, struct slice_u8 units,
+        struct slice_u32_mut words) {
+    struct symbols_Reading m = start;
+    uint64_t count = 0;
+    uint64_t i = 0;
+    while (i < words.len) {
+        struct symbols_Reading next = symbols_Reading_join(m, intervals_fours_four_cells(units, 4 * i));
+        words.at[count] = symbols_Reading_half_cells(next);
+        count += (uint64_t)symbols_Reading_is_whole(next);
+        m = symbols_Reading_ease(next);
+        i++;
+    }
+    return (struct intervals_fours_Fours){.reading = m, .count = count};
+}
+
+/*
+ * intervals::shift::shift_in, crates/intervals/src/shift.rt
+ * Cells of so many units, the first at place `from`, until so many bytes are whole or no cell is left. Bytes are
+ * counted only where one is closed, which keeps the loop short. Code words are stored from place `to` on, where there
+ * is room.
+ */
+static struct intervals_Pass intervals_shift_shift_in(struct symbols_Reading start, struct slice_u8 units,
+        uint64_t from, uint32_t most, uint64_t to, struct slice_u16_mut out) {
+    struct symbols_Reading m = start;
+    uint64_t store_at = to;
+    uint64_t k = 0;
+    while (k < units.len) {
+        struct symbols_Reading next = symbols_Reading_shift(m, units.at[k]);
+        uint64_t place = from + k;
+        k++;
+        if (symbols_Reading_is_whole(next)) {
+            lists_put(out, store_at, symbols_Reading_word(next));
+            store_at++;
+            m = symbols_Reading_close(next, (uint32_t)(place % 4294967296ull));
+            if (most <= m.words) return (struct intervals_Pass){.reading = m, .used = place + 1};
+        } else {
+            m = next;
+        }
+    }
+    return (struct intervals_Pass){.reading = m, .used = from + k};
+}
+
+/* intervals::block::Progress::start, crates/intervals/src/block.rt: Before the first interval. */
+static struct intervals_block_Progress intervals_block_Progress_start(struct timing_Profile p) {
+    struct intervals_Pass t3 = {.reading = symbols_Reading_new(), .used = 0};
+    return (struct intervals_block_Progress){.pass = t3, .cursor = timing_cursor_Cursor_start(p)};
+}
+
+/*
+ * intervals::fours::store, crates/intervals/src/fours.rt
+ * The words without the data bit before each, from a place on, where there is room. A strip is first read without.
+ */
+static void intervals_fours_store(struct slice_u32 words, uint64_t at, struct slice_u16_mut out) {
+    if (out.len <= at) return;
+    uint64_t k = 0;
+    while (k < words.len) {
+        lists_put(out, at + k, (uint16_t)(words.at[k] % 65536));
+        k++;
+    }
+}
+
+/*
+ * intervals::shift::shift_block, crates/intervals/src/shift.rt
+ * Cells that leave bytes to read: by fours, for whose words there is room, and cell by cell what is over and, for its
+ * place, where a gap is out of place.
+ */
+static struct intervals_Pass intervals_shift_shift_block(struct symbols_Reading m, struct slice_u8 units,
+        struct slice_u32_mut words, uint64_t from, uint32_t most, uint64_t to, struct slice_u16_mut out) {
+    uint64_t cells = 4 * words.len;
+    struct intervals_fours_Fours fours = intervals_fours_shift_fours(m, slice_u8(units.at, cells), words);
+    uint64_t count = fours.count;
+    if (intervals_fours_all_fit(slice_u32(words.at, count))) {
+        intervals_fours_store(slice_u32(words.at, count), to, out);
+        struct symbols_Reading reading = fours.reading;
+        struct slice_u8 t28 = slice_u8(units.at + cells, units.len - cells);
+        return intervals_shift_shift_in(reading, t28, from + cells, most, to + count, out);
+    }
+    return intervals_shift_shift_in(m, units, from, most, to, out);
+}
+
+/* intervals::shift::shift_units, crates/intervals/src/shift.rt: The end of a field cell by cell. */
+static struct intervals_Pass intervals_shift_shift_units(struct symbols_Reading m, struct slice_u8 units, uint64_t from,
+        uint32_t most, uint64_t to, struct slice_u16_mut out) {
+    uint64_t n = units.len / 4;
+    if (n < (uint64_t)(most - m.words)) {
+        struct array_u32_16 words = {0};
+        return intervals_shift_shift_block(m, units, slice_u32_mut(words.a, n), from, most, to, out);
+    }
+    return intervals_shift_shift_in(m, units, from, most, to, out);
+}
+
+/* intervals::units::units_by, crates/intervals/src/units.rt: By given bounds. */
+static uint8_t intervals_units_units_by(struct timing_Bounds bounds, uint16_t interval) {
+    return 2 + (uint8_t)(bounds.b23.f0 <= interval) + (uint8_t)(bounds.b34.f0 <= interval);
+}
+
+/* intervals::units::fill_units, crates/intervals/src/units.rt: At once, all by the same bounds. */
+static void intervals_units_fill_units(struct timing_Bounds bounds, struct slice_u16 intervals,
+        struct slice_u8_mut units) {
+    uint64_t k = 0;
+    while (k < intervals.len) {
+        units.at[k] = intervals_units_units_by(bounds, intervals.at[k]);
+        k++;
+    }
+}
+
+/* intervals::units::units_in_turn, crates/intervals/src/units.rt: One after the other. */
+static struct timing_cursor_Cursor intervals_units_units_in_turn(struct timing_cursor_Cursor start,
+        struct slice_u16 intervals, struct slice_u8_mut units) {
+    struct timing_cursor_Cursor cursor = start;
+    uint64_t k = 0;
+    while (k < intervals.len) {
+        uint16_t interval = intervals.at[k];
+        units.at[k] = timing_cursor_Cursor_units(cursor, interval);
+        cursor = timing_cursor_Cursor_past(cursor, interval);
+        k++;
+    }
+    return cursor;
+}
+
+/* intervals::units::upper, crates/intervals/src/units.rt: The greater. */
+static struct timing_Bounds intervals_units_upper(struct timing_Bounds short_, struct timing_Bounds long_) {
+    struct timing_HalfClocks t4 = {.f0 = intervals_units_greater(short_.b23.f0, long_.b23.f0)};
+    return (struct timing_Bounds){.b23 = t4, .b34 = {.f0 = intervals_units_greater(short_.b34.f0, long_.b34.f0)}};
+}
+
+/*
+ * intervals::units::all_same, crates/intervals/src/units.rt
+ * Of each interval. Where both kinds are the same bounds, nothing has to be looked at.
+ */
+static bool intervals_units_all_same(struct timing_Bounds short_, struct timing_Bounds long_,
+        struct slice_u16 intervals) {
+    if ((short_.b23.f0 == long_.b23.f0) & (short_.b34.f0 == long_.b34.f0)) return true;
+    struct timing_Bounds low = intervals_units_lower(short_, long_);
+    struct timing_Bounds high = intervals_units_upper(short_, long_);
+    bool all = true;
+    uint64_t k = 0;
+    while (k < intervals.len) {
+        all = all & intervals_units_same_side(low, high, intervals.at[k]);
+        k++;
+    }
+    return all;
+}
+
+/*
+ * intervals::units::units_of, crates/intervals/src/units.rt
+ * The units of intervals, each as a cell. The first is classed where the classing stands, the others after either
+ * kind.
+ */
+static struct timing_cursor_Cursor intervals_units_units_of(struct timing_cursor_Cursor start,
+        struct slice_u16 intervals, struct slice_u8_mut units) {
+    if (intervals.len < 2) return intervals_units_units_in_turn(start, intervals, units);
+    if (intervals_units_all_same(start.short_, start.long_, intervals)) {
+        intervals_units_fill_units(start.short_, intervals, units);
+        units.at[0] = timing_cursor_Cursor_units(start, intervals.at[0]);
+        struct timing_cursor_Cursor t16 = timing_cursor_Cursor_behind(start, true);
+        return timing_cursor_Cursor_past(t16, intervals_units_last_of(intervals));
+    }
+    return intervals_units_units_in_turn(start, intervals, units);
+}
+
+/*
+ * intervals::block::pass_block, crates/intervals/src/block.rt
+ * The intervals of a block, whose units have as many places.
+ */
+static struct intervals_block_Progress intervals_block_pass_block(struct intervals_block_Progress at,
+        struct slice_u16 intervals, struct slice_u8_mut units, uint32_t most, uint64_t to, struct slice_u16_mut out) {
+    struct timing_cursor_Cursor cursor = intervals_units_units_of(at.cursor, intervals, units);
+    return (struct intervals_block_Progress){.pass = intervals_shift_shift_units(at.pass.reading,
+            slice_u8(units.at, units.len), at.pass.used, most, to, out), .cursor = cursor};
+}
+
+/*
+ * intervals::block::Progress::next_block, crates/intervals/src/block.rt
+ * One block more, whose code words are stored from place `to` on.
+ */
+static struct intervals_block_Progress intervals_block_Progress_next_block(struct intervals_block_Progress self,
+        struct slice_u16 intervals, uint32_t most, uint64_t to, struct slice_u16_mut out) {
+    uint64_t from = self.pass.used;
+    uint64_t n = lists_at_most(64, intervals.len - from);
+    struct array_u8_64 units = {0};
+    struct slice_u16 t14 = slice_u16(intervals.at + from, from + n - from);
+    return intervals_block_pass_block(self, t14, slice_u8_mut(units.a, n), most, to, out);
+}
+
+/*
+ * intervals::block::Progress::pass_on, crates/intervals/src/block.rt
+ * Until so many bytes are whole, so many intervals more are used, or none is left. The code words are stored from the
+ * front on, where there is room.
+ */
+static struct intervals_block_Progress intervals_block_Progress_pass_on(struct intervals_block_Progress self,
+        struct slice_u16 intervals, uint64_t count, uint32_t most, struct slice_u16_mut out) {
+    uint32_t first = self.pass.reading.words;
+    uint64_t end = self.pass.used + lists_at_most(count, intervals.len - self.pass.used);
+    struct intervals_block_Progress at = self;
+    while (intervals_block_Progress_goes_on(at, most, end)) {
+        uint32_t done = at.pass.reading.words - first;
+        at = intervals_block_Progress_next_block(at, slice_u16(intervals.at, end), most, (uint64_t)done, out);
+    }
+    return at;
+}
+
+/*
+ * intervals::pass_over, crates/intervals/src/lib.rt
+ * One pass, until so many bytes are whole or no interval is left, each interval taken as a cell. The code words that
+ * have room are stored from the front on.
+ */
+static struct intervals_Pass intervals_pass_over(struct timing_Profile p, struct slice_u16 intervals, uint32_t most,
+        struct slice_u16_mut out) {
+    struct intervals_block_Progress at =
+            intervals_block_Progress_pass_on(intervals_block_Progress_start(p), intervals, intervals.len, most, out);
+    return at.pass;
+}
+
+/* The crate fields */
+
+/*
+ * fields::runs::all_follow, crates/fields/src/runs.rt
+ * Whether each interval of a stretch is of class 2 if the one before it is: with no jump for any, so that it is told
+ * in vector instructions.
+ */
+static bool fields_runs_all_follow(struct timing_cursor_Cursor short_, struct slice_u16 intervals, uint64_t from) {
+    uint64_t end = from + 32;
+    bool all = true;
+    uint64_t k = from;
+    while (k < end) {
+        all = all & timing_cursor_Cursor_meets_two(short_, intervals.at[k]);
+        k++;
+    }
+    return all;
+}
+
+/*
+ * fields::finder::begins_with, crates/fields/src/finder.rt
+ * Whether the intervals from a place on have the classes of a pattern at their front.
+ */
+static bool fields_finder_begins_with(struct timing_cursor_Cursor start, struct slice_u16 intervals, uint64_t at,
+        struct slice_u64 pattern) {
+    if (intervals.len - at < pattern.len) return false;
+    struct timing_cursor_Cursor cursor = start;
+    uint64_t i = 0;
+    while (i < pattern.len) {
+        struct timing_cursor_Classed classed = timing_cursor_Cursor_step(cursor, intervals.at[at + i]);
+        struct timing_Class class = classed.class;
+        uint64_t t13 = timing_Class_number(class);
+        if (t13 == pattern.at[i]) {
+            cursor = classed.next;
+            i++;
+        } else {
+            return false;
+        }
+    }
+    return true;
+}
+
+/*
+ * fields::gather::conclude, crates/fields/src/gather.rt
+ * How the pass over a field ends, with so many intervals used: 11, 8, or how many they are.
+ */
+static struct refusal_Counted fields_gather_conclude(struct symbols_Reading m, uint64_t used, uint32_t n) {
+    if (m.words < n) {
+        return (struct refusal_Counted){.tag = refusal_Counted_Refused,
+                .u.Refused = {.tag = refusal_Refusal_EndsEarly}};
+    }
+    if (symbols_Reading_is_stray(m)) {
+        return (struct refusal_Counted){.tag = refusal_Counted_Refused,
+                .u.Refused = {.tag = refusal_Refusal_MisplacedMark,
+                .u.MisplacedMark = symbols_Reading_stray_place(m, intervals_last_place(used))}};
+    }
+    return (struct refusal_Counted){.tag = refusal_Counted_Count, .u.Count = used};
+}
+
+/*
+ * fields::reader::deliver, crates/fields/src/reader.rt
+ * What was gathered, handed over where the output has room for it.
+ */
+static struct fields_reader_FieldRead fields_reader_deliver(struct slice_u16 items, uint64_t used, bool holds,
+        struct slice_u16_mut out) {
+    if (out.len < items.len) {
+        return (struct fields_reader_FieldRead){.tag = fields_reader_FieldRead_Refused,
+                .u.Refused = {.tag = refusal_Refusal_OutputTooShort}};
+    }
+    lists_store(items, 0, out);
+    return (struct fields_reader_FieldRead){.tag = fields_reader_FieldRead_Field,
+            .u.Field = {.count = items.len, .used = used, .holds = holds}};
+}
+
+/*
+ * fields::runs::last_sure, crates/fields/src/runs.rt
+ * The last place up to `from` whose interval is of class 2, or is not, after either kind; 0 if there is none.
+ */
+static uint64_t fields_runs_last_sure(struct timing_cursor_Cursor short_, struct timing_cursor_Cursor long_,
+        struct slice_u16 intervals, uint64_t from) {
+    uint64_t i = from;
+    while (0 < i) {
+        uint16_t interval = intervals.at[i];
+        bool t7 = timing_cursor_Cursor_meets_two(short_, interval);
+        if (t7 == timing_cursor_Cursor_meets_two(long_, interval)) return i;
+        i--;
+    }
+    return i;
+}
+
+/* fields::finder::later, crates/fields/src/finder.rt: The later of two places. */
+static uint64_t fields_finder_later(uint64_t a, uint64_t b) {
+    if (a < b) return b;
+    return a;
+}
+
+/* fields::finder::mark_ahead, crates/fields/src/finder.rt: Whether a lock's mark stands at a place. */
+static bool fields_finder_mark_ahead(struct timing_cursor_Cursor cursor, struct slice_u16 intervals, uint64_t at) {
+    struct array_u64_5 a1 = {{3, 4, 3, 4, 3}};
+    if (fields_finder_begins_with(cursor, intervals, at, slice_u64(a1.a, 5))) return true;
+    struct array_u64_10 c2 = {{3, 2, 3, 4, 3, 4, 2, 3, 4, 3}};
+    return fields_finder_begins_with(cursor, intervals, at, slice_u64(c2.a, 10));
+}
+
+/*
+ * fields::runs::next_two, crates/fields/src/runs.rt
+ * The first place from `from` on whose interval is of class 2; the length of the list where there is none. The
+ * classing goes from the last sure place on, and so from the start of the list only where no place before is sure.
+ */
+static uint64_t fields_runs_next_two(struct timing_Profile p, struct slice_u16 intervals, uint64_t from) {
+    struct timing_cursor_Cursor short_ = timing_cursor_Cursor_after(p, true);
+    struct timing_cursor_Cursor long_ = timing_cursor_Cursor_after(p, false);
+    struct timing_cursor_Cursor cursor = short_;
+    uint64_t i = fields_runs_last_sure(short_, long_, intervals, from);
+    while (i < from) {
+        cursor = timing_cursor_Cursor_past(cursor, intervals.at[i]);
+        i++;
+    }
+    if (timing_cursor_Cursor_meets_two(cursor, intervals.at[from])) return from;
+    i = from + 1;
+    while (i < intervals.len) {
+        if (timing_cursor_Cursor_meets_two(long_, intervals.at[i])) return i;
+        i++;
+    }
+    return i;
+}
+
+/* fields::runs::pass_stretches, crates/fields/src/runs.rt: Passes over whole stretches of a run. */
+static uint64_t fields_runs_pass_stretches(struct timing_cursor_Cursor short_, struct slice_u16 intervals,
+        uint64_t from) {
+    uint64_t k = from;
+    while (32 <= intervals.len - k) {
+        if (fields_runs_all_follow(short_, intervals, k)) {
+            k += 32;
+        } else {
+            return k;
+        }
+    }
+    return k;
+}
+
+/* fields::runs::pass_run, crates/fields/src/runs.rt: Passes over a run up to its end. */
+static uint64_t fields_runs_pass_run(struct timing_cursor_Cursor short_, struct slice_u16 intervals, uint64_t from) {
+    uint64_t k = fields_runs_pass_stretches(short_, intervals, from);
+    while (k < intervals.len) {
+        if (timing_cursor_Cursor_meets_two(short_, intervals.at[k])) {
+            k++;
+        } else {
+            return k;
+        }
+    }
+    return k;
+}
+
+/*
+ * fields::finder::scan, crates/fields/src/finder.rt
+ * Invariant: no lock stands before k, and those after `first` up to `seen` are of class 2 if the one before them is.
+ * The 64 before k are looked at from the last one back, but for the first of them; `seen` only grows, so that none is
+ * looked at twice. One that is not of class 2 after class 2 can only be the first of a run, and rules out every place
+ * that has it and the one before it among its 64. Where none is ruled out, the 64 are a run if their first is of class
+ * 2. Then the mark is looked for at the run's end, since no mark begins with class 2.
+ */
+static struct refusal_Counted fields_finder_scan(struct timing_Profile p, struct slice_u16 intervals) {
+    struct timing_cursor_Cursor short_ = timing_cursor_Cursor_after(p, true);
+    uint64_t first = 0;
+    uint64_t seen = 1;
+    struct refusal_Counted place;
+    for (;;) {
+        uint64_t k = first + 64;
+        if (intervals.len <= k) {
+            place = (struct refusal_Counted){.tag = refusal_Counted_Refused,
+                    .u.Refused = {.tag = refusal_Refusal_NoLock}};
+            break;
+        }
+        uint64_t i = k;
+        while (seen < i) {
+            i--;
+            if (timing_cursor_Cursor_meets_two(short_, intervals.at[i])) continue;
+            first = i;
+            seen = k;
+            goto next_1;
+        }
+        uint64_t begin = fields_runs_next_two(p, intervals, first);
+        if (first < begin) {
+            first = begin;
+            seen = fields_finder_later(k, begin + 1);
+            continue;
+        }
+        uint64_t end = fields_runs_pass_run(short_, intervals, k);
+        if (fields_finder_mark_ahead(short_, intervals, end)) {
+            place = (struct refusal_Counted){.tag = refusal_Counted_Count, .u.Count = end};
+            break;
+        }
+        first = end + 1;
+        seen = end + 2;
+        next_1:;
+    }
+    return place;
+}
+
+/*
+ * fields::finder::search, crates/fields/src/finder.rt
+ * Under an accepted profile. The intervals from `start` on are searched, and the place is counted from there.
+ */
+static struct refusal_Counted fields_finder_search(struct timing_Profile p, struct slice_u16 intervals,
+        uint64_t start) {
+    if (intervals.len <= start) {
+        return (struct refusal_Counted){.tag = refusal_Counted_Refused, .u.Refused = {.tag = refusal_Refusal_NoLock}};
+    }
+    struct refusal_Counted t9 = fields_finder_scan(p, slice_u16(intervals.at + start, intervals.len - start));
+    if (t9.tag == refusal_Counted_Refused) {
+        return (struct refusal_Counted){.tag = refusal_Counted_Refused, .u.Refused = t9.u.Refused};
+    }
+    return (struct refusal_Counted){.tag = refusal_Counted_Count, .u.Count = start + t9.u.Count};
+}
+
+/*
+ * fields::finder::find_lock, crates/fields/src/finder.rt
+ * 1, 2, 10; else the smallest place at which a lock stands with all 64 at or after `start`.
+ */
+static struct refusal_Counted fields_finder_find_lock(struct timing_Profile p, struct slice_u16 intervals,
+        uint64_t start) {
+    struct refusal_Verdict t5 = timing_rule_check(p);
+    if (t5.tag == refusal_Verdict_Refused) {
+        return (struct refusal_Counted){.tag = refusal_Counted_Refused, .u.Refused = t5.u.Refused};
+    }
+    return fields_finder_search(p, intervals, start);
+}
+
+/*
+ * fields::gather::sum_up, crates/fields/src/gather.rt
+ * The code words of a part, turned into items: through the register, and to their places.
+ */
+static struct items_Check fields_gather_sum_up(struct items_Check check, struct slice_u16_mut words, uint64_t at,
+        struct slice_u16_mut out) {
+    half_cells_words_to_bytes(words);
+    lists_store(slice_u16(words.at, words.len), at, out);
+    return items_Check_after_bytes(check, slice_u16(words.at, words.len));
+}
+
+/*
+ * fields::gather::pass_items, crates/fields/src/gather.rt
+ * One pass over the intervals of n bytes, each taken as a cell.
+ */
+static struct fields_gather_Summed fields_gather_pass_items(struct timing_Profile p, struct slice_u16 intervals,
+        uint32_t n, struct slice_u16_mut out) {
+    struct array_u16_65 words = {0};
+    struct intervals_block_Progress at = intervals_block_Progress_start(p);
+    struct items_Check check = items_Check_fresh();
+    while (intervals_block_Progress_goes_on(at, n, intervals.len)) {
+        uint32_t done = at.pass.reading.words;
+        at = intervals_block_Progress_pass_on(at, intervals, 256, n, slice_u16_mut(words.a, 65));
+        uint64_t count = (uint64_t)(at.pass.reading.words - done);
+        check = fields_gather_sum_up(check, slice_u16_mut(words.a, count), (uint64_t)done, out);
+    }
+    struct intervals_Pass pass = at.pass;
+    return (struct fields_gather_Summed){.pass = pass, .check = check};
+}
+
+/*
+ * fields::gather::gather, crates/fields/src/gather.rt
+ * A field of n bytes. An interval among the used ones that is no cell comes before all else.
+ */
+static struct fields_gather_Gathered fields_gather_gather(struct timing_Profile p, struct slice_u16 intervals,
+        uint32_t n, struct slice_u16_mut out) {
+    struct fields_gather_Summed read = fields_gather_pass_items(p, intervals, n, out);
+    struct intervals_Pass pass = read.pass;
+    uint64_t used = pass.used;
+    bool holds = read.check.register_ == 0;
+    struct refusal_Verdict t12 = intervals_edges_check_edges(p, slice_u16(intervals.at, used));
+    if (t12.tag == refusal_Verdict_Refused) {
+        return (struct fields_gather_Gathered){.end = {.tag = refusal_Counted_Refused, .u.Refused = t12.u.Refused},
+                .holds = holds};
+    }
+    return (struct fields_gather_Gathered){.end = fields_gather_conclude(pass.reading, used, n), .holds = holds};
+}
+
+/*
+ * fields::reader::read_in_place, crates/fields/src/reader.rt
+ * Reads alike, and stores as many items as there is room for, without a buffer between: after a refusal other numbers
+ * may stand there. Who reads field after field has checked the profile once.
+ */
+static struct fields_reader_FieldRead fields_reader_read_in_place(struct timing_Profile p, struct slice_u16 intervals,
+        uint64_t n, struct slice_u16_mut items) {
+    struct fields_gather_Gathered gathered = fields_gather_gather(p, intervals, (uint32_t)n, items);
+    struct refusal_Counted end = gathered.end;
+    if (end.tag == refusal_Counted_Refused) {
+        return (struct fields_reader_FieldRead){.tag = fields_reader_FieldRead_Refused, .u.Refused = end.u.Refused};
+    }
+    return (struct fields_reader_FieldRead){.tag = fields_reader_FieldRead_Field,
+            .u.Field = {.count = n, .used = end.u.Count, .holds = gathered.holds}};
+}
+
+/*
+ * fields::reader::read_into, crates/fields/src/reader.rt
+ * The items wait in a buffer, as a refusal changes nothing that was lent.
+ */
+static struct fields_reader_FieldRead fields_reader_read_into(struct timing_Profile p, struct slice_u16 intervals,
+        uint64_t n, struct slice_u16_mut buffer, struct slice_u16_mut out) {
+    struct fields_gather_Gathered gathered = fields_gather_gather(p, intervals, (uint32_t)n, buffer);
+    struct refusal_Counted end = gathered.end;
+    if (end.tag == refusal_Counted_Refused) {
+        return (struct fields_reader_FieldRead){.tag = fields_reader_FieldRead_Refused, .u.Refused = end.u.Refused};
+    }
+    return fields_reader_deliver(slice_u16(buffer.at, n), end.u.Count, gathered.holds, out);
+}
+
+/*
+ * fields::reader::read_checked, crates/fields/src/reader.rt
+ * A short field has a short buffer: to clear the long one costs more than to read ten bytes.
+ */
+static struct fields_reader_FieldRead fields_reader_read_checked(struct timing_Profile p, struct slice_u16 intervals,
+        uint64_t n, struct slice_u16_mut out) {
+    if (n <= 16) {
+        struct array_u16_16 buffer = {0};
+        return fields_reader_read_into(p, intervals, n, slice_u16_mut(buffer.a, 16), out);
+    }
+    struct array_u16_1030 buffer_2 = {0};
+    return fields_reader_read_into(p, intervals, n, slice_u16_mut(buffer_2.a, 1030), out);
+}
+
+/*
+ * fields::reader::read_field, crates/fields/src/reader.rt
+ * 1, 2, 12, then 5, 6 or 11 as first met, 8, 9. On acceptance the items fill the front of the output.
+ */
+static struct fields_reader_FieldRead fields_reader_read_field(struct timing_Profile p, struct slice_u16 intervals,
+        uint64_t n, struct slice_u16_mut out) {
+    struct refusal_Verdict t6 = timing_rule_check(p);
+    if (t6.tag == refusal_Verdict_Refused) {
+        return (struct fields_reader_FieldRead){.tag = fields_reader_FieldRead_Refused, .u.Refused = t6.u.Refused};
+    }
+    if ((n < 1) | (1030 < n)) {
+        return (struct fields_reader_FieldRead){.tag = fields_reader_FieldRead_Refused,
+                .u.Refused = {.tag = refusal_Refusal_CountOutOfRange}};
+    }
+    return fields_reader_read_checked(p, intervals, n, out);
+}
+
+/*
+ * fields::finder::three_marks_ahead, crates/fields/src/finder.rt
+ * Whether the intervals begin as those of three A1 marks at a lock do. A field that does not is none of a sector, and
+ * need not be read.
+ */
+static bool fields_finder_three_marks_ahead(struct timing_Profile p, struct slice_u16 intervals) {
+    struct array_u64_15 marks = {{3, 4, 3, 4, 3, 2, 4, 3, 4, 3, 2, 4, 3, 4, 3}};
+    return fields_finder_begins_with(timing_cursor_Cursor_start(p), intervals, 0, slice_u64(marks.a, 15));
+}
+
+/* The crate lengths */
+
+/* lengths::table::either, crates/lengths/src/table.rt */
+static struct timing_Clocks lengths_table_either(bool test, struct timing_Clocks yes, struct timing_Clocks no) {
+    if (test) return yes;
+    return no;
+}
+
+/* lengths::least, crates/lengths/src/lib.rt */
+static uint16_t lengths_least(uint16_t a, uint16_t b) {
+    if (a < b) return a;
+    return b;
+}
+
+/* lengths::table::point, crates/lengths/src/table.rt: The compare point of a transition between two symbols. */
+static struct timing_Clocks lengths_table_point(struct timing_Profile p, bool before, bool after) {
+    if (before) return lengths_table_either(after, p.normal, p.early);
+    return lengths_table_either(after, p.late, p.normal);
+}
+
+/* lengths::room, crates/lengths/src/lib.rt: How far it is up to an edge; 0 where the edge lies below. */
+static uint16_t lengths_room(uint16_t from, uint16_t to) {
+    if (to < from) return 0;
+    return to - from;
+}
+
+/*
+ * lengths::room_below, crates/lengths/src/lib.rt
+ * How far lengths of at most the one given are below an edge, which they must not reach.
+ */
+static uint16_t lengths_room_below(uint16_t longest, uint16_t edge) {
+    return lengths_room(longest, lengths_room(1, edge));
+}
+
+/*
+ * lengths::rooms, crates/lengths/src/lib.rt
+ * How far the lengths on each side of an edge are from crossing it: Min; B23 after-short, below and above, after-long
+ * alike; B34; Rpt.
+ */
+static struct array_u16_10 lengths_rooms(struct timing_Profile p) {
+    uint16_t d = timing_rule_swing(p).f0;
+    uint16_t e = timing_rule_advance(p).f0;
+    uint16_t l = timing_rule_delay(p).f0;
+    uint16_t three = p.t1.f0 + p.t0.f0;
+    uint16_t four = p.t1.f0 + 2 * p.t0.f0;
+    uint16_t t8 = lengths_room(p.min.f0, lengths_room(d, p.t1.f0));
+    uint16_t t10 = lengths_room_below(p.t1.f0, p.short_.b23.f0);
+    uint16_t t11 = lengths_room(p.short_.b23.f0, three + e);
+    uint16_t t13 = lengths_room_below(lengths_room(l, p.t1.f0), p.long_.b23.f0);
+    uint16_t t15 = lengths_room(p.long_.b23.f0, three);
+    uint16_t t16 = lengths_room_below(three + d, p.short_.b34.f0);
+    uint16_t t18 = lengths_room(p.short_.b34.f0, four + e);
+    uint16_t t20 = lengths_room_below(three + l, p.long_.b34.f0);
+    uint16_t t22 = lengths_room(p.long_.b34.f0, four);
+    return (struct array_u16_10){{t8, t10, t11, t13, t15, t16, t18, t20, t22, lengths_room_below(four + d, p.rpt.f0)}};
+}
+
+/* lengths::least_room, crates/lengths/src/lib.rt: The least room of a true profile. */
+static uint16_t lengths_least_room(struct timing_Profile p) {
+    struct array_u16_10 r = lengths_rooms(p);
+    uint16_t t7 = r.a[5];
+    uint16_t t11 = r.a[6];
+    uint16_t t15 = r.a[7];
+    uint16_t in_b34 = lengths_least(t7, lengths_least(t11, lengths_least(t15, lengths_least(r.a[8], r.a[9]))));
+    t7 = r.a[0];
+    uint16_t t19 = r.a[1];
+    t15 = r.a[2];
+    t11 = r.a[3];
+    uint16_t t22 = lengths_least(t19, lengths_least(t15, lengths_least(t11, lengths_least(r.a[4], in_b34))));
+    return lengths_least(t7, t22);
+}
+
+/*
+ * lengths::margin, crates/lengths/src/lib.rt
+ * The margin operation: 1, 2, then the largest number of half clocks by which every interval may be off and keep its
+ * class.
+ */
+static struct refusal_Counted lengths_margin(struct timing_Profile p) {
+    struct refusal_Verdict t3 = timing_rule_check(p);
+    if (t3.tag == refusal_Verdict_Refused) {
+        return (struct refusal_Counted){.tag = refusal_Counted_Refused, .u.Refused = t3.u.Refused};
+    }
+    return (struct refusal_Counted){.tag = refusal_Counted_Count, .u.Count = (uint64_t)lengths_least_room(p)};
+}
+
+/*
+ * lengths::table::shifted, crates/lengths/src/table.rt
+ * A nominal length with the shift at its two ends, which can be below zero.
+ */
+static struct timing_HalfClocks lengths_table_shifted(struct timing_HalfClocks nominal, struct timing_HalfClocks start,
+        struct timing_HalfClocks end) {
+    uint32_t shift = (uint32_t)((uint32_t)end.f0 - (uint32_t)start.f0);
+    return (struct timing_HalfClocks){.f0 = (uint16_t)(uint32_t)((uint32_t)nominal.f0 + shift)};
+}
+
+/*
+ * lengths::table::length_between, crates/lengths/src/table.rt
+ * The length of a cell between two, each given by its zeros.
+ */
+static struct timing_HalfClocks lengths_table_length_between(struct timing_Profile p, uint16_t before, uint16_t zeros,
+        uint16_t after) {
+    struct timing_HalfClocks nominal = {.f0 = p.t1.f0 + zeros * p.t0.f0};
+    struct timing_Clocks start = lengths_table_point(p, before == 0, zeros == 0);
+    struct timing_Clocks end = lengths_table_point(p, zeros == 0, after == 0);
+    struct timing_HalfClocks t12 = timing_Clocks_in_half_clocks(start);
+    return lengths_table_shifted(nominal, t12, timing_Clocks_in_half_clocks(end));
+}
+
+/*
+ * lengths::table::length_table, crates/lengths/src/table.rt
+ * The lengths of all cells of 2 to 5 units between two of 2 to 5 units: at 16 × the units of the cell before + 4 ×
+ * those of the cell + those of the cell after, modulo 64.
+ */
+static struct array_u16_64 lengths_table_length_table(struct timing_Profile p) {
+    struct array_u16_64 table = {0};
+    uint16_t k = 0;
+    while (k < 64) {
+        uint16_t zeros = (k + 22) % 64;
+        table.a[(uint64_t)k] = lengths_table_length_between(p, zeros / 16, (zeros / 4) % 4, zeros % 4).f0;
+        k++;
+    }
+    return table;
+}
+
+/* The crate report */
+
+/* report::check_list, crates/report/src/lib.rt: Whether a list of intervals has a report: 1, 2, 4. */
+static struct refusal_Verdict report_check_list(struct timing_Profile p, struct slice_u16 intervals) {
+    struct refusal_Verdict t4 = timing_rule_check(p);
+    if (t4.tag == refusal_Verdict_Refused) {
+        return (struct refusal_Verdict){.tag = refusal_Verdict_Refused, .u.Refused = t4.u.Refused};
+    }
+    if (51202 < intervals.len) {
+        return (struct refusal_Verdict){.tag = refusal_Verdict_Refused, .u.Refused = {.tag = refusal_Refusal_TooLong}};
+    }
+    return (struct refusal_Verdict){.tag = refusal_Verdict_Accepted};
+}
+
+/*
+ * report::row::exceed, crates/report/src/row.rt
+ * Whether the sum of two numbers would not fit. (A number itself does, which the caller learns.)
+ */
+static bool report_row_exceed(uint64_t a, uint64_t b) {
+    return 18446744073709551615ull - b < a;
+}
+
+/* report::row::greater, crates/report/src/row.rt */
+static uint64_t report_row_greater(uint64_t a, uint64_t b) {
+    if (a < b) return b;
+    return a;
+}
+
+/* report::row::lesser, crates/report/src/row.rt */
+static uint64_t report_row_lesser(uint64_t a, uint64_t b) {
+    if (b < a) return b;
+    return a;
+}
+
+/* report::row::add, crates/report/src/row.rt: Two rows added. One whose count is zero is passed over. */
+static struct array_u64_4 report_row_add(struct array_u64_4 a, struct array_u64_4 b) {
+    if (a.a[0] == 0) {
+        if (b.a[0] == 0) return (struct array_u64_4){0};
+        return b;
+    }
+    if (b.a[0] == 0) return a;
+    uint64_t t20 = a.a[0] + b.a[0];
+    uint64_t t21 = report_row_lesser(a.a[1], b.a[1]);
+    uint64_t t28 = report_row_greater(a.a[2], b.a[2]);
+    return (struct array_u64_4){{t20, t21, t28, a.a[3] + b.a[3]}};
+}
+
+/* report::add_rows, crates/report/src/lib.rt: The rows of two reports that can be added, added. */
+static struct array_u64_4_5 report_add_rows(struct array_u64_4_5 a, struct array_u64_4_5 b) {
+    struct array_u64_4_5 rows = {0};
+    uint64_t k = 0;
+    while (k < 5) {
+        rows.a[k] = report_row_add(a.a[k], b.a[k]);
+        k++;
+    }
+    return rows;
+}
+
+/* report::row::overflows, crates/report/src/row.rt: Whether a count or a sum of two rows added would not fit. */
+static bool report_row_overflows(struct array_u64_4 a, struct array_u64_4 b) {
+    bool counts = report_row_exceed(a.a[0], b.a[0]);
+    bool sums = report_row_exceed(a.a[3], b.a[3]);
+    if (a.a[0] == 0) return false;
+    if (b.a[0] == 0) return false;
+    return counts | sums;
+}
+
+/* report::check_sum, crates/report/src/lib.rt: Whether two reports can be added: 4. */
+static struct refusal_Verdict report_check_sum(struct array_u64_4_5 a, struct array_u64_4_5 b) {
+    uint64_t k = 0;
+    while (k < 5) {
+        if (report_row_overflows(a.a[k], b.a[k])) {
+            return (struct refusal_Verdict){.tag = refusal_Verdict_Refused,
+                    .u.Refused = {.tag = refusal_Refusal_TooLong}};
+        }
+        k++;
+    }
+    return (struct refusal_Verdict){.tag = refusal_Verdict_Accepted};
+}
+
+/* report::add, crates/report/src/lib.rt: Two reports added; zeros where they cannot be. */
+static struct array_u64_4_5 report_add(struct array_u64_4_5 a, struct array_u64_4_5 b) {
+    if (report_check_sum(a, b).tag == refusal_Verdict_Refused) return (struct array_u64_4_5){0};
+    return report_add_rows(a, b);
+}
+
+/*
+ * report::list::renew, crates/report/src/list.rt
+ * A report with an interval of this class more. Each arm renews a row at a place that the compiler knows, so that the
+ * rows stay in registers.
+ */
+static struct array_u64_4_5 report_list_renew(struct array_u64_4_5 rows, struct timing_Class class, uint16_t interval) {
+    uint64_t d = (uint64_t)interval;
+    struct array_u64_4 one = {{1, d, d, d}};
+    switch (class.tag) {
+    case timing_Class_Narrow: {
+        struct array_u64_4 t8 = report_row_add(rows.a[0], one);
+        return (struct array_u64_4_5){{t8, rows.a[1], rows.a[2], rows.a[3], rows.a[4]}};
+    }
+    case timing_Class_Two: {
+        struct array_u64_4 t26 = rows.a[0];
+        struct array_u64_4 t27 = report_row_add(rows.a[1], one);
+        return (struct array_u64_4_5){{t26, t27, rows.a[2], rows.a[3], rows.a[4]}};
+    }
+    case timing_Class_Three: {
+        struct array_u64_4 t42 = rows.a[0];
+        struct array_u64_4 t45 = rows.a[1];
+        struct array_u64_4 t46 = report_row_add(rows.a[2], one);
+        return (struct array_u64_4_5){{t42, t45, t46, rows.a[3], rows.a[4]}};
+    }
+    case timing_Class_Four: {
+        struct array_u64_4 t58 = rows.a[0];
+        struct array_u64_4 t61 = rows.a[1];
+        struct array_u64_4 t64 = rows.a[2];
+        struct array_u64_4 t65 = report_row_add(rows.a[3], one);
+        return (struct array_u64_4_5){{t58, t61, t64, t65, rows.a[4]}};
+    }
+    default: { /* timing_Class_Wide */
+        struct array_u64_4 t74 = rows.a[0];
+        struct array_u64_4 t77 = rows.a[1];
+        struct array_u64_4 t80 = rows.a[2];
+        struct array_u64_4 t83 = rows.a[3];
+        return (struct array_u64_4_5){{t74, t77, t80, t83, report_row_add(rows.a[4], one)}};
+    }
+    }
+}
+
+/*
+ * report::list::gather, crates/report/src/list.rt
+ * The report of a list that is not overlong, from where the classing stands on.
+ */
+static struct array_u64_4_5 report_list_gather(struct timing_cursor_Cursor start, struct slice_u16 intervals) {
+    struct timing_cursor_Cursor cursor = start;
+    struct array_u64_4_5 rows = {0};
+    uint64_t k = 0;
+    while (k < intervals.len) {
+        uint16_t interval = intervals.at[k];
+        struct timing_cursor_Classed classed = timing_cursor_Cursor_step(cursor, interval);
+        struct timing_Class class = classed.class;
+        struct array_u64_4_5 next = report_list_renew(rows, class, interval);
+        rows = next;
+        cursor = classed.next;
+        k++;
+    }
+    return rows;
+}
+
+/* report::report_list, crates/report/src/lib.rt: The report of a list; zeros where it has none. */
+static struct array_u64_4_5 report_report_list(struct timing_Profile p, struct slice_u16 intervals) {
+    if (report_check_list(p, intervals).tag == refusal_Verdict_Refused) {
+        return (struct array_u64_4_5){0};
+    }
+    return report_list_gather(timing_cursor_Cursor_start(p), intervals);
+}
+
+/* The crate track */
+
+/* track::index::converted, crates/track/src/index.rt */
+static ism_index_entry track_index_converted(struct track_Entry entry) {
+    struct track_DataField field = entry.field;
+    if (field.tag == track_DataField_Found) {
+        return (ism_index_entry){.id_place = entry.place, .data_place = field.u.Found.place, .track = entry.track,
+                .side = entry.side, .sector = entry.sector, .code = entry.code, .found = 1,
+                .holds = (uint8_t)field.u.Found.holds};
+    }
+    return (ism_index_entry){.id_place = entry.place, .data_place = 0, .track = entry.track, .side = entry.side,
+            .sector = entry.sector, .code = entry.code, .found = 0, .holds = 0};
+}
+
+/* track::id::four_bytes, crates/track/src/id.rt: The four bytes fit a byte each, since they are data bytes. */
+static struct track_id_IdRead track_id_four_bytes(struct slice_u16 items, uint64_t used) {
+    return (struct track_id_IdRead){.tag = track_id_IdRead_Id,
+            .u.Id = {.track = (uint8_t)items.at[4], .side = (uint8_t)items.at[5], .sector = (uint8_t)items.at[6],
+            .code = (uint8_t)items.at[7], .used = used}};
+}
+
+/* track::opening::opens_with, crates/track/src/opening.rt */
+static bool track_opening_opens_with(struct slice_u16 items, uint16_t kind) {
+    return (items.at[0] == 417) & (items.at[1] == 417) & (items.at[2] == 417) & (items.at[3] == kind);
+}
+
+/* track::id::is_identity, crates/track/src/id.rt: FE and four data bytes, the last a length code. */
+static bool track_id_is_identity(struct slice_u16 items) {
+    bool t2 = track_opening_opens_with(items, 254);
+    return t2 & (items.at[4] < 256) & (items.at[5] < 256) & (items.at[6] < 256) & (items.at[7] <= 3);
+}
+
+/* track::id::identify, crates/track/src/id.rt */
+static struct track_id_IdRead track_id_identify(struct slice_u16 items, uint64_t used) {
+    if (track_id_is_identity(items)) return track_id_four_bytes(items, used);
+    return (struct track_id_IdRead){.tag = track_id_IdRead_NoId};
+}
+
+/*
+ * track::opening::read_marked, crates/track/src/opening.rt
+ * A field of n bytes, the first of which are handed over; the intervals begin at a lock.
+ */
+static struct track_opening_Opened track_opening_read_marked(struct timing_Profile p, struct slice_u16 intervals,
+        uint64_t n, uint16_t kind, struct slice_u16_mut items) {
+    struct fields_reader_FieldRead t8 = fields_reader_read_in_place(p, intervals, n, items);
+    if (t8.tag == fields_reader_FieldRead_Refused) {
+        return (struct track_opening_Opened){.tag = track_opening_Opened_NoField};
+    }
+    uint64_t used = t8.u.Field.used;
+    bool holds = t8.u.Field.holds;
+    if (track_opening_opens_with(slice_u16(items.at, items.len), kind)) {
+        return (struct track_opening_Opened){.tag = track_opening_Opened_Field,
+                .u.Field = {.used = used, .holds = holds}};
+    }
+    return (struct track_opening_Opened){.tag = track_opening_Opened_NoField};
+}
+
+/*
+ * track::opening::read_opened, crates/track/src/opening.rt
+ * Most of what a lock precedes on a worn track is seen to be no field of a sector by its first intervals.
+ */
+static struct track_opening_Opened track_opening_read_opened(struct timing_Profile p, struct slice_u16 intervals,
+        uint64_t n, uint16_t kind, struct slice_u16_mut items) {
+    if (fields_finder_three_marks_ahead(p, intervals)) {
+        return track_opening_read_marked(p, intervals, n, kind, items);
+    }
+    return (struct track_opening_Opened){.tag = track_opening_Opened_NoField};
+}
+
+/*
+ * track::content::read_data, crates/track/src/content.rt
+ * As many bytes as three marks, FB, the data of the code and two check bytes are. The first four tell what it is.
+ */
+static struct track_opening_Opened track_content_read_data(struct timing_Profile p, struct slice_u16 intervals,
+        uint8_t code) {
+    uint64_t n = sectors_sector_size(code) + 6;
+    struct array_u16_4 items = {0};
+    return track_opening_read_opened(p, intervals, n, 251, slice_u16_mut(items.a, 4));
+}
+
+/*
+ * track::content::find_data, crates/track/src/content.rt
+ * Searched after the intervals that the ID used, from `start` on.
+ */
+static struct track_content_Sought track_content_find_data(struct timing_Profile p, struct slice_u16 intervals,
+        uint64_t start, uint8_t code) {
+    struct refusal_Counted t8 = fields_finder_search(p, intervals, start);
+    if (t8.tag == refusal_Counted_Refused) {
+        return (struct track_content_Sought){.field = {.tag = track_DataField_Missing}, .end = start};
+    }
+    uint64_t k = t8.u.Count;
+    struct track_opening_Opened t11 = track_content_read_data(p, slice_u16(intervals.at + k, intervals.len - k), code);
+    if (t11.tag == track_opening_Opened_NoField) {
+        return (struct track_content_Sought){.field = {.tag = track_DataField_Missing}, .end = start};
+    }
+    return (struct track_content_Sought){.field = {.tag = track_DataField_Found,
+            .u.Found = {.place = k, .holds = t11.u.Field.holds}}, .end = k + t11.u.Field.used};
+}
+
+/* track::id::read_id, crates/track/src/id.rt: The intervals begin at a lock. */
+static struct track_id_IdRead track_id_read_id(struct timing_Profile p, struct slice_u16 intervals) {
+    struct array_u16_10 items = {0};
+    struct track_opening_Opened t6 = track_opening_read_opened(p, intervals, 10, 254, slice_u16_mut(items.a, 10));
+    if (t6.tag == track_opening_Opened_NoField) {
+        return (struct track_id_IdRead){.tag = track_id_IdRead_NoId};
+    }
+    uint64_t used = t6.u.Field.used;
+    if (t6.u.Field.holds) return track_id_identify(slice_u16(items.a, 10), used);
+    return (struct track_id_IdRead){.tag = track_id_IdRead_NoId};
+}
+
+/*
+ * track::look_at, crates/track/src/lib.rt
+ * What begins at the lock at k. The next search starts after the last field of the entry, or else at the place after
+ * the lock.
+ */
+static struct track_Step track_look_at(struct timing_Profile p, struct slice_u16 intervals, uint64_t k) {
+    struct track_id_IdRead t12 = track_id_read_id(p, slice_u16(intervals.at + k, intervals.len - k));
+    if (t12.tag == track_id_IdRead_NoId) {
+        return (struct track_Step){.tag = track_Step_Other, .u.Other = {.next = k + 1}};
+    }
+    uint8_t code = t12.u.Id.code;
+    struct track_content_Sought sought = track_content_find_data(p, intervals, k + t12.u.Id.used, code);
+    struct track_DataField field = sought.field;
+    struct track_Entry entry = {.track = t12.u.Id.track, .side = t12.u.Id.side, .sector = t12.u.Id.sector, .code = code,
+            .place = k, .field = field};
+    return (struct track_Step){.tag = track_Step_Begins, .u.Begins = {.entry = entry, .next = sought.end}};
+}
+
+/*
+ * track::find_entry, crates/track/src/lib.rt
+ * One search, from `start` on. The next starts at least 64 intervals after this one, so that they come to an end.
+ */
+static struct track_Step track_find_entry(struct timing_Profile p, struct slice_u16 intervals, uint64_t start) {
+    struct refusal_Counted t5 = fields_finder_search(p, intervals, start);
+    if (t5.tag == refusal_Counted_Refused) return (struct track_Step){.tag = track_Step_End};
+    return track_look_at(p, intervals, t5.u.Count);
+}
+
+/*
+ * track::index::index_track, crates/track/src/index.rt
+ * 1, 2, 15; else the entries in the order found: search after search, each from where the one before says, until no
+ * lock is left or an entry has no room.
+ */
+static ism_index track_index_index_track(struct timing_Profile p, struct slice_u16 intervals) {
+    struct array_track_index_IndexEntry_32 entries = {0};
+    uint64_t count = 0;
+    uint64_t start = 0;
+    struct refusal_Verdict t12 = timing_rule_check(p);
+    struct refusal_Counted found;
+    if (t12.tag == refusal_Verdict_Refused) {
+        found = (struct refusal_Counted){.tag = refusal_Counted_Refused, .u.Refused = t12.u.Refused};
+    } else {
+        struct refusal_Counted t14;
+        for (;;) {
+            struct track_Step t15 = track_find_entry(p, intervals, start);
+            switch (t15.tag) {
+            case track_Step_End: {
+                t14 = (struct refusal_Counted){.tag = refusal_Counted_Count, .u.Count = count};
+                goto done_1;
+            }
+            case track_Step_Other: {
+                start = t15.u.Other.next;
+                break;
+            }
+            default: { /* track_Step_Begins */
+                if (count == 32) {
+                    entries = (struct array_track_index_IndexEntry_32){0};
+                    t14 = (struct refusal_Counted){.tag = refusal_Counted_Refused,
+                            .u.Refused = {.tag = refusal_Refusal_TooManySectors}};
+                    goto done_1;
+                }
+                entries.a[count] = track_index_converted(t15.u.Begins.entry);
+                count++;
+                start = t15.u.Begins.next;
+                break;
+            }
+            }
+        }
+        done_1:;
+        found = t14;
+    }
+    uint32_t t23 = refusal_Counted_number(found);
+    uint32_t t24 = refusal_Counted_place(found);
+    uint64_t t26 = refusal_Counted_count(found);
+    ism_index result;
+    result.number = t23;
+    result.place = t24;
+    result.count = t26;
+    for (uint64_t each = 0; each < 32; each++) {
+        result.entries[each] = entries.a[each];
+    }
+    return result;
+}
+
+/* The crate words */
+
+/*
+ * words::table::code_words, crates/words/src/table.rt
+ * The constant would be copied wherever it is named: a loop binds it before its first turn, and lends it.
+ */
+static struct array_u16_512 words_table_code_words(void) {
+    return (struct array_u16_512){{43690, 43689, 43684, 43685, 43666, 43665, 43668, 43669, 43594, 43593, 43588, 43589,
+            43602, 43601, 43604, 43605, 43306, 43305, 43300, 43301, 43282, 43281, 43284, 43285, 43338, 43337, 43332,
+            43333, 43346, 43345, 43348, 43349, 42154, 42153, 42148, 42149, 42130, 42129, 42132, 42133, 42058, 42057,
+            42052, 42053, 42066, 42065, 42068, 42069, 42282, 42281, 42276, 42277, 42258, 42257, 42260, 42261, 42314,
+            42313, 42308, 42309, 42322, 42321, 42324, 42325, 37546, 37545, 37540, 37541, 37522, 37521, 37524, 37525,
+            37450, 37449, 37444, 37445, 37458, 37457, 37460, 37461, 37162, 37161, 37156, 37157, 37138, 37137, 37140,
+            37141, 37194, 37193, 37188, 37189, 37202, 37201, 37204, 37205, 38058, 38057, 38052, 38053, 38034, 38033,
+            38036, 38037, 37962, 37961, 37956, 37957, 37970, 37969, 37972, 37973, 38186, 38185, 38180, 38181, 38162,
+            38161, 38164, 38165, 38218, 38217, 38212, 38213, 38226, 38225, 38228, 38229, 19114, 19113, 19108, 19109,
+            19090, 19089, 19092, 19093, 19018, 19017, 19012, 19013, 19026, 19025, 19028, 19029, 18730, 18729, 18724,
+            18725, 18706, 18705, 18708, 18709, 18762, 18761, 18756, 18757, 18770, 18769, 18772, 18773, 17578, 17577,
+            17572, 17573, 17554, 17553, 17556, 17557, 17482, 17481, 17476, 17477, 17490, 17489, 17492, 17493, 17706,
+            17705, 17700, 17701, 17682, 17681, 17684, 17685, 17738, 17737, 17732, 17733, 17746, 17745, 17748, 17749,
+            21162, 21161, 21156, 21157, 21138, 21137, 21140, 21141, 21066, 21065, 21060, 21061, 21074, 21073, 21076,
+            21077, 20778, 20777, 20772, 20773, 20754, 20753, 20756, 20757, 20810, 20809, 20804, 20805, 20818, 20817,
+            20820, 20821, 21674, 21673, 21668, 21669, 21650, 21649, 21652, 21653, 21578, 21577, 21572, 21573, 21586,
+            21585, 21588, 21589, 21802, 21801, 21796, 21797, 21778, 21777, 21780, 21781, 21834, 21833, 21828, 21829,
+            21842, 21841, 21844, 21845, 10922, 10921, 10916, 10917, 10898, 10897, 10900, 10901, 10826, 10825, 10820,
+            10821, 10834, 10833, 10836, 10837, 10538, 10537, 10532, 10533, 10514, 10513, 10516, 10517, 10570, 10569,
+            10564, 10565, 10578, 10577, 10580, 10581, 9386, 9385, 9380, 9381, 9362, 9361, 9364, 9365, 9290, 9289, 9284,
+            9285, 9298, 9297, 9300, 9301, 9514, 9513, 9508, 9509, 9490, 9489, 9492, 9493, 9546, 9545, 9540, 9541, 9554,
+            9553, 9556, 9557, 4778, 4777, 4772, 4773, 4754, 4753, 4756, 4757, 4682, 4681, 4676, 4677, 4690, 4689, 4692,
+            4693, 4394, 4393, 4388, 4389, 4370, 4369, 4372, 4373, 4426, 4425, 4420, 4421, 4434, 4433, 4436, 4437, 5290,
+            5289, 5284, 5285, 5266, 5265, 5268, 5269, 5194, 5193, 5188, 5189, 5202, 5201, 5204, 5205, 5418, 5417, 5412,
+            5413, 5394, 5393, 5396, 5397, 5450, 5449, 5444, 5445, 5458, 5457, 5460, 5461, 19114, 19113, 19108, 19109,
+            19090, 19089, 19092, 19093, 19018, 19017, 19012, 19013, 19026, 19025, 19028, 19029, 18730, 18729, 18724,
+            18725, 18706, 18705, 18708, 18709, 18762, 18761, 18756, 18757, 18770, 18769, 18772, 18773, 17578, 17577,
+            17572, 17573, 17554, 17553, 17556, 17557, 17482, 17481, 17476, 17477, 17490, 17489, 17492, 17493, 17706,
+            17705, 17700, 17701, 17682, 17681, 17684, 17685, 17738, 17737, 17732, 17733, 17746, 17745, 17748, 17749,
+            21162, 21161, 21156, 21157, 21138, 21137, 21140, 21141, 21066, 21065, 21060, 21061, 21074, 21073, 21076,
+            21077, 20778, 20777, 20772, 20773, 20754, 20753, 20756, 20757, 20810, 20809, 20804, 20805, 20818, 20817,
+            20820, 20821, 21674, 21673, 21668, 21669, 21650, 21649, 21652, 21653, 21578, 21577, 21572, 21573, 21586,
+            21585, 21588, 21589, 21802, 21801, 21796, 21797, 21778, 21777, 21780, 21781, 21834, 21833, 21828, 21829,
+            21842, 21841, 21844, 21845}};
+}
+
+/*
+ * words::spread_word, crates/words/src/lib.rt
+ * The bits of a data byte at every second place, and a clock bit between each two that are 0.
+ */
+static uint16_t words_spread_word(uint16_t previous, uint16_t byte) {
+    uint16_t fours = (byte | (uint16_t)((uint32_t)byte << 4)) & 0xF0F;
+    uint16_t pairs = (fours | (uint16_t)((uint32_t)fours << 2)) & 0x3333;
+    uint16_t data = (pairs | (uint16_t)((uint32_t)pairs << 1)) & 0x5555;
+    uint16_t clocks = ((data | (data >> 2) | (uint16_t)((uint32_t)previous << 14)) & 0x5555) ^ 0x5555;
+    return data | (uint16_t)((uint32_t)clocks << 1);
+}
+
+/*
+ * words::made_word, crates/words/src/lib.rt
+ * The same without the table, which is slow to copy where few words are asked for and large where all are.
+ */
+static uint16_t words_made_word(uint16_t previous, uint16_t w) {
+    if (w == 417) return 17545;
+    if (w == 450) return 21028;
+    return words_spread_word(previous % 2, w % 256);
+}
+
+/*
+ * words::word_of, crates/words/src/lib.rt
+ * The word of a written byte after the byte before, whose last bit is the previous bit.
+ */
+static uint16_t words_word_of(const struct array_u16_512 *table, uint16_t previous, uint16_t byte) {
+    if (byte == 417) return 17545;
+    if (byte == 450) return 21028;
+    return table->a[(uint64_t)((previous % 2) * 256 + byte % 256)];
+}
+
+/* The crate images */
+
+/* images::count::count_byte, crates/images/src/count.rt */
+static struct images_count_Tally images_count_count_byte(struct images_count_Tally tally, uint16_t byte) {
+    uint16_t ones = (uint16_t)count_ones(words_made_word(tally.previous, byte));
+    return (struct images_count_Tally){.cells = tally.cells + ones, .previous = byte};
+}
+
+/* images::count::count_bytes, crates/images/src/count.rt */
+static struct images_count_Tally images_count_count_bytes(struct images_count_Tally start, struct slice_u16 bytes) {
+    struct images_count_Tally tally = start;
+    uint64_t k = 0;
+    while (k < bytes.len) {
+        tally = images_count_count_byte(tally, bytes.at[k]);
+        k++;
+    }
+    return tally;
+}
+
+/* images::count::count_item, crates/images/src/count.rt */
+static struct images_count_Part images_count_count_item(struct images_count_Part start, uint16_t item) {
+    struct items_Check check = items_Check_after_item(start.check, item);
+    if (items_is_check(item)) {
+        struct images_count_Tally high = images_count_count_byte(start.tally, items_Check_high(start.check));
+        struct images_count_Tally low = images_count_count_byte(high, items_Check_low(start.check));
+        return (struct images_count_Part){.tally = low, .check = check};
+    }
+    return (struct images_count_Part){.tally = images_count_count_byte(start.tally, item), .check = check};
+}
+
+/*
+ * images::count::count_each, crates/images/src/count.rt
+ * Item by item, so that a check order finds the register as it is then.
+ */
+static struct images_count_Tally images_count_count_each(struct slice_u16 items) {
+    struct images_count_Part part = {.tally = {.cells = 0, .previous = 0}, .check = items_Check_fresh()};
+    uint64_t k = 0;
+    while (k < items.len) {
+        part = images_count_count_item(part, items.at[k]);
+        k++;
+    }
+    return part.tally;
+}
+
+/*
+ * images::count::count_items, crates/images/src/count.rt
+ * A list with no check order is its own bytes, and needs no register.
+ */
+static struct images_count_Tally images_count_count_items(struct slice_u16 items, uint64_t bytes) {
+    if (bytes == items.len) {
+        struct images_count_Tally none = {.cells = 0, .previous = 0};
+        return images_count_count_bytes(none, items);
+    }
+    return images_count_count_each(items);
+}
+
+/*
+ * images::count::count_cells, crates/images/src/count.rt
+ * The cells of an accepted list that writes so many bytes. The two closing 0s end two cells after a 0, and one after a
+ * 1.
+ */
+static uint64_t images_count_count_cells(struct slice_u16 items, uint64_t bytes) {
+    struct images_count_Tally tally = images_count_count_items(items, bytes);
+    uint64_t cells = (uint64_t)tally.cells;
+    if (tally.previous % 2 == 1) return cells + 1;
+    return cells + 2;
+}
+
+/*
+ * images::read::find_unruly, crates/images/src/read.rt
+ * The place of the lowest word that its candidate does not have after the byte before; the length where there is none.
+ */
+static uint64_t images_read_find_unruly(struct slice_u16 words) {
+    struct array_u16_512 table = words_table_code_words();
+    uint16_t previous = 0;
+    uint64_t k = 0;
+    while (k < words.len) {
+        uint16_t word = words.at[k];
+        uint16_t byte = half_cells_byte_of(word);
+        if (words_word_of(&table, previous, byte) == word) {
+            previous = byte;
+            k++;
+        } else {
+            return k;
+        }
+    }
+    return k;
+}
+
+/* images::read::check_words, crates/images/src/read.rt: Whether the words are an image: 4, then 16. */
+static struct refusal_Verdict images_read_check_words(struct slice_u16 words) {
+    if (6400 < words.len) {
+        return (struct refusal_Verdict){.tag = refusal_Verdict_Refused, .u.Refused = {.tag = refusal_Refusal_TooLong}};
+    }
+    uint64_t k = images_read_find_unruly(words);
+    if (k < words.len) {
+        return (struct refusal_Verdict){.tag = refusal_Verdict_Refused,
+                .u.Refused = {.tag = refusal_Refusal_UnrulyWord, .u.UnrulyWord = (uint32_t)k}};
+    }
+    return (struct refusal_Verdict){.tag = refusal_Verdict_Accepted};
+}
+
+/*
+ * images::read::store_bytes, crates/images/src/read.rt
+ * The candidates of words, from the front of the output on.
+ */
+static void images_read_store_bytes(struct slice_u16 words, struct slice_u16_mut out) {
+    lists_store(words, 0, out);
+    uint64_t n = words.len;
+    half_cells_words_to_bytes(slice_u16_mut(out.at, n));
+}
+
+/* images::read::read_words, crates/images/src/read.rt: An image: 9, or its items. */
+static struct refusal_Counted images_read_read_words(struct slice_u16 words, struct slice_u16_mut out) {
+    if (out.len < words.len) {
+        return (struct refusal_Counted){.tag = refusal_Counted_Refused,
+                .u.Refused = {.tag = refusal_Refusal_OutputTooShort}};
+    }
+    images_read_store_bytes(words, out);
+    return (struct refusal_Counted){.tag = refusal_Counted_Count, .u.Count = words.len};
+}
+
+/*
+ * images::read::read_image, crates/images/src/read.rt
+ * An image as items: 4, 16, 9, or the number of items stored.
+ */
+static struct refusal_Counted images_read_read_image(struct slice_u16 words, struct slice_u16_mut out) {
+    struct refusal_Verdict t4 = images_read_check_words(words);
+    if (t4.tag == refusal_Verdict_Refused) {
+        return (struct refusal_Counted){.tag = refusal_Counted_Refused, .u.Refused = t4.u.Refused};
+    }
+    return images_read_read_words(words, out);
+}
+
+/* images::make::turn_into_words, crates/images/src/make.rt: Written bytes become their words where they stand. */
+static void images_make_turn_into_words(struct slice_u16_mut bytes) {
+    struct array_u16_512 table = words_table_code_words();
+    uint16_t previous = 0;
+    uint64_t k = 0;
+    while (k < bytes.len) {
+        uint16_t byte = bytes.at[k];
+        bytes.at[k] = words_word_of(&table, previous, byte);
+        previous = byte;
+        k++;
+    }
+}
+
+/* images::make::make_words, crates/images/src/make.rt: An accepted list: 9, or its image. */
+static struct refusal_Counted images_make_make_words(struct slice_u16 items, struct slice_u16_mut out) {
+    if (out.len < items_list_written_bytes(items)) {
+        return (struct refusal_Counted){.tag = refusal_Counted_Refused,
+                .u.Refused = {.tag = refusal_Refusal_OutputTooShort}};
+    }
+    struct items_list_Stored stored = items_list_write_bytes(items_Check_fresh(), items, out);
+    uint64_t n = stored.count;
+    images_make_turn_into_words(slice_u16_mut(out.at, n));
+    return (struct refusal_Counted){.tag = refusal_Counted_Count, .u.Count = n};
+}
+
+/*
+ * images::make::make_image, crates/images/src/make.rt
+ * A list of items as an image: 4, 3, 9, or the number of words stored.
+ */
+static struct refusal_Counted images_make_make_image(struct slice_u16 items, struct slice_u16_mut out) {
+    struct refusal_Verdict t4 = items_list_check_list(items);
+    if (t4.tag == refusal_Verdict_Refused) {
+        return (struct refusal_Counted){.tag = refusal_Counted_Refused, .u.Refused = t4.u.Refused};
+    }
+    return images_make_make_words(items, out);
+}
+
+/* The crate codec */
+
+/*
+ * codec::bytes::closing_word, crates/codec/src/bytes.rt
+ * The half cells of the two closing 0s up to the last transition, and a cell of 2 units behind it, since after the
+ * last transition the symbol counts as 1.
+ */
+static uint16_t codec_bytes_closing_word(uint16_t previous) {
+    if (previous % 2 == 1) return 10240;
+    return 43008;
+}
+
+/*
+ * codec::reader::conclude, crates/codec/src/reader.rt
+ * What the whole strip reads as, given the place of its last interval: 7, 4, 8, or the number of items. A strip of 8n
+ * + 2 bits ends one bit into a byte, and that bit is 0: with the data bit before it, four half cells.
+ */
+static struct refusal_Counted codec_reader_conclude(struct symbols_Reading m, uint32_t last) {
+    if (m.held != 4) {
+        return (struct refusal_Counted){.tag = refusal_Counted_Refused,
+                .u.Refused = {.tag = refusal_Refusal_NotWholeBytes}};
+    }
+    if (6400 < m.words) {
+        return (struct refusal_Counted){.tag = refusal_Counted_Refused, .u.Refused = {.tag = refusal_Refusal_TooLong}};
+    }
+    if (symbols_Reading_is_stray(m)) {
+        return (struct refusal_Counted){.tag = refusal_Counted_Refused,
+                .u.Refused = {.tag = refusal_Refusal_MisplacedMark,
+                .u.MisplacedMark = symbols_Reading_stray_place(m, last)}};
+    }
+    return (struct refusal_Counted){.tag = refusal_Counted_Count, .u.Count = (uint64_t)m.words};
+}
+
+/*
+ * codec::bytes::fresh_track, crates/codec/src/bytes.rt
+ * After the lead 0, whose half cells are 1 0: the first half cell stands two after the one. A missing cell before
+ * counts as one of 2 units.
+ */
+static struct codec_bytes_Track codec_bytes_fresh_track(void) {
+    return (struct codec_bytes_Track){.pen = {.since = 2, .window = 10, .cells = 0}, .previous = 0};
+}
+
+/*
+ * codec::writer::has_room, crates/codec/src/writer.rt
+ * Whether an accepted list's stream has room in an output of so many places. A byte ends eight cells at most and the
+ * closing 0s two: only where there is less room they are counted.
+ */
+static bool codec_writer_has_room(struct slice_u16 items, uint64_t bytes, uint64_t room) {
+    if (8 * bytes + 2 <= room) return true;
+    return images_count_count_cells(items, bytes) <= room;
+}
+
+/* codec::pen::highest_one, crates/codec/src/pen.rt */
+static uint32_t codec_pen_highest_one(uint32_t ones) {
+    return 31 - leading_zeros(ones);
+}
+
+/* codec::pen::pass_one, crates/codec/src/pen.rt */
+static struct codec_pen_Rest codec_pen_pass_one(struct codec_pen_Rest rest, uint32_t place, uint32_t window) {
+    return (struct codec_pen_Rest){.last = place, .window = window, .cells = rest.cells + 1,
+            .ones = rest.ones - (uint32_t)((uint32_t)1 << place)};
+}
+
+/*
+ * codec::reader::read_cells, crates/codec/src/reader.rt
+ * A strip in which every interval is a cell: 7, 4, 8, 9, or all of its items. Code words are stored first, and turned
+ * into items where they stand.
+ */
+static struct refusal_Counted codec_reader_read_cells(struct timing_Profile p, struct slice_u16 intervals,
+        struct slice_u16_mut out) {
+    struct array_u16_0 none = {0};
+    struct intervals_Pass pass = intervals_pass_over(p, intervals, (uint32_t)51202, slice_u16_mut(none.a, 0));
+    struct symbols_Reading reading = pass.reading;
+    struct refusal_Counted t12 = codec_reader_conclude(reading, intervals_last_place(pass.used));
+    if (t12.tag == refusal_Counted_Refused) {
+        return (struct refusal_Counted){.tag = refusal_Counted_Refused, .u.Refused = t12.u.Refused};
+    }
+    uint64_t n = t12.u.Count;
+    if (out.len < n) {
+        return (struct refusal_Counted){.tag = refusal_Counted_Refused,
+                .u.Refused = {.tag = refusal_Refusal_OutputTooShort}};
+    }
+    intervals_pass_over(p, intervals, (uint32_t)51202, out);
+    half_cells_words_to_bytes(slice_u16_mut(out.at, n));
+    return (struct refusal_Counted){.tag = refusal_Counted_Count, .u.Count = n};
+}
+
+/*
+ * codec::reader::read_strip, crates/codec/src/reader.rt
+ * A strip of at most 51,202 intervals under an accepted profile: the first of 5 or 6, 7, 4, 8, 9, or all of its items.
+ */
+static struct refusal_Counted codec_reader_read_strip(struct timing_Profile p, struct slice_u16 intervals,
+        struct slice_u16_mut out) {
+    struct refusal_Verdict t5 = intervals_edges_check_edges(p, intervals);
+    if (t5.tag == refusal_Verdict_Refused) {
+        return (struct refusal_Counted){.tag = refusal_Counted_Refused, .u.Refused = t5.u.Refused};
+    }
+    return codec_reader_read_cells(p, intervals, out);
+}
+
+/*
+ * codec::reader::read, crates/codec/src/reader.rt
+ * A strip of intervals as items: 1, 2, 4, the first of 5 or 6, 7, 4, 8, 9, or the number of items stored.
+ */
+static struct refusal_Counted codec_reader_read(struct timing_Profile p, struct slice_u16 intervals,
+        struct slice_u16_mut out) {
+    struct refusal_Verdict t5 = timing_rule_check(p);
+    if (t5.tag == refusal_Verdict_Refused) {
+        return (struct refusal_Counted){.tag = refusal_Counted_Refused, .u.Refused = t5.u.Refused};
+    }
+    if (51202 < intervals.len) {
+        return (struct refusal_Counted){.tag = refusal_Counted_Refused, .u.Refused = {.tag = refusal_Refusal_TooLong}};
+    }
+    return codec_reader_read_strip(p, intervals, out);
+}
+
+/*
+ * codec::pen::window_at, crates/codec/src/pen.rt
+ * The highest one ends a cell, whose units are the half cells since the one before.
+ */
+static uint32_t codec_pen_window_at(struct codec_pen_Rest rest, uint32_t place) {
+    return ((rest.window % 16) * 4 + (rest.last - place)) % 64;
+}
+
+/*
+ * codec::pen::begin, crates/codec/src/pen.rt
+ * The ones before the first is stored. With a track's first one no length is known: it is passed here, so that the
+ * others are stored without a test.
+ */
+static struct codec_pen_Rest codec_pen_begin(struct codec_pen_Pen start, uint32_t word, uint32_t width) {
+    struct codec_pen_Rest rest =
+            {.last = start.since + width - 1, .window = start.window, .cells = start.cells, .ones = word};
+    if (0 < start.cells) return rest;
+    if (0 < word) {
+        uint32_t place = codec_pen_highest_one(word);
+        return codec_pen_pass_one(rest, place, codec_pen_window_at(rest, place));
+    }
+    return rest;
+}
+
+/* codec::pen::draw, crates/codec/src/pen.rt: The ones of so many half cells, the highest first. */
+static struct codec_pen_Pen codec_pen_draw(const struct array_u16_64 *table, struct codec_pen_Pen start, uint32_t word,
+        uint32_t width, struct slice_u16_mut out) {
+    struct codec_pen_Rest rest = codec_pen_begin(start, word, width);
+    while (0 < rest.ones) {
+        uint32_t place = codec_pen_highest_one(rest.ones);
+        uint32_t window = codec_pen_window_at(rest, place);
+        out.at[rest.cells - 1] = table->a[(uint64_t)window];
+        rest = codec_pen_pass_one(rest, place, window);
+    }
+    return (struct codec_pen_Pen){.since = rest.last + 1, .window = rest.window, .cells = rest.cells};
+}
+
+/* codec::bytes::write_byte, crates/codec/src/bytes.rt */
+static struct codec_bytes_Track codec_bytes_write_byte(const struct array_u16_64 *table, struct codec_bytes_Track start,
+        uint16_t byte, struct slice_u16_mut out) {
+    uint16_t word = words_made_word(start.previous, byte);
+    struct codec_pen_Pen pen = codec_pen_draw(table, start.pen, (uint32_t)word, 16, out);
+    return (struct codec_bytes_Track){.pen = pen, .previous = byte};
+}
+
+/*
+ * codec::bytes::write_closing, crates/codec/src/bytes.rt
+ * The end of a track. The cell behind the last transition has no length.
+ */
+static uint64_t codec_bytes_write_closing(const struct array_u16_64 *table, struct codec_bytes_Track track,
+        struct slice_u16_mut out) {
+    struct codec_pen_Pen pen =
+            codec_pen_draw(table, track.pen, (uint32_t)codec_bytes_closing_word(track.previous), 16, out);
+    return pen.cells - 1;
+}
+
+/* codec::writer::write_item, crates/codec/src/writer.rt */
+static struct codec_writer_Part codec_writer_write_item(const struct array_u16_64 *table,
+        struct codec_writer_Part start, uint16_t item, struct slice_u16_mut out) {
+    struct items_Check check = items_Check_after_item(start.check, item);
+    if (items_is_check(item)) {
+        struct codec_bytes_Track high = codec_bytes_write_byte(table, start.track, items_Check_high(start.check), out);
+        struct codec_bytes_Track low = codec_bytes_write_byte(table, high, items_Check_low(start.check), out);
+        return (struct codec_writer_Part){.track = low, .check = check};
+    }
+    return (struct codec_writer_Part){.track = codec_bytes_write_byte(table, start.track, item, out), .check = check};
+}
+
+/*
+ * codec::writer::write_each, crates/codec/src/writer.rt
+ * Item by item, so that a check order finds the register as it is then.
+ */
+static struct codec_bytes_Track codec_writer_write_each(const struct array_u16_64 *table, struct slice_u16 items,
+        struct slice_u16_mut out) {
+    struct codec_bytes_Track t6 = codec_bytes_fresh_track();
+    struct codec_writer_Part part = {.track = t6, .check = items_Check_fresh()};
+    uint64_t k = 0;
+    while (k < items.len) {
+        part = codec_writer_write_item(table, part, items.at[k], out);
+        k++;
+    }
+    return part.track;
+}
+
+/*
+ * codec::bytes::write_two, crates/codec/src/bytes.rt
+ * Two bytes at once: that the pen has drawn all ones is told half as often.
+ */
+static struct codec_bytes_Track codec_bytes_write_two(const struct array_u16_64 *table, struct codec_bytes_Track start,
+        uint16_t first, uint16_t second, struct slice_u16_mut out) {
+    uint16_t high = words_made_word(start.previous, first);
+    uint16_t low = words_made_word(first, second);
+    struct codec_pen_Pen pen =
+            codec_pen_draw(table, start.pen, (uint32_t)((uint32_t)high << 16) | (uint32_t)low, 32, out);
+    return (struct codec_bytes_Track){.pen = pen, .previous = second};
+}
+
+/* codec::bytes::write_bytes, crates/codec/src/bytes.rt */
+static struct codec_bytes_Track codec_bytes_write_bytes(const struct array_u16_64 *table,
+        struct codec_bytes_Track start, struct slice_u16 bytes, struct slice_u16_mut out) {
+    uint64_t pairs = bytes.len / 2;
+    struct codec_bytes_Track track = start;
+    uint64_t i = 0;
+    while (i < pairs) {
+        uint64_t k = 2 * i;
+        track = codec_bytes_write_two(table, track, bytes.at[k], bytes.at[k + 1], out);
+        i++;
+    }
+    uint64_t k_2 = 2 * i;
+    if (k_2 < bytes.len) return codec_bytes_write_byte(table, track, bytes.at[k_2], out);
+    return track;
+}
+
+/*
+ * codec::writer::write_items, crates/codec/src/writer.rt
+ * The cells of a list's written bytes, from the front of the output on. A list with no check order is its own bytes,
+ * and needs no register.
+ */
+static struct codec_bytes_Track codec_writer_write_items(const struct array_u16_64 *table, struct slice_u16 items,
+        uint64_t bytes, struct slice_u16_mut out) {
+    if (bytes == items.len) {
+        return codec_bytes_write_bytes(table, codec_bytes_fresh_track(), items, out);
+    }
+    return codec_writer_write_each(table, items, out);
+}
+
+/*
+ * codec::writer::write_stream, crates/codec/src/writer.rt
+ * The stream of a list, where it has room. Answers its length.
+ */
+static uint64_t codec_writer_write_stream(struct timing_Profile p, struct slice_u16 items, uint64_t bytes,
+        struct slice_u16_mut out) {
+    struct array_u16_64 table = lengths_table_length_table(p);
+    struct codec_bytes_Track track = codec_writer_write_items(&table, items, bytes, out);
+    return codec_bytes_write_closing(&table, track, out);
+}
+
+/*
+ * codec::writer::write_list, crates/codec/src/writer.rt
+ * An accepted list under an accepted profile: 9, or its stream.
+ */
+static struct refusal_Counted codec_writer_write_list(struct timing_Profile p, struct slice_u16 items,
+        struct slice_u16_mut out) {
+    uint64_t bytes = items_list_written_bytes(items);
+    if (codec_writer_has_room(items, bytes, out.len)) {
+        uint64_t count = codec_writer_write_stream(p, items, bytes, out);
+        return (struct refusal_Counted){.tag = refusal_Counted_Count, .u.Count = count};
+    }
+    return (struct refusal_Counted){.tag = refusal_Counted_Refused,
+            .u.Refused = {.tag = refusal_Refusal_OutputTooShort}};
+}
+
+/*
+ * codec::writer::write, crates/codec/src/writer.rt
+ * A list of items as intervals: 1, 2, 4, 3, 9, or the number of intervals stored.
+ */
+static struct refusal_Counted codec_writer_write(struct timing_Profile p, struct slice_u16 items,
+        struct slice_u16_mut out) {
+    struct refusal_Verdict t6 = timing_rule_check(p);
+    if (t6.tag == refusal_Verdict_Refused) {
+        return (struct refusal_Counted){.tag = refusal_Counted_Refused, .u.Refused = t6.u.Refused};
+    }
+    struct refusal_Verdict t8 = items_list_check_list(items);
+    if (t8.tag == refusal_Verdict_Refused) {
+        return (struct refusal_Counted){.tag = refusal_Counted_Refused, .u.Refused = t8.u.Refused};
+    }
+    return codec_writer_write_list(p, items, out);
+}
+
+/* The crate clearance */
+
+/* clearance::seen::either, crates/clearance/src/seen.rt */
+static struct timing_HalfClocks clearance_seen_either(bool two, struct timing_HalfClocks short_,
+        struct timing_HalfClocks long_) {
+    if (two) return short_;
+    return long_;
+}
+
+/* clearance::extremes::lesser, crates/clearance/src/extremes.rt */
+static uint16_t clearance_extremes_lesser(uint16_t a, uint16_t b) {
+    if (b < a) return b;
+    return a;
+}
+
+/*
+ * clearance::extremes::above, crates/clearance/src/extremes.rt
+ * How much a number is above another; 0 where it is not.
+ */
+static uint16_t clearance_extremes_above(uint16_t a, uint16_t b) {
+    return a - clearance_extremes_lesser(a, b);
+}
+
+/* clearance::extremes::Extremes::none, crates/clearance/src/extremes.rt: Before any interval. */
+static struct clearance_extremes_Extremes clearance_extremes_Extremes_none(void) {
+    return (struct clearance_extremes_Extremes){.shortest = 32767, .longest = 32768, .from = 32767, .below = 32768};
+}
+
+/*
+ * clearance::extremes::turned, crates/clearance/src/extremes.rt
+ * Lengths are compared in the order of signed numbers, in which those from 32,768 on come first: for that order the
+ * compiler has the lesser and the greater of eight pairs in one vector instruction each. This is a number's place in
+ * it.
+ */
+static uint16_t clearance_extremes_turned(uint16_t x) {
+    return std_num_wrapping_add_u16(x, 32768);
+}
+
+/* clearance::extremes::first, crates/clearance/src/extremes.rt */
+static uint16_t clearance_extremes_first(uint16_t a, uint16_t b) {
+    uint16_t t3 = clearance_extremes_turned(b);
+    if (t3 < clearance_extremes_turned(a)) return b;
+    return a;
+}
+
+/* clearance::extremes::last, crates/clearance/src/extremes.rt */
+static uint16_t clearance_extremes_last(uint16_t a, uint16_t b) {
+    uint16_t t3 = clearance_extremes_turned(a);
+    if (t3 < clearance_extremes_turned(b)) return b;
+    return a;
+}
+
+/*
+ * clearance::extremes::past, crates/clearance/src/extremes.rt
+ * How far an interval is past a bound, in that order: first those from the bound up, last the one just below it.
+ */
+static uint16_t clearance_extremes_past(uint16_t bound, uint16_t interval) {
+    return std_num_wrapping_sub_u16(interval, clearance_extremes_turned(bound));
+}
+
+/*
+ * clearance::extremes::room, crates/clearance/src/extremes.rt
+ * How far the places of a first and a last number are inside two others; 0 where one is outside.
+ */
+static uint16_t clearance_extremes_room(uint16_t from, uint16_t to, uint16_t first, uint16_t last) {
+    uint16_t t5 = clearance_extremes_above(clearance_extremes_turned(first), from);
+    return clearance_extremes_lesser(t5, clearance_extremes_above(to, clearance_extremes_turned(last)));
+}
+
+/*
+ * clearance::extremes::Extremes::least, crates/clearance/src/extremes.rt
+ * The least clearance of the intervals met. Where one is narrow or wide, it is 0 by the shortest or the longest.
+ */
+static uint16_t clearance_extremes_Extremes_least(struct clearance_extremes_Extremes self, uint16_t min, uint16_t rpt) {
+    uint16_t t5 = clearance_extremes_turned(min);
+    uint16_t outer = clearance_extremes_room(t5, clearance_extremes_turned(rpt - 1), self.shortest, self.longest);
+    return clearance_extremes_lesser(outer, clearance_extremes_room(0, 65535, self.from, self.below));
+}
+
+/*
+ * clearance::extremes::Extremes::with, crates/clearance/src/extremes.rt
+ * With one interval more, between which and its neighbours in length these bounds stand.
+ */
+static struct clearance_extremes_Extremes clearance_extremes_Extremes_with(struct clearance_extremes_Extremes self,
+        struct timing_Bounds bounds, uint16_t interval) {
+    uint16_t past_b23 = clearance_extremes_past(bounds.b23.f0, interval);
+    uint16_t past_b34 = clearance_extremes_past(bounds.b34.f0, interval);
+    uint16_t t6 = clearance_extremes_first(self.shortest, interval);
+    uint16_t t7 = clearance_extremes_last(self.longest, interval);
+    uint16_t t8 = clearance_extremes_first(clearance_extremes_first(self.from, past_b23), past_b34);
+    return (struct clearance_extremes_Extremes){.shortest = t6, .longest = t7, .from = t8,
+            .below = clearance_extremes_last(clearance_extremes_last(self.below, past_b23), past_b34)};
+}
+
+/* clearance::seen::extremes_alike, crates/clearance/src/seen.rt: All between the same bounds. */
+static struct clearance_extremes_Extremes clearance_seen_extremes_alike(struct clearance_extremes_Extremes start,
+        struct timing_Bounds bounds, struct slice_u16 intervals) {
+    struct clearance_extremes_Extremes extremes = start;
+    uint64_t k = 0;
+    while (k < intervals.len) {
+        extremes = clearance_extremes_Extremes_with(extremes, bounds, intervals.at[k]);
+        k++;
+    }
+    return extremes;
+}
+
+/*
+ * clearance::seen::extremes_behind, crates/clearance/src/seen.rt
+ * Each but the first, between the bounds for what the one before it is behind class 2. The two bounds are chosen one
+ * by one, so that it is done in vector instructions.
+ */
+static struct clearance_extremes_Extremes clearance_seen_extremes_behind(struct clearance_extremes_Extremes start,
+        struct timing_cursor_Cursor cursor, struct slice_u16 intervals) {
+    struct timing_Bounds short_ = cursor.short_;
+    struct timing_Bounds long_ = cursor.long_;
+    struct clearance_extremes_Extremes extremes = start;
+    uint64_t k = 1;
+    while (k < intervals.len) {
+        bool two = timing_cursor_Cursor_meets_two(cursor, intervals.at[k - 1]);
+        struct timing_HalfClocks t15 = clearance_seen_either(two, short_.b23, long_.b23);
+        struct timing_Bounds bounds = {.b23 = t15, .b34 = clearance_seen_either(two, short_.b34, long_.b34)};
+        extremes = clearance_extremes_Extremes_with(extremes, bounds, intervals.at[k]);
+        k++;
+    }
+    return extremes;
+}
+
+/* clearance::seen::Seen::past, crates/clearance/src/seen.rt: With one interval more. */
+static struct clearance_seen_Seen clearance_seen_Seen_past(struct clearance_seen_Seen self, uint16_t interval) {
+    struct clearance_extremes_Extremes extremes = self.extremes;
+    struct timing_cursor_Cursor cursor = self.cursor;
+    struct timing_Bounds bounds = cursor.bounds;
+    struct clearance_extremes_Extremes t6 = clearance_extremes_Extremes_with(extremes, bounds, interval);
+    return (struct clearance_seen_Seen){.extremes = t6, .cursor = timing_cursor_Cursor_past(cursor, interval)};
+}
+
+/* clearance::seen::Seen::in_turn, crates/clearance/src/seen.rt: One after the other. */
+static struct clearance_seen_Seen clearance_seen_Seen_in_turn(struct clearance_seen_Seen self,
+        struct slice_u16 intervals) {
+    struct clearance_seen_Seen seen = self;
+    uint64_t k = 0;
+    while (k < intervals.len) {
+        seen = clearance_seen_Seen_past(seen, intervals.at[k]);
+        k++;
+    }
+    return seen;
+}
+
+/*
+ * clearance::seen::Seen::sure, crates/clearance/src/seen.rt
+ * Where no interval lies between the two B23, the one before an interval tells its bounds, whatever stands before
+ * that; but for the first two, which go by the cursor.
+ */
+static struct clearance_seen_Seen clearance_seen_Seen_sure(struct clearance_seen_Seen self,
+        struct slice_u16 intervals) {
+    struct clearance_seen_Seen t7 = clearance_seen_Seen_past(self, intervals.at[0]);
+    struct clearance_seen_Seen two = clearance_seen_Seen_past(t7, intervals.at[1]);
+    struct clearance_extremes_Extremes extremes = two.extremes;
+    struct timing_cursor_Cursor behind = timing_cursor_Cursor_behind(self.cursor, true);
+    uint16_t last = intervals.at[intervals.len - 1];
+    struct clearance_extremes_Extremes t16 =
+            clearance_seen_extremes_behind(extremes, behind, slice_u16(intervals.at + 1, intervals.len - 1));
+    return (struct clearance_seen_Seen){.extremes = t16, .cursor = timing_cursor_Cursor_past(behind, last)};
+}
+
+/* clearance::seen::Seen::block, crates/clearance/src/seen.rt: Nearly always a block is sure. */
+static struct clearance_seen_Seen clearance_seen_Seen_block(struct clearance_seen_Seen self,
+        struct slice_u16 intervals) {
+    if (intervals.len < 2) return clearance_seen_Seen_in_turn(self, intervals);
+    struct timing_Bounds short_ = self.cursor.short_;
+    struct timing_Bounds long_ = self.cursor.long_;
+    if (intervals_units_all_sure(short_, long_, intervals)) {
+        return clearance_seen_Seen_sure(self, intervals);
+    }
+    return clearance_seen_Seen_in_turn(self, intervals);
+}
+
+/* clearance::seen::Seen::all, crates/clearance/src/seen.rt: Block by block. */
+static struct clearance_seen_Seen clearance_seen_Seen_all(struct clearance_seen_Seen self, struct slice_u16 intervals) {
+    struct clearance_seen_Seen seen = self;
+    uint64_t from = 0;
+    while (from < intervals.len) {
+        uint64_t n = lists_at_most(258, intervals.len - from);
+        seen = clearance_seen_Seen_block(seen, slice_u16(intervals.at + from, from + n - from));
+        from += n;
+    }
+    return seen;
+}
+
+/*
+ * clearance::least::least_from, crates/clearance/src/least.rt
+ * The least over the intervals of a list that has some. Where the pairs are equal, all stand between the same bounds.
+ */
+static uint16_t clearance_least_least_from(struct timing_cursor_Cursor start, struct slice_u16 intervals) {
+    struct clearance_extremes_Extremes none = clearance_extremes_Extremes_none();
+    if (timing_cursor_Cursor_is_steady(start)) {
+        struct timing_Bounds bounds = start.bounds;
+        struct clearance_extremes_Extremes t8 = clearance_seen_extremes_alike(none, bounds, intervals);
+        return clearance_extremes_Extremes_least(t8, start.min.f0, start.rpt.f0);
+    }
+    struct clearance_seen_Seen seen = {.extremes = none, .cursor = start};
+    struct clearance_extremes_Extremes extremes = clearance_seen_Seen_all(seen, intervals).extremes;
+    return clearance_extremes_Extremes_least(extremes, start.min.f0, start.rpt.f0);
+}
+
+/* clearance::least::of_interval, crates/clearance/src/least.rt: Of one interval by itself. */
+static uint16_t clearance_least_of_interval(struct timing_Profile p, uint16_t interval, bool two) {
+    struct array_u16_1 alone = {{interval}};
+    return clearance_least_least_from(timing_cursor_Cursor_after(p, two), slice_u16(alone.a, 1));
+}
+
+/*
+ * clearance::class_number, crates/clearance/src/lib.rt
+ * 1, 2; else the class of an interval, told whether the one before was of class 2.
+ */
+static struct clearance_ClearCount clearance_class_number(struct timing_Profile p, uint16_t interval, bool two) {
+    struct refusal_Counted t6 = timing_class_number(p, interval, two);
+    if (t6.tag == refusal_Counted_Refused) {
+        return (struct clearance_ClearCount){.counted = {.tag = refusal_Counted_Refused, .u.Refused = t6.u.Refused},
+                .clearance = 0};
+    }
+    return (struct clearance_ClearCount){.counted = {.tag = refusal_Counted_Count, .u.Count = t6.u.Count},
+            .clearance = clearance_least_of_interval(p, interval, two)};
+}
+
+/* clearance::least::of_list, crates/clearance/src/least.rt: The least over a list; 0 for no interval. */
+static uint16_t clearance_least_of_list(struct timing_Profile p, struct slice_u16 intervals) {
+    if (intervals.len == 0) return 0;
+    return clearance_least_least_from(timing_cursor_Cursor_start(p), intervals);
+}
+
+/* clearance::read, crates/clearance/src/lib.rt: As `codec::reader::read`. */
+static struct clearance_ClearCount clearance_read(struct timing_Profile p, struct slice_u16 intervals,
+        struct slice_u16_mut out) {
+    struct refusal_Counted t6 = codec_reader_read(p, intervals, out);
+    if (t6.tag == refusal_Counted_Refused) {
+        return (struct clearance_ClearCount){.counted = {.tag = refusal_Counted_Refused, .u.Refused = t6.u.Refused},
+                .clearance = 0};
+    }
+    return (struct clearance_ClearCount){.counted = {.tag = refusal_Counted_Count, .u.Count = t6.u.Count},
+            .clearance = clearance_least_of_list(p, intervals)};
+}
+
+/* clearance::read_field, crates/clearance/src/lib.rt: As `fields::reader::read_field`. */
+static struct clearance_ClearFieldRead clearance_read_field(struct timing_Profile p, struct slice_u16 intervals,
+        uint64_t n, struct slice_u16_mut out) {
+    struct fields_reader_FieldRead t9 = fields_reader_read_field(p, intervals, n, out);
+    if (t9.tag == fields_reader_FieldRead_Refused) {
+        return (struct clearance_ClearFieldRead){.read = {.tag = fields_reader_FieldRead_Refused,
+                .u.Refused = t9.u.Refused}, .clearance = 0};
+    }
+    uint64_t used = t9.u.Field.used;
+    return (struct clearance_ClearFieldRead){.read = {.tag = fields_reader_FieldRead_Field,
+            .u.Field = {.count = t9.u.Field.count, .used = used, .holds = t9.u.Field.holds}},
+            .clearance = clearance_least_of_list(p, slice_u16(intervals.at, used))};
+}
+
+/* The crate limits */
+
+/* limits::side::bounds, crates/limits/src/side.rt */
+static struct timing_Bounds limits_side_bounds(struct timing_Profile p, struct limits_side_Kind after) {
+    switch (after.tag) {
+    case limits_side_Kind_Both: return p.short_;
+    case limits_side_Kind_Short: return p.short_;
+    default: return p.long_; /* limits_side_Kind_Long */
+    }
+}
+
+/*
+ * limits::side::counts, crates/limits/src/side.rt
+ * Whether the lengths after a cell of class 2, or after any other, are among those of the kind.
+ */
+static bool limits_side_counts(struct limits_side_Kind after, bool two) {
+    switch (after.tag) {
+    case limits_side_Kind_Both: return true;
+    case limits_side_Kind_Short: return two;
+    default: return !two; /* limits_side_Kind_Long */
+    }
+}
+
+/* limits::side::edge_of, crates/limits/src/side.rt */
+static uint16_t limits_side_edge_of(struct timing_Profile p, struct limits_side_Edge edge,
+        struct limits_side_Kind after) {
+    struct timing_Bounds pair = limits_side_bounds(p, after);
+    switch (edge.tag) {
+    case limits_side_Edge_Min: return p.min.f0;
+    case limits_side_Edge_B23: return pair.b23.f0;
+    case limits_side_Edge_B34: return pair.b34.f0;
+    default: return p.rpt.f0; /* limits_side_Edge_Rpt */
+    }
+}
+
+/* limits::side::beyond, crates/limits/src/side.rt: The first length on the other side of the edge. */
+static uint16_t limits_side_beyond(struct timing_Profile p, struct limits_side_Side s) {
+    struct limits_side_Edge edge = s.edge;
+    struct limits_side_Kind after = s.after;
+    uint16_t there = limits_side_edge_of(p, edge, after);
+    if (s.above) {
+        if (there < 1) return 0;
+        return there - 1;
+    }
+    return there;
+}
+
+/* limits::side::is_two, crates/limits/src/side.rt: Whether the next interval is of class 2. */
+static bool limits_side_is_two(struct timing_Profile p, bool two, uint16_t length) {
+    struct timing_Class class = timing_cursor_Cursor_step(timing_cursor_Cursor_after(p, two), length).class;
+    return timing_Class_number(class) == 2;
+}
+
+/*
+ * limits::side::reaches, crates/limits/src/side.rt
+ * Whether a length is on that side of an edge, and on the other if it is moved towards it by n.
+ */
+static bool limits_side_reaches(bool above, uint16_t edge, uint16_t n, uint16_t length) {
+    if (above) return (edge <= length) & ((uint32_t)length < (uint32_t)edge + (uint32_t)n);
+    return (length < edge) & ((uint32_t)edge <= (uint32_t)length + (uint32_t)n);
+}
+
+/*
+ * limits::side::crosses, crates/limits/src/side.rt
+ * Whether a length, after a cell of class 2 or after any other, crosses the edge from that side if moved by n.
+ */
+static bool limits_side_crosses(struct timing_Profile p, struct limits_side_Side s, uint16_t n, bool two,
+        uint16_t length) {
+    struct limits_side_Edge edge = s.edge;
+    struct limits_side_Kind after = s.after;
+    bool t8 = limits_side_counts(after, two);
+    return t8 & limits_side_reaches(s.above, limits_side_edge_of(p, edge, after), n, length);
+}
+
+/* limits::search::first_seen, crates/limits/src/search.rt: The first of some intervals that crosses. */
+static struct limits_search_Seen limits_search_first_seen(struct timing_Profile p, struct limits_side_Side s,
+        uint16_t n, uint16_t item, struct slice_u16 intervals) {
+    bool two = true;
+    uint64_t k = 0;
+    while (k < intervals.len) {
+        uint16_t d = intervals.at[k];
+        if (limits_side_crosses(p, s, n, two, d)) {
+            return (struct limits_search_Seen){.tag = limits_search_Seen_At,
+                    .u.At = {.item = item, .interval = (uint16_t)k}};
+        }
+        two = limits_side_is_two(p, two, d);
+        k++;
+    }
+    return (struct limits_search_Seen){.tag = limits_search_Seen_Nowhere};
+}
+
+/* limits::search::seen_in, crates/limits/src/search.rt: A byte ends eight cells at most and the closing 0s two. */
+static struct limits_search_Seen limits_search_seen_in(struct timing_Profile p, struct limits_side_Side s, uint16_t n,
+        uint16_t item) {
+    struct array_u16_1 items = {{item}};
+    struct array_u16_10 out = {0};
+    struct refusal_Counted t8 = codec_writer_write(p, slice_u16(items.a, 1), slice_u16_mut(out.a, 10));
+    if (t8.tag == refusal_Counted_Refused) {
+        return (struct limits_search_Seen){.tag = limits_search_Seen_Nowhere};
+    }
+    return limits_search_first_seen(p, s, n, item, slice_u16(out.a, t8.u.Count));
+}
+
+/*
+ * limits::search::search, crates/limits/src/search.rt
+ * Of all lengths that any list can have, those nearest to the edges stand in the lists up to 1B: no side is missed.
+ */
+static struct limits_search_Seen limits_search_search(struct timing_Profile p, struct limits_side_Side s, uint16_t n) {
+    uint16_t item = 0;
+    while (item <= 27) {
+        struct limits_search_Seen seen = limits_search_seen_in(p, s, n, item);
+        if (seen.tag == limits_search_Seen_At) return seen;
+        item++;
+    }
+    return (struct limits_search_Seen){.tag = limits_search_Seen_Nowhere};
+}
+
+/* limits::push, crates/limits/src/lib.rt: One side more: named with its evidence where some list shows it. */
+static struct limits_Limits limits_push(struct timing_Profile p, uint16_t n, struct limits_Limits made,
+        struct limits_side_Edge edge, struct limits_side_Kind after, bool above) {
+    struct limits_side_Side side = {.edge = edge, .after = after, .above = above};
+    uint64_t at = made.count;
+    struct array_limits_Limit_10 limits = made.limits;
+    struct limits_search_Seen t13 = limits_search_search(p, side, n);
+    if (t13.tag == limits_search_Seen_Nowhere) return made;
+    uint16_t item = t13.u.At.item;
+    uint16_t interval = t13.u.At.interval;
+    if (at < 10) {
+        uint16_t moved = limits_side_beyond(p, side);
+        limits.a[at] = (struct limits_Limit){.side = side, .item = item, .interval = interval, .moved = moved};
+        return (struct limits_Limits){.count = at + 1, .limits = limits};
+    }
+    return made;
+}
+
+/*
+ * limits::push_both, crates/limits/src/lib.rt
+ * Both sides of an edge, after one kind: the lengths below it before those above.
+ */
+static struct limits_Limits limits_push_both(struct timing_Profile p, uint16_t n, struct limits_Limits made,
+        struct limits_side_Edge edge, struct limits_side_Kind after) {
+    struct limits_Limits below = limits_push(p, n, made, edge, after, false);
+    return limits_push(p, n, below, edge, after, true);
+}
+
+/* limits::gather, crates/limits/src/lib.rt: All sides, in document 02's order. */
+static struct limits_Limits limits_gather(struct timing_Profile p, uint16_t n) {
+    struct limits_Limit t12 = {.side = {.edge = {.tag = limits_side_Edge_Min}, .after = {.tag = limits_side_Kind_Both},
+            .above = false}, .item = 0, .interval = 0, .moved = 0};
+    struct array_limits_Limit_10 t13;
+    for (uint64_t each = 0; each < 10; each++) {
+        t13.a[each] = t12;
+    }
+    struct limits_Limits none = {.count = 0, .limits = t13};
+    struct limits_side_Kind t10 = {.tag = limits_side_Kind_Both};
+    struct limits_Limits min =
+            limits_push(p, n, none, (struct limits_side_Edge){.tag = limits_side_Edge_Min}, t10, true);
+    t10 = (struct limits_side_Kind){.tag = limits_side_Kind_Short};
+    struct limits_Limits b23_short =
+            limits_push_both(p, n, min, (struct limits_side_Edge){.tag = limits_side_Edge_B23}, t10);
+    t10 = (struct limits_side_Kind){.tag = limits_side_Kind_Long};
+    struct limits_Limits b23_long =
+            limits_push_both(p, n, b23_short, (struct limits_side_Edge){.tag = limits_side_Edge_B23}, t10);
+    t10 = (struct limits_side_Kind){.tag = limits_side_Kind_Short};
+    struct limits_Limits b34_short =
+            limits_push_both(p, n, b23_long, (struct limits_side_Edge){.tag = limits_side_Edge_B34}, t10);
+    t10 = (struct limits_side_Kind){.tag = limits_side_Kind_Long};
+    struct limits_Limits b34_long =
+            limits_push_both(p, n, b34_short, (struct limits_side_Edge){.tag = limits_side_Edge_B34}, t10);
+    t10 = (struct limits_side_Kind){.tag = limits_side_Kind_Both};
+    return limits_push(p, n, b34_long, (struct limits_side_Edge){.tag = limits_side_Edge_Rpt}, t10, false);
+}
+
+/* limits::margin_limits, crates/limits/src/lib.rt: 1, 2, as for the margin; else the sides that hold it down. */
+static struct limits_Held limits_margin_limits(struct timing_Profile p) {
+    struct refusal_Counted t6 = lengths_margin(p);
+    if (t6.tag == refusal_Counted_Refused) {
+        struct limits_Limit t12 = {.side = {.edge = {.tag = limits_side_Edge_Min},
+                .after = {.tag = limits_side_Kind_Both}, .above = false}, .item = 0, .interval = 0, .moved = 0};
+        struct array_limits_Limit_10 t13;
+        for (uint64_t each = 0; each < 10; each++) {
+            t13.a[each] = t12;
+        }
+        return (struct limits_Held){.answer = {.tag = refusal_Counted_Refused, .u.Refused = t6.u.Refused},
+                .limits = t13};
+    }
+    struct limits_Limits found = limits_gather(p, (uint16_t)t6.u.Count + 1);
+    struct array_limits_Limit_10 limits = found.limits;
+    return (struct limits_Held){.answer = {.tag = refusal_Counted_Count, .u.Count = found.count}, .limits = limits};
+}
+
+/* The crate ism */
+
+/* ism::answer, crates/ism/src/lib.rt */
+static ism_answer ism_answer_(struct refusal_Counted counted) {
+    uint32_t t2 = refusal_Counted_number(counted);
+    uint32_t t3 = refusal_Counted_place(counted);
+    return (ism_answer){.number = t2, .place = t3, .count = refusal_Counted_count(counted), .used = 0, .holds = 0,
+            .clearance = 0};
+}
+
+/* ism::clear_answer, crates/ism/src/lib.rt: A class or a strip, with its clearance. */
+static ism_answer ism_clear_answer(struct clearance_ClearCount given) {
+    struct refusal_Counted counted = given.counted;
+    uint32_t t3 = refusal_Counted_number(counted);
+    uint32_t t4 = refusal_Counted_place(counted);
+    return (ism_answer){.number = t3, .place = t4, .count = refusal_Counted_count(counted), .used = 0, .holds = 0,
+            .clearance = (uint32_t)given.clearance};
+}
+
+/* ism::card::edge_number, crates/ism/src/card.rt */
+static uint16_t ism_card_edge_number(struct limits_side_Edge edge) {
+    switch (edge.tag) {
+    case limits_side_Edge_Min: return 1;
+    case limits_side_Edge_B23: return 2;
+    case limits_side_Edge_B34: return 3;
+    default: return 4; /* limits_side_Edge_Rpt */
+    }
+}
+
+/* ism::disk::field_answer, crates/ism/src/disk.rt */
+static ism_answer ism_disk_field_answer(struct clearance_ClearFieldRead field) {
+    struct fields_reader_FieldRead read = field.read;
+    if (read.tag == fields_reader_FieldRead_Field) {
+        return (ism_answer){.number = 0, .place = 0, .count = read.u.Field.count, .used = read.u.Field.used,
+                .holds = (uint32_t)read.u.Field.holds, .clearance = (uint32_t)field.clearance};
+    }
+    struct refusal_Refusal refusal = read.u.Refused;
+    uint32_t t12 = refusal_Refusal_number(refusal);
+    return (ism_answer){.number = t12, .place = refusal_Refusal_place(refusal), .count = 0, .used = 0, .holds = 0,
+            .clearance = (uint32_t)field.clearance};
+}
+
+/* ism::queue::ism_fifo_chip_put, crates/ism/src/queue.rt */
+static ism_fifo_answer ism_queue_ism_fifo_chip_put(ism_fifo queue, uint16_t item) {
+    return fifo_Fifo_chip_put(queue, item);
+}
+
+/* ism::queue::ism_fifo_chip_take, crates/ism/src/queue.rt */
+static ism_fifo_answer ism_queue_ism_fifo_chip_take(ism_fifo queue) {
+    return fifo_Fifo_chip_take(queue);
+}
+
+/* ism::queue::ism_fifo_new, crates/ism/src/queue.rt */
+static ism_fifo ism_queue_ism_fifo_new(uint16_t mode) {
+    return fifo_Fifo_new(mode);
+}
+
+/* ism::queue::ism_fifo_put, crates/ism/src/queue.rt */
+static ism_fifo_answer ism_queue_ism_fifo_put(ism_fifo queue, uint16_t item) {
+    return fifo_Fifo_put(queue, item);
+}
+
+/* ism::queue::ism_fifo_read_error, crates/ism/src/queue.rt */
+static ism_fifo_answer ism_queue_ism_fifo_read_error(ism_fifo queue) {
+    return fifo_Fifo_read_error(queue);
+}
+
+/* ism::queue::ism_fifo_take_data, crates/ism/src/queue.rt */
+static ism_fifo_answer ism_queue_ism_fifo_take_data(ism_fifo queue) {
+    return fifo_Fifo_take_data(queue);
+}
+
+/* ism::queue::ism_fifo_take_mark, crates/ism/src/queue.rt */
+static ism_fifo_answer ism_queue_ism_fifo_take_mark(ism_fifo queue) {
+    return fifo_Fifo_take_mark(queue);
+}
+
+/*
+ * ism::version::ism_interface_9, crates/ism/src/version.rt
+ * Its name is what counts: a program asks the linker for the interface that it was compiled against.
+ */
+static uint32_t ism_version_ism_interface_9(void) {
+    return 9;
+}
+
+/* ism::image::ism_make_image, crates/ism/src/image.rt */
+static ism_answer ism_image_ism_make_image(struct slice_u16 items, struct slice_u16_mut out) {
+    struct refusal_Counted counted = images_make_make_image(items, out);
+    return ism_answer_(counted);
+}
+
+/* ism::disk::ism_make_sector, crates/ism/src/disk.rt */
+static ism_answer ism_disk_ism_make_sector(uint8_t track, uint8_t side, uint8_t sector, uint8_t code,
+        struct slice_u8 bytes, struct slice_u16_mut out) {
+    struct refusal_Counted counted = sectors_make_sector(track, side, sector, code, bytes, out);
+    return ism_answer_(counted);
+}
+
+/* ism::image::ism_read_image, crates/ism/src/image.rt */
+static ism_answer ism_image_ism_read_image(struct slice_u16 words, struct slice_u16_mut out) {
+    struct refusal_Counted counted = images_read_read_image(words, out);
+    return ism_answer_(counted);
+}
+
+/* ism::version::ism_version, crates/ism/src/version.rt */
+static uint32_t ism_version_ism_version(void) {
+    return 1000;
+}
+
+/* ism::card::kind_number, crates/ism/src/card.rt */
+static uint16_t ism_card_kind_number(struct limits_side_Kind after) {
+    switch (after.tag) {
+    case limits_side_Kind_Both: return 0;
+    case limits_side_Kind_Short: return 1;
+    default: return 2; /* limits_side_Kind_Long */
+    }
+}
+
+/* ism::passes::merged_answer, crates/ism/src/passes.rt */
+static ism_answer ism_passes_merged_answer(struct merge_Merged merged) {
+    if (merged.tag == merge_Merged_Set) {
+        return (ism_answer){.number = 0, .place = 0, .count = merged.u.Set.count, .used = merged.u.Set.bytes,
+                .holds = 0, .clearance = 0};
+    }
+    struct refusal_Refusal refusal = merged.u.Refused;
+    uint32_t t8 = refusal_Refusal_number(refusal);
+    return (ism_answer){.number = t8, .place = refusal_Refusal_place(refusal), .count = 0, .used = 0, .holds = 0,
+            .clearance = 0};
+}
+
+/* ism::passes::ism_merge, crates/ism/src/passes.rt */
+static ism_answer ism_passes_ism_merge(struct slice_u8 first, struct slice_u8 second, struct slice_u8_mut out) {
+    struct merge_Merged merged = merge_merge_sets(first, second, out);
+    return ism_passes_merged_answer(merged);
+}
+
+/* ism::drive::numbers, crates/ism/src/drive.rt */
+static struct array_u64_4 ism_drive_numbers(ism_report_row row) {
+    return (struct array_u64_4){{row.count, row.least, row.greatest, row.sum}};
+}
+
+/* ism::card::numbers_of, crates/ism/src/card.rt */
+static ism_limit ism_card_numbers_of(struct limits_Limit limit) {
+    struct limits_side_Side side = limit.side;
+    struct limits_side_Edge edge = side.edge;
+    struct limits_side_Kind after = side.after;
+    uint16_t t5 = ism_card_edge_number(edge);
+    return (ism_limit){.edge = t5, .after = ism_card_kind_number(after), .above = (uint16_t)side.above,
+            .item = limit.item, .interval = limit.interval, .moved = limit.moved};
+}
+
+/* ism::card::converted, crates/ism/src/card.rt: As many as are counted, in their places. */
+static struct array_ism_card_IsmLimit_10 ism_card_converted(struct array_limits_Limit_10 limits, uint64_t count) {
+    struct array_ism_card_IsmLimit_10 made = {0};
+    uint64_t k = 0;
+    while (k < count) {
+        made.a[k] = ism_card_numbers_of(limits.a[k]);
+        k++;
+    }
+    return made;
+}
+
+/* ism::profile, crates/ism/src/lib.rt */
+static struct timing_Profile ism_profile_(ism_profile p) {
+    struct array_u16_11 numbers =
+            {{p.t1, p.t0, p.early, p.normal, p.late, p.min, p.b23_short, p.b23_long, p.b34_short, p.b34_long, p.rpt}};
+    return timing_Profile_from_numbers(&numbers);
+}
+
+/* ism::ism_class, crates/ism/src/lib.rt */
+static ism_answer ism_ism_class(ism_profile p, uint16_t interval, uint32_t two) {
+    return ism_clear_answer(clearance_class_number(ism_profile_(p), interval, 0 < two));
+}
+
+/* ism::disk::ism_find, crates/ism/src/disk.rt */
+static ism_answer ism_disk_ism_find(ism_profile p, struct slice_u16 intervals, uint64_t start) {
+    return ism_answer_(fields_finder_find_lock(ism_profile_(p), intervals, start));
+}
+
+/* ism::index::ism_index_track, crates/ism/src/index.rt */
+static ism_index ism_index_ism_index_track(ism_profile p, struct slice_u16 intervals) {
+    return track_index_index_track(ism_profile_(p), intervals);
+}
+
+/* ism::ism_margin, crates/ism/src/lib.rt */
+static ism_answer ism_ism_margin(ism_profile p) {
+    return ism_answer_(lengths_margin(ism_profile_(p)));
+}
+
+/* ism::card::ism_margin_limits, crates/ism/src/card.rt: 1, 2; else the sides that hold the margin down. */
+static ism_limits ism_card_ism_margin_limits(ism_profile p) {
+    struct limits_Held held = limits_margin_limits(ism_profile_(p));
+    struct refusal_Counted counted = held.answer;
+    struct array_limits_Limit_10 found = held.limits;
+    ism_answer told = ism_answer_(counted);
+    struct array_ism_card_IsmLimit_10 limits = ism_card_converted(found, told.count);
+    ism_limits result;
+    result.number = told.number;
+    result.place = told.place;
+    result.count = told.count;
+    for (uint64_t each = 0; each < 10; each++) {
+        result.limits[each] = limits.a[each];
+    }
+    return result;
+}
+
+/* ism::ism_read, crates/ism/src/lib.rt */
+static ism_answer ism_ism_read(ism_profile p, struct slice_u16 intervals, struct slice_u16_mut out) {
+    struct clearance_ClearCount strip = clearance_read(ism_profile_(p), intervals, out);
+    return ism_clear_answer(strip);
+}
+
+/* ism::disk::ism_read_field, crates/ism/src/disk.rt */
+static ism_answer ism_disk_ism_read_field(ism_profile p, struct slice_u16 intervals, uint64_t bytes,
+        struct slice_u16_mut out) {
+    struct clearance_ClearFieldRead field = clearance_read_field(ism_profile_(p), intervals, bytes, out);
+    return ism_disk_field_answer(field);
+}
+
+/* ism::ism_write, crates/ism/src/lib.rt */
+static ism_answer ism_ism_write(ism_profile p, struct slice_u16 items, struct slice_u16_mut out) {
+    struct refusal_Counted counted = codec_writer_write(ism_profile_(p), items, out);
+    return ism_answer_(counted);
+}
+
+/* ism::drive::row, crates/ism/src/drive.rt */
+static ism_report_row ism_drive_row(struct array_u64_4 numbers) {
+    return (ism_report_row){.count = numbers.a[0], .least = numbers.a[1], .greatest = numbers.a[2],
+            .sum = numbers.a[3]};
+}
+
+/* ism::drive::given, crates/ism/src/drive.rt */
+static ism_report ism_drive_given(struct refusal_Verdict verdict, struct array_u64_4_5 report) {
+    ism_report_row t6 = ism_drive_row(report.a[0]);
+    ism_report_row t10 = ism_drive_row(report.a[1]);
+    ism_report_row t14 = ism_drive_row(report.a[2]);
+    ism_report_row t18 = ism_drive_row(report.a[3]);
+    struct array_ism_drive_IsmReportRow_5 rows = {{t6, t10, t14, t18, ism_drive_row(report.a[4])}};
+    ism_report t26;
+    if (verdict.tag == refusal_Verdict_Accepted) {
+        t26.number = 0;
+        t26.place = 0;
+        for (uint64_t each = 0; each < 5; each++) {
+            t26.rows[each] = rows.a[each];
+        }
+        return t26;
+    }
+    struct refusal_Refusal refusal = verdict.u.Refused;
+    uint32_t t27 = refusal_Refusal_number(refusal);
+    t26.number = t27;
+    t26.place = refusal_Refusal_place(refusal);
+    for (uint64_t each = 0; each < 5; each++) {
+        t26.rows[each] = rows.a[each];
+    }
+    return t26;
+}
+
+/* ism::drive::ism_drive_report, crates/ism/src/drive.rt */
+static ism_report ism_drive_ism_drive_report(ism_profile p, struct slice_u16 intervals) {
+    struct refusal_Verdict verdict = report_check_list(ism_profile_(p), intervals);
+    return ism_drive_given(verdict, report_report_list(ism_profile_(p), intervals));
+}
+
+/* ism::drive::rows, crates/ism/src/drive.rt: The rows of a report that came in, whatever its number and place. */
+static struct array_u64_4_5 ism_drive_rows(ism_report report) {
+    struct array_ism_drive_IsmReportRow_5 rows;
+    for (uint64_t each = 0; each < 5; each++) {
+        rows.a[each] = report.rows[each];
+    }
+    struct array_u64_4 t3 = ism_drive_numbers(rows.a[0]);
+    struct array_u64_4 t7 = ism_drive_numbers(rows.a[1]);
+    struct array_u64_4 t11 = ism_drive_numbers(rows.a[2]);
+    struct array_u64_4 t15 = ism_drive_numbers(rows.a[3]);
+    return (struct array_u64_4_5){{t3, t7, t11, t15, ism_drive_numbers(rows.a[4])}};
+}
+
+/* ism::drive::ism_add_reports, crates/ism/src/drive.rt */
+static ism_report ism_drive_ism_add_reports(ism_report a, ism_report b) {
+    struct array_u64_4_5 first = ism_drive_rows(a);
+    struct array_u64_4_5 second = ism_drive_rows(b);
+    struct refusal_Verdict verdict = report_check_sum(first, second);
+    return ism_drive_given(verdict, report_add(first, second));
+}
+
+/* The entries that ism.h declares. A slice of no elements points to something, as the caller's may be null. */
+
+uint32_t ism_version(void) {
+    return ism_version_ism_version();
+}
+
+uint32_t ism_interface_9(void) {
+    return ism_version_ism_interface_9();
+}
+
+ism_answer ism_margin(ism_profile profile) {
+    return ism_ism_margin(profile);
+}
+
+ism_limits ism_margin_limits(ism_profile profile) {
+    return ism_card_ism_margin_limits(profile);
+}
+
+ism_answer ism_class(ism_profile profile, uint16_t interval, uint32_t after_short) {
+    return ism_ism_class(profile, interval, after_short);
+}
+
+ism_answer ism_write(ism_profile profile, const uint16_t *items, size_t n, uint16_t *out, size_t room) {
+    uint16_t none_u16 = 0;
+    return ism_ism_write(profile, slice_u16(n == 0 ? &none_u16 : items, n),
+            slice_u16_mut(room == 0 ? &none_u16 : out, room));
+}
+
+ism_answer ism_read(ism_profile profile, const uint16_t *intervals, size_t n, uint16_t *out, size_t room) {
+    uint16_t none_u16 = 0;
+    return ism_ism_read(profile, slice_u16(n == 0 ? &none_u16 : intervals, n),
+            slice_u16_mut(room == 0 ? &none_u16 : out, room));
+}
+
+ism_answer ism_find(ism_profile profile, const uint16_t *intervals, size_t n, uint64_t start) {
+    uint16_t none_u16 = 0;
+    return ism_disk_ism_find(profile, slice_u16(n == 0 ? &none_u16 : intervals, n), start);
+}
+
+ism_answer ism_read_field(ism_profile profile, const uint16_t *intervals, size_t n, uint64_t bytes, uint16_t *out,
+        size_t room) {
+    uint16_t none_u16 = 0;
+    return ism_disk_ism_read_field(profile, slice_u16(n == 0 ? &none_u16 : intervals, n), bytes,
+            slice_u16_mut(room == 0 ? &none_u16 : out, room));
+}
+
+ism_answer ism_make_sector(uint8_t track, uint8_t side, uint8_t sector, uint8_t code, const uint8_t *data, size_t n,
+        uint16_t *out, size_t room) {
+    uint8_t none_u8 = 0;
+    uint16_t none_u16 = 0;
+    return ism_disk_ism_make_sector(track, side, sector, code, slice_u8(n == 0 ? &none_u8 : data, n),
+            slice_u16_mut(room == 0 ? &none_u16 : out, room));
+}
+
+ism_index ism_index_track(ism_profile profile, const uint16_t *intervals, size_t n) {
+    uint16_t none_u16 = 0;
+    return ism_index_ism_index_track(profile, slice_u16(n == 0 ? &none_u16 : intervals, n));
+}
+
+ism_answer ism_make_image(const uint16_t *items, size_t n, uint16_t *words, size_t room) {
+    uint16_t none_u16 = 0;
+    return ism_image_ism_make_image(slice_u16(n == 0 ? &none_u16 : items, n),
+            slice_u16_mut(room == 0 ? &none_u16 : words, room));
+}
+
+ism_answer ism_read_image(const uint16_t *words, size_t n, uint16_t *items, size_t room) {
+    uint16_t none_u16 = 0;
+    return ism_image_ism_read_image(slice_u16(n == 0 ? &none_u16 : words, n),
+            slice_u16_mut(room == 0 ? &none_u16 : items, room));
+}
+
+ism_answer ism_merge(const uint8_t *first, size_t n, const uint8_t *second, size_t m, uint8_t *out, size_t room) {
+    uint8_t none_u8 = 0;
+    return ism_passes_ism_merge(slice_u8(n == 0 ? &none_u8 : first, n), slice_u8(m == 0 ? &none_u8 : second, m),
+            slice_u8_mut(room == 0 ? &none_u8 : out, room));
+}
+
+ism_report ism_drive_report(ism_profile profile, const uint16_t *intervals, size_t n) {
+    uint16_t none_u16 = 0;
+    return ism_drive_ism_drive_report(profile, slice_u16(n == 0 ? &none_u16 : intervals, n));
+}
+
+ism_report ism_add_reports(ism_report a, ism_report b) {
+    return ism_drive_ism_add_reports(a, b);
+}
+
+ism_fifo ism_fifo_new(uint16_t mode) {
+    return ism_queue_ism_fifo_new(mode);
+}
+
+ism_fifo_answer ism_fifo_put(ism_fifo fifo, uint16_t item) {
+    return ism_queue_ism_fifo_put(fifo, item);
+}
+
+ism_fifo_answer ism_fifo_chip_put(ism_fifo fifo, uint16_t item) {
+    return ism_queue_ism_fifo_chip_put(fifo, item);
+}
+
+ism_fifo_answer ism_fifo_take_data(ism_fifo fifo) {
+    return ism_queue_ism_fifo_take_data(fifo);
+}
+
+ism_fifo_answer ism_fifo_take_mark(ism_fifo fifo) {
+    return ism_queue_ism_fifo_take_mark(fifo);
+}
+
+ism_fifo_answer ism_fifo_chip_take(ism_fifo fifo) {
+    return ism_queue_ism_fifo_chip_take(fifo);
+}
+
+ism_fifo_answer ism_fifo_read_error(ism_fifo fifo) {
+    return ism_queue_ism_fifo_read_error(fifo);
+}
