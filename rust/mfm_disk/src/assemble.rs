@@ -174,6 +174,15 @@ mod tests {
     }
 
     #[test]
+    fn a_sector_of_another_length_code_is_not_taken() {
+        let mut longer = found(2, 12, true);
+        longer.id.code = 2;
+        longer.data = Data::Own { at: 280, holds: true, bytes: vec![12; 512] };
+        let image = assemble(&GEOMETRY, &[&pass(vec![found(1, 11, true), longer, found(3, 13, true)])]);
+        assert_eq!((bytes(&image), whys(&image)), ([11, UNREAD_BYTE, 13], vec![(2, "it has length code 2, not 1")]));
+    }
+
+    #[test]
     fn good_copies_that_differ_are_at_odds_and_the_others_are_kept() {
         let image = assemble(
             &GEOMETRY,

@@ -79,3 +79,38 @@ fn fill_gaps(words: &mut [u16], first: usize, end: usize) {
     words[..first].fill(gap[0]);
     words[end..].fill(gap[0]);
 }
+
+#[cfg(test)]
+mod tests {
+    use super::*;
+
+    fn words(sectors: usize) -> Vec<u16> {
+        let geometry = Geometry { sides: 1, tracks: 1, sectors, code: 2, first: 1 };
+        let rate = rate_for(&geometry).unwrap();
+        let data = vec![0xE5; geometry.image_bytes()];
+        let turn = turn_of(&geometry, Place { track: 0, side: 0 }, rate, &data).unwrap();
+        turn.cells.chunks(2).map(|pair| u16::from_be_bytes([pair[0], pair[1]])).collect()
+    }
+
+    #[test]
+    fn a_turn_has_its_length_and_gap_bytes_around_the_sectors() {
+        let gap = u16::from_be_bytes(crate::disk::GAP_CELLS);
+        for (sectors, length) in [(1, 6_250), (9, 6_250), (11, 12_500), (18, 12_500)] {
+            let words = words(sectors);
+            let end = FIRST_GAP + sectors * (512 + OVERHEAD);
+            assert_eq!(words.len(), length);
+            // the first gap byte behind the sum may come after a 1
+            assert!(words[..FIRST_GAP].iter().chain(&words[end - 53..]).all(|word| *word == gap));
+            assert_eq!((words[FIRST_GAP], words[FIRST_GAP + 12]), (0xAAAA, 0x4489));
+        }
+    }
+
+    #[test]
+    fn ten_sectors_fit_where_the_last_gap_is_cut() {
+        let words = words(10);
+        assert_eq!((words.len(), words[0], words[12]), (6_250, 0xAAAA, 0x4489));
+        assert_eq!(words[6_250 - 23..], [0x9254; 23], "24 of the last 54 gap bytes are left");
+        assert_eq!(crate::disk::data_bits(words[6_250 - 24]), 0x4E);
+        assert_ne!(words[6_250 - 25], 0x9254);
+    }
+}
