@@ -1,7 +1,7 @@
 #!/usr/bin/env bash
 # A raw image becomes a disk that an emulator mounts, and back; a pass loses sectors, and a second one gives them.
-# MFM_DISK is the program, by default target/cargo/release/mfm_disk; the files are made in a folder that is taken away at
-# the end.
+# MFM_DISK is the program, by default target/cargo/release/mfm_disk; the files are made in a folder that is taken away
+# at the end.
 set -u
 program=$(realpath "${MFM_DISK:-$(dirname "$0")/../target/cargo/release/mfm_disk}")
 folder=$(mktemp -d)
