@@ -58,6 +58,10 @@ pub fn other_entries() -> Vec<Entry> {
             "margin_limits",
             Box::new(|| Answer { number: unsafe { ism_margin_limits(PROFILE) }.number, ..nothing() }),
         ),
+        (
+            "best_windows",
+            Box::new(|| Answer { number: unsafe { ism_best_windows(58, 29, 8, 10, 12) }.number, ..nothing() }),
+        ),
         ("class", Box::new(|| unsafe { ism_class(PROFILE, 100, 1) })),
         (
             "add_reports",
