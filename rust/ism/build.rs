@@ -9,16 +9,10 @@ use std::process::Command;
 fn main() {
     println!("cargo:rerun-if-env-changed=ISM_LIB_DIR");
     let root = Path::new(&word("CARGO_MANIFEST_DIR")).join("../..");
-    let folder = match env::var_os("ISM_LIB_DIR") {
-        Some(named) => PathBuf::from(named),
-        None => proved(&root).unwrap_or_else(|| compiled(&root)),
+    let folder = match env::var_os("ISM_LIB_DIR").map(PathBuf::from).or_else(|| proved(&root)) {
+        Some(folder) => given(folder),
+        None => compiled(&root),
     };
-    let library = folder.join("libism.a");
-    if !library.is_file() {
-        eprintln!("libism.a is not in {}: build it with `rt staticlib ism`, or unset ISM_LIB_DIR", folder.display());
-        std::process::exit(1);
-    }
-    println!("cargo:rerun-if-changed={}", library.display());
     println!("cargo:rustc-link-search=native={}", folder.display());
     println!("cargo:rustc-link-lib=static=ism");
 }
@@ -26,6 +20,17 @@ fn main() {
 /// A variable that cargo sets.
 fn word(name: &str) -> String {
     env::var(name).unwrap_or_else(|_| panic!("cargo sets {name}"))
+}
+
+/// A folder that has the library.
+fn given(folder: PathBuf) -> PathBuf {
+    let library = folder.join("libism.a");
+    if !library.is_file() {
+        eprintln!("libism.a is not in {}: build it with `rt staticlib ism`, or unset ISM_LIB_DIR", folder.display());
+        std::process::exit(1);
+    }
+    println!("cargo:rerun-if-changed={}", library.display());
+    folder
 }
 
 /// The folder of the library that was proved and built here, if it is for the target.
