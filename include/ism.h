@@ -12,8 +12,8 @@
  *
  *   The same proved functions come as libism.a, for x86-64 (System V calling convention), and as portable/ism.c, one
  *   file of strict C99 for any processor. Proved is the MIR of every function, its code on Rattle's abstract machine.
- *   Not proved are the kit's back end for the one, the translator and your compiler for the other. 69,000 seeded calls
- *   of all functions were compared: portable/ism.c answers as libism.a does on x86-64, aarch64, 32-bit ARM, riscv64,
+ *   Not proved are the kit's back end for the one, the translator and your compiler for the other. 3,000 seeded calls
+ *   of each function were compared: portable/ism.c answers as libism.a does on x86-64, aarch64, 32-bit ARM, riscv64,
  *   big-endian PowerPC and a bare Cortex-M4, all but the first under emulation. No board was tried.
  *
  *   No state, no heap, no input or output. The library calls memcpy and memset and nothing else: firmware without a C
