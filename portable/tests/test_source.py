@@ -1,7 +1,9 @@
+import tempfile
 import unittest
+from pathlib import Path
 
 from . import making  # noqa: F401, for the path
-from translator.source import Names, bound, read_file, tokens_of, variables_of
+from translator.source import Names, bound, read_crates, read_file, tokens_of, variables_of
 
 TEXT = """
 // The head of the file.
@@ -93,3 +95,16 @@ class Types(unittest.TestCase):
     def test_enums(self):
         found = read().types["crate::module::Found"]
         self.assertEqual(found.variants, [("Nothing", []), ("At", [None]), ("Field", ["place", "holds"])])
+
+
+class Crates(unittest.TestCase):
+    def test_modules_go_by_their_files(self):
+        with tempfile.TemporaryDirectory() as root:
+            for file in ("lib", "part", "deep/part"):
+                path = Path(root, "crates", "c", "src", f"{file}.rt")
+                path.parent.mkdir(parents=True, exist_ok=True)
+                path.write_text("#[no_mangle]\nfn f() {}\nfn g() {}\n", encoding="utf-8")
+            functions = read_crates(root).functions
+        self.assertEqual({name for name in functions if functions[name].exported},
+                         {"c::f", "c::part::f", "c::deep::part::f"})
+        self.assertEqual(functions["c::deep::part::g"].file, "crates/c/src/deep/part.rt")

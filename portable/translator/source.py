@@ -226,8 +226,8 @@ def read_file(text, path, file, names):
 def read_crates(root):
     """The names of every crate of the repository."""
     names = Names()
-    for path in sorted(Path(root, "crates").glob("*/src/*.rt")):
-        module = [] if path.stem in ("lib", "main") else [path.stem]
-        file = path.relative_to(root).as_posix()
-        read_file(path.read_text(encoding="utf-8"), [path.parent.parent.name, *module], file, names)
+    for path in sorted(Path(root, "crates").glob("*/src/**/*.rt")):
+        crate, _, *folders, file = path.relative_to(Path(root, "crates")).parts
+        module = folders + ([] if file in ("lib.rt", "main.rt") else [path.stem])
+        read_file(path.read_text(encoding="utf-8"), [crate, *module], path.relative_to(root).as_posix(), names)
     return names
