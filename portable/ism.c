@@ -34,6 +34,12 @@ FIELD(ism_answer, used, 16, 8);
 FIELD(ism_answer, holds, 24, 4);
 FIELD(ism_answer, clearance, 28, 4);
 
+SIZE(ism_best, 40);
+FIELD(ism_best, number, 0, 4);
+FIELD(ism_best, place, 4, 4);
+FIELD(ism_best, margin, 8, 8);
+FIELD(ism_best, profile, 16, 22);
+
 SIZE(ism_fifo, 10);
 FIELD(ism_fifo, mode, 0, 2);
 FIELD(ism_fifo, held, 2, 2);
@@ -360,6 +366,28 @@ struct array_u16_10 {
 
 struct array_u16_64 {
     uint16_t a[64];
+};
+
+/* best::Writing, crates/best/src/lib.rt */
+struct best_Writing {
+    struct timing_HalfClocks t1;
+    struct timing_HalfClocks t0;
+    struct timing_Clocks early;
+    struct timing_Clocks normal;
+    struct timing_Clocks late;
+};
+
+/* best::windows::Shifts, crates/best/src/windows.rt */
+struct best_windows_Shifts {
+    uint16_t d;
+    uint16_t e;
+    uint16_t l;
+};
+
+/* best::Best, crates/best/src/lib.rt */
+struct best_Best {
+    struct refusal_Counted answer;
+    struct timing_Profile profile;
 };
 
 struct array_u64_4 {
@@ -2727,6 +2755,111 @@ static struct array_u16_64 lengths_table_length_table(struct timing_Profile p) {
     return table;
 }
 
+/* The crate best */
+
+/* best::windows::least, crates/best/src/windows.rt */
+static uint16_t best_windows_least(uint16_t a, uint16_t b) {
+    if (a < b) return a;
+    return b;
+}
+
+/*
+ * best::windows::middle, crates/best/src/windows.rt
+ * The bound in the middle between the nearest lengths on its two sides; the lower of two.
+ */
+static uint16_t best_windows_middle(uint16_t below, uint16_t above) {
+    return (below + above + 1) / 2;
+}
+
+/*
+ * best::trial::trial, crates/best/src/trial.rt
+ * The five numbers with windows that are in range, so that `timing` can be asked about the five.
+ */
+static struct timing_Profile best_trial_trial(struct best_Writing w) {
+    return (struct timing_Profile){.t1 = {.f0 = w.t1.f0}, .t0 = {.f0 = w.t0.f0}, .early = {.f0 = w.early.f0},
+            .normal = {.f0 = w.normal.f0}, .late = {.f0 = w.late.f0}, .min = {.f0 = 1},
+            .short_ = {.b23 = {.f0 = 1}, .b34 = {.f0 = 1}}, .long_ = {.b23 = {.f0 = 1}, .b34 = {.f0 = 1}},
+            .rpt = {.f0 = 1}};
+}
+
+/*
+ * best::trial::lowest_unset, crates/best/src/trial.rt
+ * Which of the five is the first out of range, from 1; 0 for none.
+ */
+static uint32_t best_trial_lowest_unset(struct best_Writing w) {
+    struct refusal_Verdict t3 = timing_rule_check(best_trial_trial(w));
+    if (t3.tag == refusal_Verdict_Accepted) return 0;
+    struct refusal_Refusal refusal = t3.u.Refused;
+    if (refusal_Refusal_number(refusal) == 1) return refusal_Refusal_place(refusal);
+    return 0;
+}
+
+/* best::windows::shifts_of, crates/best/src/windows.rt */
+static struct best_windows_Shifts best_windows_shifts_of(struct best_Writing w) {
+    struct timing_Profile p = best_trial_trial(w);
+    struct timing_HalfClocks t3 = timing_rule_swing(p);
+    struct timing_HalfClocks t4 = timing_rule_advance(p);
+    return (struct best_windows_Shifts){.d = t3.f0, .e = t4.f0, .l = timing_rule_delay(p).f0};
+}
+
+/* best::windows::best_margin, crates/best/src/windows.rt: The largest margin that any windows have. */
+static uint16_t best_windows_best_margin(struct best_Writing w) {
+    struct best_windows_Shifts s = best_windows_shifts_of(w);
+    return best_windows_least(w.t1.f0 - s.d - 1, (w.t0.f0 - s.l - 1) / 2);
+}
+
+/*
+ * best::windows::centred, crates/best/src/windows.rt
+ * Each bound in the middle, Min and Rpt as far out as the margin needs.
+ */
+static struct timing_Profile best_windows_centred(struct best_Writing w, uint16_t margin) {
+    struct best_windows_Shifts s = best_windows_shifts_of(w);
+    uint16_t two = w.t1.f0;
+    uint16_t three = w.t1.f0 + w.t0.f0;
+    uint16_t four = w.t1.f0 + 2 * w.t0.f0;
+    uint16_t b23_short = best_windows_middle(two, three + s.e);
+    uint16_t b23_long = best_windows_middle(two - s.l, three);
+    uint16_t b34_short = best_windows_middle(three + s.d, four + s.e);
+    uint16_t b34_long = best_windows_middle(three + s.l, four);
+    struct timing_Bounds t24 = {.b23 = {.f0 = b23_long}, .b34 = {.f0 = b34_long}};
+    return (struct timing_Profile){.t1 = {.f0 = w.t1.f0}, .t0 = {.f0 = w.t0.f0}, .early = {.f0 = w.early.f0},
+            .normal = {.f0 = w.normal.f0}, .late = {.f0 = w.late.f0}, .min = {.f0 = two - s.d - margin},
+            .short_ = {.b23 = {.f0 = b23_short}, .b34 = {.f0 = b34_short}}, .long_ = t24,
+            .rpt = {.f0 = four + s.d + margin + 1}};
+}
+
+/* best::windows::has_windows, crates/best/src/windows.rt: Whether any windows are true. */
+static bool best_windows_has_windows(struct best_Writing w) {
+    struct best_windows_Shifts s = best_windows_shifts_of(w);
+    return (w.early.f0 <= w.normal.f0) & (w.normal.f0 <= w.late.f0) & (s.d < w.t1.f0) & (s.l < w.t0.f0);
+}
+
+/* best::best_windows, crates/best/src/lib.rt: 1, 2; else the profile with the largest margin. */
+static struct best_Best best_best_windows(struct best_Writing w) {
+    uint32_t which = best_trial_lowest_unset(w);
+    struct best_Best result;
+    if (which != 0) {
+        result = (struct best_Best){.answer = {.tag = refusal_Counted_Refused,
+                .u.Refused = {.tag = refusal_Refusal_ProfileOutOfRange, .u.ProfileOutOfRange = which}},
+                .profile = {.t1 = {.f0 = 0}, .t0 = {.f0 = 0}, .early = {.f0 = 0}, .normal = {.f0 = 0},
+                .late = {.f0 = 0}, .min = {.f0 = 0}, .short_ = {.b23 = {.f0 = 0}, .b34 = {.f0 = 0}},
+                .long_ = {.b23 = {.f0 = 0}, .b34 = {.f0 = 0}}, .rpt = {.f0 = 0}}};
+        return result;
+    }
+    if (best_windows_has_windows(w)) {
+        uint16_t margin = best_windows_best_margin(w);
+        struct timing_Profile profile = best_windows_centred(w, margin);
+        return (struct best_Best){.answer = {.tag = refusal_Counted_Count, .u.Count = (uint64_t)margin},
+                .profile = profile};
+    }
+    result = (struct best_Best){.answer = {.tag = refusal_Counted_Refused,
+            .u.Refused = {.tag = refusal_Refusal_ProfileInconsistent}},
+            .profile = {.t1 = {.f0 = 0}, .t0 = {.f0 = 0}, .early = {.f0 = 0}, .normal = {.f0 = 0}, .late = {.f0 = 0},
+            .min = {.f0 = 0}, .short_ = {.b23 = {.f0 = 0}, .b34 = {.f0 = 0}},
+            .long_ = {.b23 = {.f0 = 0}, .b34 = {.f0 = 0}}, .rpt = {.f0 = 0}}};
+    return result;
+}
+
 /* The crate report */
 
 /* report::check_list, crates/report/src/lib.rt: Whether a list of intervals has a report: 1, 2, 4. */
@@ -2903,6 +3036,12 @@ static struct track_id_IdRead track_id_four_bytes(struct slice_u16 items, uint64
             .code = (uint8_t)items.at[7], .used = used}};
 }
 
+/* track::order::goes_before, crates/track/src/order.rt */
+static bool track_order_goes_before(ism_index_entry a, ism_index_entry b) {
+    if (a.sector == b.sector) return a.id_place < b.id_place;
+    return a.sector < b.sector;
+}
+
 /* track::opening::opens_with, crates/track/src/opening.rt */
 static bool track_opening_opens_with(struct slice_u16 items, uint16_t kind) {
     return (items.at[0] == 417) & (items.at[1] == 417) & (items.at[2] == 417) & (items.at[3] == kind);
@@ -3023,54 +3162,65 @@ static struct track_Step track_find_entry(struct timing_Profile p, struct slice_
 
 /*
  * track::index::index_track, crates/track/src/index.rt
- * 1, 2, 15; else the entries in the order found: search after search, each from where the one before says, until no
- * lock is left or an entry has no room.
+ * 1, 2, 15; else the entries by sector number, then by ID place: search after search, each from where the one before
+ * says, until no lock is left or an entry has no room; each entry found is put where it belongs.
  */
 static ism_index track_index_index_track(struct timing_Profile p, struct slice_u16 intervals) {
     struct array_track_index_IndexEntry_32 entries = {0};
     uint64_t count = 0;
     uint64_t start = 0;
-    struct refusal_Verdict t12 = timing_rule_check(p);
+    struct refusal_Verdict t15 = timing_rule_check(p);
     struct refusal_Counted found;
-    if (t12.tag == refusal_Verdict_Refused) {
-        found = (struct refusal_Counted){.tag = refusal_Counted_Refused, .u.Refused = t12.u.Refused};
+    if (t15.tag == refusal_Verdict_Refused) {
+        found = (struct refusal_Counted){.tag = refusal_Counted_Refused, .u.Refused = t15.u.Refused};
     } else {
-        struct refusal_Counted t14;
+        struct refusal_Counted t17;
         for (;;) {
-            struct track_Step t15 = track_find_entry(p, intervals, start);
-            switch (t15.tag) {
+            struct track_Step t18 = track_find_entry(p, intervals, start);
+            switch (t18.tag) {
             case track_Step_End: {
-                t14 = (struct refusal_Counted){.tag = refusal_Counted_Count, .u.Count = count};
+                t17 = (struct refusal_Counted){.tag = refusal_Counted_Count, .u.Count = count};
                 goto done_1;
             }
             case track_Step_Other: {
-                start = t15.u.Other.next;
+                start = t18.u.Other.next;
                 break;
             }
             default: { /* track_Step_Begins */
                 if (count == 32) {
                     entries = (struct array_track_index_IndexEntry_32){0};
-                    t14 = (struct refusal_Counted){.tag = refusal_Counted_Refused,
+                    t17 = (struct refusal_Counted){.tag = refusal_Counted_Refused,
                             .u.Refused = {.tag = refusal_Refusal_TooManySectors}};
                     goto done_1;
                 }
-                entries.a[count] = track_index_converted(t15.u.Begins.entry);
+                ism_index_entry new = track_index_converted(t18.u.Begins.entry);
+                uint64_t at = count;
+                while (0 < at) {
+                    ism_index_entry last = entries.a[at - 1];
+                    if (track_order_goes_before(new, last)) {
+                        entries.a[at] = last;
+                        at--;
+                    } else {
+                        break;
+                    }
+                }
+                entries.a[at] = new;
                 count++;
-                start = t15.u.Begins.next;
+                start = t18.u.Begins.next;
                 break;
             }
             }
         }
         done_1:;
-        found = t14;
+        found = t17;
     }
-    uint32_t t23 = refusal_Counted_number(found);
-    uint32_t t24 = refusal_Counted_place(found);
-    uint64_t t26 = refusal_Counted_count(found);
+    uint32_t t35 = refusal_Counted_number(found);
+    uint32_t t36 = refusal_Counted_place(found);
+    uint64_t t38 = refusal_Counted_count(found);
     ism_index result;
-    result.number = t23;
-    result.place = t24;
-    result.count = t26;
+    result.number = t35;
+    result.place = t36;
+    result.count = t38;
     for (uint64_t each = 0; each < 32; each++) {
         result.entries[each] = entries.a[each];
     }
@@ -4162,7 +4312,7 @@ static ism_answer ism_image_ism_read_image(struct slice_u16 words, struct slice_
 
 /* ism::version::ism_version, crates/ism/src/version.rt */
 static uint32_t ism_version_ism_version(void) {
-    return 1000;
+    return 1200;
 }
 
 /* ism::card::kind_number, crates/ism/src/card.rt */
@@ -4195,6 +4345,28 @@ static ism_answer ism_passes_ism_merge(struct slice_u8 first, struct slice_u8 se
 /* ism::drive::numbers, crates/ism/src/drive.rt */
 static struct array_u64_4 ism_drive_numbers(ism_report_row row) {
     return (struct array_u64_4){{row.count, row.least, row.greatest, row.sum}};
+}
+
+/* ism::windows::numbers, crates/ism/src/windows.rt: A profile as it crosses the interface. */
+static ism_profile ism_windows_numbers(struct timing_Profile p) {
+    return (ism_profile){.t1 = p.t1.f0, .t0 = p.t0.f0, .early = p.early.f0, .normal = p.normal.f0, .late = p.late.f0,
+            .min = p.min.f0, .b23_short = p.short_.b23.f0, .b23_long = p.long_.b23.f0, .b34_short = p.short_.b34.f0,
+            .b34_long = p.long_.b34.f0, .rpt = p.rpt.f0};
+}
+
+/*
+ * ism::windows::ism_best_windows, crates/ism/src/windows.rt
+ * 1, 2; else the profile with the largest margin that the five numbers allow, and that margin.
+ */
+static ism_best ism_windows_ism_best_windows(uint16_t t1, uint16_t t0, uint16_t early, uint16_t normal, uint16_t late) {
+    struct best_Writing t15 = {.t1 = {.f0 = t1}, .t0 = {.f0 = t0}, .early = {.f0 = early}, .normal = {.f0 = normal},
+            .late = {.f0 = late}};
+    struct best_Best best = best_best_windows(t15);
+    struct refusal_Counted counted = best.answer;
+    struct timing_Profile found = best.profile;
+    ism_answer told = ism_answer_(counted);
+    return (ism_best){.number = told.number, .place = told.place, .margin = told.count,
+            .profile = ism_windows_numbers(found)};
 }
 
 /* ism::card::numbers_of, crates/ism/src/card.rt */
@@ -4356,6 +4528,10 @@ ism_answer ism_margin(ism_profile profile) {
 
 ism_limits ism_margin_limits(ism_profile profile) {
     return ism_card_ism_margin_limits(profile);
+}
+
+ism_best ism_best_windows(uint16_t t1, uint16_t t0, uint16_t early, uint16_t normal, uint16_t late) {
+    return ism_windows_ism_best_windows(t1, t0, early, normal, late);
 }
 
 ism_answer ism_class(ism_profile profile, uint16_t interval, uint32_t after_short) {

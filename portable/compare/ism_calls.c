@@ -58,6 +58,17 @@ static uint32_t add_index(const ism_index *index) {
     return index->number;
 }
 
+static uint32_t add_best(const ism_best *best) {
+    const ism_profile *p = &best->profile;
+    const uint16_t numbers[] = {p->t1,        p->t0,       p->early,     p->normal,   p->late, p->min,
+                                p->b23_short, p->b23_long, p->b34_short, p->b34_long, p->rpt};
+    add(best->number);
+    add(best->place);
+    add(best->margin);
+    add_numbers(numbers, 11);
+    return best->number;
+}
+
 static void add_fifo(ism_fifo fifo) {
     const uint16_t numbers[] = {fifo.mode, fifo.held, fifo.first, fifo.second, fifo.error};
     add_numbers(numbers, 5);
@@ -100,6 +111,12 @@ static uint32_t call_margin(source *s) { return add_answer(ism_margin(any_profil
 static uint32_t call_margin_limits(source *s) {
     ism_limits limits = ism_margin_limits(any_profile(s));
     return add_limits(&limits);
+}
+
+static uint32_t call_best_windows(source *s) {
+    ism_profile p = any_profile(s);
+    ism_best best = ism_best_windows(p.t1, p.t0, p.early, p.normal, p.late);
+    return add_best(&best);
 }
 
 static uint32_t call_class(source *s) {
@@ -259,6 +276,7 @@ const entry entries[] = {
     {"ism_interface_9", call_interface, BIT(0)},
     {"ism_margin", call_margin, PROFILE},
     {"ism_margin_limits", call_margin_limits, PROFILE},
+    {"ism_best_windows", call_best_windows, PROFILE},
     {"ism_class", call_class, PROFILE},
     {"ism_write", call_write, PROFILE | BIT(ISM_OVERLONG) | BIT(ISM_FOREIGN) | BIT(ISM_FULL)},
     {"ism_read", call_read,
