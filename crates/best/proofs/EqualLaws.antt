@@ -1,7 +1,7 @@
 -- What pairs are worth. With equal pairs B34 stands above the longest length of 3 units after a cell of class 2 and not
 -- above the shortest of 4 units after any other, so that D takes the place of l. Rests on no axiom.
 use Prim.Native.Nat.{ℕ, _+_, _-_, _*_, _/_, _≤_, _<_, min}
-use mathlib.Core.Path.{_≡_, refl, sym, ap, subst, _∙_}
+use mathlib.Core.Path.{_≡_, refl, ap, subst}
 use native.Mathlib.Omega.{arith}
 use Rattle.timing.specs.EqualPairs.{Nine, paired}
 use Rattle.timing.specs.Profile.{swing, advance, delay, InRange, profileRule}
@@ -9,7 +9,7 @@ use Rattle.timing.proofs.ProfileLaws.{Kept, kept, accepts-if-kept}
 use Rattle.lengths.specs.Margin.{marginOf}
 use Rattle.lengths.proofs.WindowLaws.{Spare}
 use Rattle.lengths.proofs.MarginLaws.{margin-leaves-room, spare-is-within-the-margin}
-use Rattle.best.specs.Best.{writingOf, InRangeOf, swingOf, advanceOf, delayOf, middle}
+use Rattle.best.specs.Best.{writingOf, InRangeOf, swingOf, middle}
 use Rattle.best.specs.Best.{bestMargin}
 use Rattle.best.specs.Claims.{Chosen}
 use Rattle.best.specs.Equal.{equalMargin, equalWindows, Worth, WhatPairsAreWorth}

@@ -1,6 +1,6 @@
 -- Which of several equally good profiles is given: a bound in the middle has the most room on its narrower side, and where
 -- two have as much it is the lower one; Min and Rpt are where the largest margin just fits. Rests on no axiom.
-use Prim.Native.Nat.{ℕ, suc, _+_, _-_, _*_, _/_, _≤_, _<_, min}
+use Prim.Native.Nat.{ℕ, _+_, _-_, _*_, _≤_, _<_, min}
 use mathlib.Core.Path.{_≡_, ap, subst, _∙_}
 use native.Mathlib.Omega.{arith}
 use Rattle.refusal.specs.Answer.{Answer}
@@ -11,8 +11,7 @@ use Rattle.lengths.specs.Margin.{roomsOf, marginOf}
 use Rattle.lengths.proofs.WindowLaws.{Spare}
 use Rattle.lengths.proofs.MarginLaws.{margin-leaves-room}
 use Rattle.best.specs.Best.{writingOf, middle, bestMargin, bestProfile, bestRule}
-use Rattle.best.specs.Claims.{Chosen, Centred, Given, WhichIsGiven}
-use Rattle.best.specs.declared.Writing.{Writing}
+use Rattle.best.specs.Claims.{Given, WhichIsGiven}
 use Rattle.best.proofs.RoomLaws.{middle-is-above, middle-is-below}
 use Rattle.best.proofs.BestLaws.{its-best-answer}
 

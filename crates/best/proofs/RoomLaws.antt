@@ -1,7 +1,7 @@
 -- The windows leave room for the largest margin at every edge: a bound in the middle has it on both sides where twice the
 -- margin fits between the lengths below and above, and Min and Rpt are set by it. So the profile is accepted. Rests on no
 -- axiom.
-use Prim.Native.Nat.{ℕ, _+_, _-_, _*_, _/_, _≤_, _<_}
+use Prim.Native.Nat.{ℕ, _+_, _-_, _*_, _≤_, _<_}
 use mathlib.Core.Path.{_≡_}
 use native.Mathlib.Omega.{arith}
 use Rattle.timing.specs.Profile.{swing, advance, delay, InRange, profileRule}

@@ -1,7 +1,7 @@
 -- The answer by its tests: a number out of range decides, then that no windows are true; and a refusal hands no profile
 -- back. Rests on no axiom.
 use Prim.Native.Nat.{ℕ, suc}
-use mathlib.Core.Path.{_≡_, refl, sym, ap, _∙_}
+use mathlib.Core.Path.{_≡_, refl, sym, ap}
 use mathlib.Core.Bool.{Bool, true, false, cond, not}
 use native.Mathlib.Omega.{arith}
 use lib.Dec.{eqb}

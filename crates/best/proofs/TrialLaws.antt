@@ -1,11 +1,10 @@
 -- Why the trial profile tells about the five numbers: its windows are in range, so that what is out of range is one of
 -- the five, at the same place, and its distances are theirs. Rests on no axiom.
 use Prim.Native.Nat.{ℕ, suc, _≤_}
-use mathlib.Core.Path.{_≡_, refl, sym, ap, _∙_}
+use mathlib.Core.Path.{_≡_, refl, ap, _∙_}
 use mathlib.Core.Bool.{Bool, true, false, cond, not}
-use mathlib.Core.List.{List, [], _∷_}
+use mathlib.Core.List.{[], _∷_}
 use native.Mathlib.Omega.{arith}
-use lib.Dec.{lit≤}
 use Rattle.lists.specs.Place.{anywhere, lowest, passed}
 use Rattle.refusal.specs.Answer.{Answer, accepted, refused, refuseIf}
 use Rattle.timing.specs.Numbers.{ranges}

@@ -1,11 +1,10 @@
 -- Why the best windows are answered in turn: a number out of range decides; then no profile with these five is accepted
 -- where the rule finds no windows, and where it finds some the one that it gives is. Rests on no axiom.
-use mathlib.Core.Path.{_≡_, refl, sym, _∙_}
-use mathlib.Core.Bool.{true, false, false≢true}
+use mathlib.Core.Path.{refl, sym, _∙_}
+use mathlib.Core.Bool.{false≢true}
 use Rattle.refusal.specs.Answer.{Answer}
 use Rattle.best.specs.Best.{bestProfile, bestRule}
 use Rattle.best.specs.declared.Writing.{Writing}
-use Rattle.best.proofs.RuleLaws.{Accepts}
 use Rattle.best.proofs.BestLaws.{Which, out-of-range, impossible, answered, which, none-if-impossible, given-is-chosen}
 use Rattle.demands.specs.Order.{Answers}
 use Rattle.demands.specs.BestCauses.{bestOrder}

@@ -1,6 +1,6 @@
 -- Why `best_margin` answers `bestMargin`: it takes the lesser of the definition's two, and where some windows are true
 -- nothing is cut off. Rests on no axiom.
-use Prim.Native.Nat.{_+_, _<_}
+use Prim.Native.Nat.{_<_}
 use native.Mathlib.Omega.{arith}
 use borrow.Author.Needs.{needs}
 use Rattle.best.specs.Best.{bestMargin}

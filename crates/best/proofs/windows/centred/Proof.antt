@@ -1,7 +1,6 @@
 -- Why `centred` answers `bestProfile`: each number is the definition's, under the ranges no sum wraps, and where some
 -- windows are true nothing is cut off. Rests on no axiom.
 use Prim.Native.Nat.{ℕ, _+_, _≤_, _<_}
-use mathlib.Core.Path.{_≡_}
 use native.Mathlib.Omega.{arith}
 use borrow.Author.Needs.{needs}
 use Rattle.best.specs.Best.{bestProfile}
