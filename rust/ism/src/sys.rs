@@ -83,9 +83,13 @@ pub struct Limits {
 #[repr(C)]
 #[derive(Clone, Copy, Debug, PartialEq, Eq)]
 pub struct Best {
+    /// 0, or the number of the refusal
     pub number: u32,
+    /// the place of the refusal
     pub place: u32,
+    /// half clocks
     pub margin: u64,
+    /// the profile that has it
     pub profile: Profile,
 }
 

@@ -96,7 +96,7 @@ fn best(card: &Card) -> Vec<String> {
 fn drawing(card: &Card) -> Vec<String> {
     let (profile, margin) = match (&card.verdict, card.best) {
         (Verdict::True { margin, .. }, _) => (card.profile, *margin),
-        (_, Ok(best)) => (best.profile, best.margin),
+        (_, Ok(best)) => (best.profile, u64::from(best.margin)),
         _ => return Vec::new(),
     };
     let rows = windows(profile);

@@ -22,7 +22,7 @@ pub enum Verdict {
     /// the inequalities that fail
     Crossed(Vec<String>),
     /// which number, from 1
-    Unset(u32),
+    Unset(usize),
 }
 
 pub const NAMES: [&str; 11] = [
@@ -47,7 +47,7 @@ impl Card {
         let verdict = match ism::margin_limits(profile) {
             Ok(limits) => {
                 let margin = ism::margin(profile).expect("what has limits has a margin");
-                Verdict::True { margin, limits: limits.iter().collect() }
+                Verdict::True { margin: u64::from(margin), limits: limits.iter().collect() }
             }
             Err(Refusal::ProfileOutOfRange { field }) => Verdict::Unset(field),
             Err(_) => Verdict::Crossed(failures(profile)),

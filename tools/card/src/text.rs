@@ -34,7 +34,7 @@ pub fn drawn(card: &Card) -> Vec<(String, Profile, u64)> {
     }
     if let Some(best) = card.best.ok().filter(|best| best.profile != card.profile) {
         let Profile { min, rpt, .. } = best.profile;
-        drawn.push((format!("best windows from Min {min} to Rpt {rpt}"), best.profile, best.margin));
+        drawn.push((format!("best windows from Min {min} to Rpt {rpt}"), best.profile, u64::from(best.margin)));
     }
     drawn
 }
@@ -127,7 +127,7 @@ fn best(card: &Card) -> Vec<String> {
     let equal = card.equal.map_or("none are true".to_string(), |margin| margin.to_string());
     let [first, second] = [i64::from(card.profile.t1) - d - 1, (i64::from(card.profile.t0) - l - 1) / 2];
     vec![
-        format!("Best windows {}; with equal pairs {equal}", margin_words(card, best.margin)),
+        format!("Best windows {}; with equal pairs {equal}", margin_words(card, u64::from(best.margin))),
         format!("  {}", six(best.profile)),
         format!("  {FORMULA}"),
         format!("  D {d}, l {l}: the lesser of {first} and {second}"),

@@ -122,7 +122,8 @@ pub fn random_drives(compare: &mut Compare, random: &mut Random) {
                 let [d, l] = shifts(five);
                 let formula = (i64::from(five[0]) - d - 1).min((i64::from(five[1]) - l - 1) / 2);
                 compare.claim(&format!("{five:?} has {formula}"), best.margin as i64 == formula);
-                compare.claim(&format!("{five:?}: its profile has it"), ism::margin(best.profile) == Ok(best.margin));
+                let its_own = ism::margin(best.profile).map(u64::from);
+                compare.claim(&format!("{five:?}: its profile has it"), its_own == Ok(best.margin));
             }
             if let Ok(has) = margin(&eleven) {
                 compare.claim(&format!("{eleven:?} has no more"), best.number == 0 && has <= best.margin);

@@ -40,8 +40,8 @@ impl Reply for BestAnswer {
 /// The wrapper's answer as the interface gives it.
 fn from_wrapper(result: Result<ism::Best, Refusal>) -> BestAnswer {
     match result {
-        Ok(best) => BestAnswer { number: 0, place: 0, margin: best.margin, profile: best.profile },
-        Err(refusal) => BestAnswer::refusal(Refused { number: refusal.number(), place: refusal.place() }),
+        Ok(best) => BestAnswer { number: 0, place: 0, margin: u64::from(best.margin), profile: best.profile },
+        Err(refusal) => BestAnswer::refusal(Refused { number: refusal.number(), place: refusal.place() as u32 }),
     }
 }
 
