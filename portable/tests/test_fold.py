@@ -1,4 +1,5 @@
 import unittest
+from copy import deepcopy
 
 from .making import BOOL, U16, U32, U64, WORDS, WORDS_MUT, assign, binary, call, element, local, number, returned
 from translator.fold import Folder
@@ -61,7 +62,8 @@ class GivesWay(unittest.TestCase):
 
 class Stays(unittest.TestCase):
     def stays(self, *body, **options):
-        self.assertEqual(folded(*body, **options), list(body))
+        before = deepcopy(list(body))
+        self.assertEqual(folded(*body, **options), before)
 
     def test_a_variable_of_the_source(self):
         self.stays(assign(3, number(1)), returned(local(3)))

@@ -1,4 +1,5 @@
 import unittest
+from copy import deepcopy
 
 from .making import BOOL, TABLE, U64, assign, binary, call, local, number, returned
 from translator.terms import Assign, Block, Exit, Function, If, Local, Loop, Nothing, Return, Switch, Unit
@@ -100,7 +101,7 @@ class Joins(unittest.TestCase):
         loop = Block([Loop([assign(10, call("f")), Exit(1)])])
         set_before = [assign(3, number(0)), loop, assign(3, local(10))]
         for body in (set_before, [loop, assign(3, local(10)), returned(local(10))]):
-            before = list(body)
+            before = deepcopy(body)
             join(body, body, TEMPORARIES)
             self.assertEqual(body, before)
 

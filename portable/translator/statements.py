@@ -10,7 +10,8 @@ from .terms import (
 )
 from .tidy import leaves
 from .walk import (
-    address_reads, all_statements, calls, heads, live_at_start, live_inside, locals_of, mentions, reads_memory, root,
+    address_reads, all_statements, bodies, calls, heads, live_at_start, live_inside, locals_of, mentions, reads_memory,
+    root,
 )
 
 
@@ -65,7 +66,7 @@ class Statements:
 
     def write_list(self, body, undeclared, after, exits):
         """A list of statements; `undeclared` are the locals that it alone mentions."""
-        below = self.wholly_below(body, undeclared, after, exits)
+        below = self.wholly_below(body, undeclared)
         here = undeclared - {index for indices in below.values() for index in indices}
         lines = []
         for i, statement in enumerate(body):
@@ -75,17 +76,18 @@ class Statements:
             lines += self.write_first(statement, first, live, exits, below)
         return lines
 
-    def wholly_below(self, body, undeclared, after, exits):
-        """For each list within a statement: the locals that only it mentions, and that do not come in with a value."""
+    def wholly_below(self, body, undeclared):
+        """For each list within a statement: the locals that only it mentions. None comes in with a value: it would be
+        read before it is set.
+        """
         found = {}
         for index in undeclared:
             users = [i for i, statement in enumerate(body) if mentions(statement, index)]
             if len(users) != 1 or index in {j for head in heads(body[users[0]]) for j in locals_of(head)}:
                 continue
-            live = live_at_start(body[users[0] + 1 :], after, exits)
-            inner = [rest for rest in live_inside(body[users[0]], live, exits) if count(rest[0], index)]
-            if len(inner) == 1 and index not in live_at_start(*inner[0]):
-                found.setdefault(id(inner[0][0]), (inner[0][0], set()))[1].add(index)
+            inner = [part for part in bodies(body[users[0]]) if count(part, index)]
+            if len(inner) == 1:
+                found.setdefault(id(inner[0]), (inner[0], set()))[1].add(index)
         return {key: self.without_escaping(*pair) for key, pair in found.items()}
 
     def without_escaping(self, body, indices):
