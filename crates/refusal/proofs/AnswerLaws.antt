@@ -15,7 +15,7 @@ use Rattle.refusal.specs.declared.Refusal.the-variants.{ProfileOutOfRang
 use Rattle.refusal.specs.declared.Refusal.the-variants.{TooLong, IntervalTooShort, IntervalTooLong, NotWholeBytes}
 use Rattle.refusal.specs.declared.Refusal.the-variants.{MisplacedMark, OutputTooShort, NoLock, EndsEarly}
 use Rattle.refusal.specs.declared.Refusal.the-variants.{CountOutOfRange, SectorSizeMismatch, MalformedInput}
-use Rattle.refusal.specs.declared.Refusal.the-variants.{TooManySectors, UnrulyWord, SectorsAtOdds}
+use Rattle.refusal.specs.declared.Refusal.the-variants.{TooManySectors, UnrulyWord, SectorsAtOdds, OffSpeed}
 use Rattle.refusal.specs.declared.Verdict.{Verdict}
 use Rattle.refusal.specs.declared.Verdict.the-variants.{Accepted, Refused}
 
@@ -39,6 +39,7 @@ number-is-not-zero r =
       | TooManySectors ↦ refl
       | UnrulyWord at ↦ refl
       | SectorsAtOdds sector ↦ refl
+      | OffSpeed half ↦ refl
     ]
 
 module _ (r : Refusal) (rule : Answer) where

@@ -6,6 +6,7 @@ use Rattle.refusal.specs.declared.Refusal.the-variants.{TooLong, Interva
 use Rattle.refusal.specs.declared.Refusal.the-variants.{NotWholeBytes, MisplacedMark, OutputTooShort, NoLock}
 use Rattle.refusal.specs.declared.Refusal.the-variants.{EndsEarly, CountOutOfRange, SectorSizeMismatch}
 use Rattle.refusal.specs.declared.Refusal.the-variants.{MalformedInput, TooManySectors, UnrulyWord, SectorsAtOdds}
+use Rattle.refusal.specs.declared.Refusal.the-variants.{OffSpeed}
 
 -- the column "No."
 abbrev pub numberOf : Refusal → ℕ
@@ -26,6 +27,7 @@ numberOf (MalformedInput line) = 14
 numberOf TooManySectors = 15
 numberOf (UnrulyWord at) = 16
 numberOf (SectorsAtOdds sector) = 17
+numberOf (OffSpeed half) = 18
 
 -- the column "Place given"
 abbrev pub placeOf : Refusal → ℕ
@@ -46,3 +48,4 @@ placeOf (MalformedInput line) = line
 placeOf TooManySectors = 0
 placeOf (UnrulyWord at) = at
 placeOf (SectorsAtOdds sector) = sector
+placeOf (OffSpeed half) = half

@@ -38,6 +38,8 @@ pub enum Refusal {
     UnrulyWord(u32),
     // 17, at odds: which sector number
     SectorsAtOdds(u32),
+    // 18, off speed: 0 for the even intervals before the lock, 1 for the odd
+    OffSpeed(u32),
 }
 
 // What a test answers that gives no value.
@@ -75,6 +77,7 @@ impl Refusal {
             Refusal::TooManySectors => 15,
             Refusal::UnrulyWord(_) => 16,
             Refusal::SectorsAtOdds(_) => 17,
+            Refusal::OffSpeed(_) => 18,
         }
     }
 
@@ -100,6 +103,7 @@ impl Refusal {
             Refusal::TooManySectors => 0,
             Refusal::UnrulyWord(at) => at,
             Refusal::SectorsAtOdds(sector) => sector,
+            Refusal::OffSpeed(half) => half,
         }
     }
 }

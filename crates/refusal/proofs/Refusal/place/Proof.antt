@@ -1,0 +1,45 @@
+-- Each case has the place that the table gives to it. Rests on no axiom.
+use mathlib.Core.Path.{sym, ap}
+use borrow.Author.Needs.{needs}
+use Rattle.refusal.specs.Table.{placeOf}
+use Rattle.refusal.proofs.Refusal.place.Statement.{statement}
+use Rattle.refusal.proofs.Refusal.place.Tie as tie
+
+pub place-spec : {M : Type 1} → statement M
+place-spec =
+    tie.close (tie.spec (λ c. search needs)
+    (λ c. search needs)
+    (λ c. search needs)
+    (λ c. search needs)
+    (λ c. search needs)
+    (λ c. search needs)
+    (λ c. search needs)
+    (λ c. search needs)
+    (λ c. search needs)
+    (λ c. search needs)
+    (λ c. search needs)
+    (λ c. search needs)
+    (λ c. search needs)
+    (λ c. search needs)
+    (λ c. search needs)
+    (λ c. search needs)
+    (λ c. search needs)
+    (λ c. search needs)
+    (λ c. sym (ap placeOf (c .before .self .given .1)))
+    (λ c. sym (ap placeOf (c .enum-told .given .1)))
+    (λ c. sym (ap placeOf (c .before .self2 .given .1)))
+    (λ c. sym (ap placeOf (c .enum-told2 .given .1)))
+    (λ c. sym (ap placeOf (c .before .self3 .given .1)))
+    (λ c. sym (ap placeOf (c .before .self4 .given .1)))
+    (λ c. sym (ap placeOf (c .enum-told3 .given .1)))
+    (λ c. sym (ap placeOf (c .before .self5 .given .1)))
+    (λ c. sym (ap placeOf (c .enum-told4 .given .1)))
+    (λ c. sym (ap placeOf (c .enum-told5 .given .1)))
+    (λ c. sym (ap placeOf (c .enum-told6 .given .1)))
+    (λ c. sym (ap placeOf (c .enum-told7 .given .1)))
+    (λ c. sym (ap placeOf (c .enum-told8 .given .1)))
+    (λ c. sym (ap placeOf (c .before .self6 .given .1)))
+    (λ c. sym (ap placeOf (c .enum-told9 .given .1)))
+    (λ c. sym (ap placeOf (c .before .self7 .given .1)))
+    (λ c. sym (ap placeOf (c .before .self8 .given .1)))
+    (λ c. sym (ap placeOf (c .before .self9 .given .1))))
