@@ -89,6 +89,19 @@ alike-is-seen c steady m (d ∷ ds) =
     alike-is-seen c steady (metWith m (c .bounds) d) ds
     ∙ ap (λ (e : Cursor). seenFrom (seenAt (metWith m (c .bounds) d) e) ds .extremes) (sym (steady-stays c steady d))
 
+steady-after : (c : Cursor) → isSteady c ≡ true → (ds : List ℕ) → cursorAfter c ds ≡ c
+unfolding cursorAfter
+steady-after c steady [] = refl
+steady-after c steady (d ∷ ds) = rw (steady-stays c steady d) (steady-after c steady ds)
+
+pub steady-is-seen
+    : (s : Seen) (ds : List ℕ)
+    → isSteady (s .cursor) ≡ true
+    → seenAt (alikeFrom (s .extremes) (s .cursor .bounds) ds) (s .cursor) ≡ seenFrom s ds
+steady-is-seen s ds steady =
+    ap₂ seenAt (alike-is-seen (s .cursor) steady (s .extremes) ds)
+    (sym (cursor-seen s ds ∙ steady-after (s .cursor) steady ds))
+
 -- ---- each by the one before it
 
 module _ (c : Cursor) where

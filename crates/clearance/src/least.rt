@@ -7,26 +7,20 @@ ghost use Rattle.clearance.specs.Clearance.{clearanceOf, leastFrom, leas
 ghost use Rattle.clearance.specs.machine.Nearest.{Reachable};
 use crate::extremes::Extremes;
 use crate::seen::Seen;
-use crate::seen::extremes_alike;
 use timing::Cursor;
 use timing::Profile;
 
-// The least over the intervals of a list that has some. Where the pairs are equal, all stand between the same bounds.
+// The least over the intervals of a list that has some.
 fn least_from(start: Cursor, intervals: &[u16]) -> u16
     requires { ⌜ Reachable start ⌝ }
     requires { ⌜ 0 < length (now intervals) ⌝ }
     ensures { λ r. ⌜ r ≡ leastFrom start (now (intervals .entry)) ⌝ }
 {
-    let none = Extremes::none();
-    if start.is_steady() {
-        let bounds = start.bounds;
-        return extremes_alike(none, bounds, intervals).least(start.min.0, start.rpt.0);
-    }
-    let seen = Seen {
-        extremes: none,
+    let none = Seen {
+        extremes: Extremes::none(),
         cursor: start,
     };
-    let extremes = seen.all(intervals).extremes;
+    let extremes = none.with_all(intervals).extremes;
     extremes.least(start.min.0, start.rpt.0)
 }
 

@@ -10,9 +10,9 @@ use fields::reader::FieldRead;
 use refusal::Counted;
 use timing::Profile;
 
-mod extremes;
+pub mod extremes;
 mod least;
-mod seen;
+pub mod seen;
 
 // A class, or how many items a strip has, with the clearance; 0 on a refusal.
 pub struct ClearCount {

@@ -25,7 +25,7 @@ pub struct Seen {
 }
 
 // All between the same bounds.
-pub fn extremes_alike(start: Extremes, bounds: Bounds, intervals: &[u16]) -> Extremes
+fn extremes_alike(start: Extremes, bounds: Bounds, intervals: &[u16]) -> Extremes
     ensures { λ r. ⌜ r ≡ alikeFrom start bounds (now (intervals .entry)) ⌝ }
 {
     let mut extremes = start;
@@ -127,7 +127,7 @@ impl Seen {
     }
 
     // Block by block.
-    pub fn all(self, intervals: &[u16]) -> Seen
+    fn all(self, intervals: &[u16]) -> Seen
         requires { ⌜ Ascending (self .cursor) ⌝ }
         ensures { λ r. ⌜ r ≡ seenFrom self (now (intervals .entry)) ⌝ }
     {
@@ -139,5 +139,22 @@ impl Seen {
             from += n;
         }
         seen
+    }
+
+    // With all intervals of a list. Where the pairs are equal, all stand between the same bounds.
+    pub fn with_all(self, intervals: &[u16]) -> Seen
+        requires { ⌜ Ascending (self .cursor) ⌝ }
+        ensures { λ r. ⌜ r ≡ seenFrom self (now (intervals .entry)) ⌝ }
+    {
+        let cursor = self.cursor;
+        if cursor.is_steady() {
+            let extremes = self.extremes;
+            let bounds = cursor.bounds;
+            return Seen {
+                extremes: extremes_alike(extremes, bounds, intervals),
+                cursor,
+            };
+        }
+        self.all(intervals)
     }
 }

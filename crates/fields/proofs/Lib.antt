@@ -15,3 +15,5 @@ pub mod FirstLockLaws
 pub mod FillerLaws
 pub mod WrittenFieldLaws
 pub mod StartLaws
+pub mod EndLaws
+pub mod PartLaws

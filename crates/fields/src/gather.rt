@@ -41,7 +41,7 @@ pub struct Gathered {
 }
 
 // The code words of a part, turned into items: through the register, and to their places.
-fn sum_up(check: Check, words: &mut [u16], at: usize, out: &mut [u16]) -> Check
+pub fn sum_up(check: Check, words: &mut [u16], at: usize, out: &mut [u16]) -> Check
     ensures check { λ r. ⌜ r ≡ afterBytes check (map candidate (now (words .entry))) ⌝ }
     ensures output { λ _. ⌜
         now (out .exit) ≡ storedAt (now (out .entry)) at (map candidate (now (words .entry))) ⌝ }
@@ -72,7 +72,7 @@ fn pass_items(p: Profile, intervals: &[u16], n: u32, out: &mut [u16]) -> Summed
 }
 
 // How the pass over a field ends, with so many intervals used: 11, 8, or how many they are.
-fn conclude(m: Reading, used: usize, n: u32) -> Counted
+pub fn conclude(m: Reading, used: usize, n: u32) -> Counted
     requires { ⌜ used ≤ 2 ^ 32 ⌝ }
     ensures { λ r. ⌜ countedAnswer r ≡ endRule m used n ⌝ }
 {

@@ -1,5 +1,5 @@
 // Document 01, "Finding and reading a field".
 pub mod finder;
-mod gather;
+pub mod gather;
 pub mod reader;
 mod runs;

@@ -31,7 +31,7 @@ pub enum FieldRead {
 }
 
 // What was gathered, handed over where the output has room for it.
-fn deliver(items: &[u16], used: usize, holds: bool, out: &mut [u16]) -> FieldRead
+pub fn deliver(items: &[u16], used: usize, holds: bool, out: &mut [u16]) -> FieldRead
     ensures answer { λ r. ⌜
         fieldAnswer r ≡ deliverReading (length (now (items .entry))) used holds (length (now (out .entry))) ⌝ }
     ensures output { λ _. ⌜ now (out .exit) ≡ deliverOutput (now (items .entry)) (now (out .entry)) ⌝ }

@@ -25,7 +25,7 @@ pub struct Progress {
 }
 
 // The intervals of a block, whose units have as many places.
-fn pass_block(
+pub fn pass_block(
     at: Progress,
     intervals: &[u16],
     units: &mut [u8],

@@ -1,12 +1,12 @@
 // Whether a list's intervals are cells: 5, narrow, or 6, wide, for the first that is none.
-ghost use Prim.Native.Nat.{_^_, _≤_};
+ghost use Prim.Native.Nat.{_+_, _^_, _≤_};
 ghost use mathlib.Core.Path.{_≡_};
 ghost use lib.ListN.{length};
 ghost use Rattle.lists.specs.Place.{everywhere};
 ghost use Rattle.refusal.specs.Answer.{verdictAnswer};
 ghost use Rattle.timing.specs.Profile.{profileRule};
 ghost use Rattle.timing.specs.Class.{isCell, classesFrom, classesOf, Ascending};
-ghost use Rattle.intervals.specs.Cells.{edgeRule};
+ghost use Rattle.intervals.specs.Cells.{edgeRuleFrom, edgeRule};
 use refusal::Refusal;
 use refusal::Verdict;
 use timing::Cursor;
@@ -34,10 +34,10 @@ fn all_cells(start: Cursor, intervals: &[u16]) -> bool
     all
 }
 
-// The first that is none.
-fn find_outside(start: Cursor, intervals: &[u16]) -> Verdict
-    requires { ⌜ length (now intervals) ≤ 2 ^ 32 ⌝ }
-    ensures { λ r. ⌜ verdictAnswer r ≡ edgeRule (classesFrom start (now (intervals .entry))) ⌝ }
+// The first that is none, the first of all having place `from`.
+fn find_outside(start: Cursor, from: usize, intervals: &[u16]) -> Verdict
+    requires { ⌜ from + length (now intervals) ≤ 2 ^ 32 ⌝ }
+    ensures { λ r. ⌜ verdictAnswer r ≡ edgeRuleFrom from (classesFrom start (now (intervals .entry))) ⌝ }
 {
     let mut cursor = start;
     let mut k: usize = 0;
@@ -45,10 +45,10 @@ fn find_outside(start: Cursor, intervals: &[u16]) -> Verdict
         let classed = cursor.step(intervals[k]);
         let class = classed.class;
         if class.number() == NARROW {
-            return Verdict::Refused(Refusal::IntervalTooShort(k as u32));
+            return Verdict::Refused(Refusal::IntervalTooShort((from + k) as u32));
         }
         if class.number() == WIDE {
-            return Verdict::Refused(Refusal::IntervalTooLong(k as u32));
+            return Verdict::Refused(Refusal::IntervalTooLong((from + k) as u32));
         }
         cursor = classed.next;
         k += 1;
@@ -57,13 +57,22 @@ fn find_outside(start: Cursor, intervals: &[u16]) -> Verdict
 }
 
 // It is looked for only where there is one.
+pub fn check_edges_from(start: Cursor, from: usize, intervals: &[u16]) -> Verdict
+    requires { ⌜ Ascending start ⌝ }
+    requires { ⌜ from + length (now intervals) ≤ 2 ^ 32 ⌝ }
+    ensures { λ r. ⌜ verdictAnswer r ≡ edgeRuleFrom from (classesFrom start (now (intervals .entry))) ⌝ }
+{
+    if all_cells(start, intervals) {
+        return Verdict::Accepted;
+    }
+    find_outside(start, from, intervals)
+}
+
+// Of a whole list.
 pub fn check_edges(p: Profile, intervals: &[u16]) -> Verdict
     requires { ⌜ profileRule p .number ≡ 0 ⌝ }
     requires { ⌜ length (now intervals) ≤ 2 ^ 32 ⌝ }
     ensures { λ r. ⌜ verdictAnswer r ≡ edgeRule (classesOf p (now (intervals .entry))) ⌝ }
 {
-    if all_cells(Cursor::start(p), intervals) {
-        return Verdict::Accepted;
-    }
-    find_outside(Cursor::start(p), intervals)
+    check_edges_from(Cursor::start(p), 0, intervals)
 }

@@ -1,6 +1,5 @@
 -- Why `fields::gather::gather` answers `gatherRule`, tells the sum and stores the field's items: an interval that is no
 -- cell stops it where the rule does, and its tests at the end are the rule's. Rests on no axiom.
-mod End
 use mathlib.Core.Path.{_≡_, sym, ap, _∙_}
 use native.Mathlib.Omega.{arith}
 use lib.Dec.{eqb}
@@ -15,7 +14,7 @@ use Rattle.items.specs.Written.{freshCheck, afterBytes}
 use Rattle.items.specs.declared.Check.{Check}
 use Rattle.intervals.specs.Cells.{edgeRule}
 use Rattle.fields.specs.Field.{holdsAfter, fieldHolds}
-use End.{edges, refusal-is-not-zero, FieldEnds, field-ends}
+use Rattle.fields.proofs.EndLaws.{edges, refusal-is-not-zero, FieldEnds, field-ends}
 use Rattle.fields.proofs.gather.gather.Statement.{statement}
 use Rattle.fields.proofs.gather.gather.Tie as tie
 
