@@ -1,12 +1,14 @@
 -- An interval taken as a cell by the edges between the windows: where it is a cell it is that one, so that a list in which
 -- none is narrow or wide has exactly these cells. By induction on the list. Rests on no axiom.
-use Prim.Native.Nat.{ℕ, suc}
+use Prim.Native.Nat.{ℕ, suc, _+_}
 use mathlib.Core.Path.{_≡_, refl, ap, _∙_}
 use mathlib.Core.Bool.{true}
-use mathlib.Core.List.{List, [], _∷_, map}
+use mathlib.Core.List.{List, [], _∷_, _++_, map}
+use native.Mathlib.Omega.{arith}
+use lib.ListN.{length}
 use Rattle.lists.specs.Place.{everywhere}
 use Rattle.lists.proofs.BoolLaws.{both}
-use Rattle.refusal.specs.Answer.{accepted, refused}
+use Rattle.refusal.specs.Answer.{accepted, refused, firstRefusal}
 use Rattle.timing.specs.Class.{classIn, isCell, classNumber, cursorPast, classesFrom, Ascending}
 use Rattle.timing.specs.machine.Edges.{unitsIn, unitsFrom}
 use Rattle.timing.specs.declared.Class.{Class}
@@ -91,3 +93,24 @@ cell-is-passed k Two cs h g = refl
 cell-is-passed k Three cs h g = refl
 cell-is-passed k Four cs h g = refl
 cell-is-passed k Wide cs h g = absurd (g refl)
+
+-- a list in two parts: the first that is no cell, in the one or in the other
+pub edges-of-append
+    : (k : ℕ) (cs ds : List Class)
+    → edgeRuleFrom k (cs ++ ds) ≡ firstRefusal (edgeRuleFrom k cs) (edgeRuleFrom (k + length cs) ds)
+unfolding edgeRuleFrom
+edges-of-append k [] ds = let none : k + 0 ≡ k = omega arith in rw none
+edges-of-append k (c ∷ cs) ds =
+    let later : edgeRuleFrom (suc k) (cs ++ ds)
+    ≡ firstRefusal (edgeRuleFrom (suc k) cs) (edgeRuleFrom (k + suc (length cs)) ds) =
+    let place : suc k + length cs ≡ k + suc (length cs) = omega arith in
+    edges-of-append (suc k) cs ds
+    ∙ ap (λ (j : ℕ). firstRefusal (edgeRuleFrom (suc k) cs) (edgeRuleFrom j ds)) place in
+    elim c as (λ x. edgeRuleFrom k (x ∷ cs ++ ds)
+    ≡ firstRefusal (edgeRuleFrom k (x ∷ cs)) (edgeRuleFrom (k + suc (length cs)) ds)) [
+      | Narrow ↦ refl
+      | Two ↦ later
+      | Three ↦ later
+      | Four ↦ later
+      | Wide ↦ refl
+    ]

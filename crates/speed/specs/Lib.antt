@@ -1,0 +1,4 @@
+pub mod Speed
+pub mod Reading
+pub mod Claims
+pub mod machine
