@@ -6,3 +6,5 @@ pub mod EndsLaws
 pub mod NearLaws
 pub mod CutOffLaws
 pub mod ReadLaws
+pub mod ScaledLaws
+pub mod SlowDrives

@@ -112,6 +112,38 @@ pub told-field
     ≡ toldBy pace lock (clearFieldAnswer field)
 told-field pace lock field count used holds even odd is e o = rw (is, e, o)
 
+-- ---- at a lock, where 18 is not answered
+
+module _ (p : Profile) (ds : List ℕ) (lock n : ℕ) where
+  -- what comes with the field reader's own answer is what the field reader gives
+  comes-with-field
+      : (a : Answer) (room : ℕ)
+      → a ≡ fieldRule p (correctedAt p ds lock) n room
+      → comesWith a p ds lock n room .field ≡ fieldWithClearance p (correctedAt p ds lock) n room
+  unfolding fieldWithClearance fieldReading
+  comes-with-field a room is = split (eqb (a .number) 0) refl
+    where
+      split
+          : (t : Bool)
+          → eqb (a .number) 0 ≡ t
+          → comesWith a p ds lock n room .field ≡ fieldWithClearance p (correctedAt p ds lock) n room
+      split true e = rw e refl
+      split false e = rw (← is, e, e) refl
+
+  pub field-is-read
+      : (room : ℕ)
+      → speedRule p ds lock .number ≡ 0
+      → readingAt p ds lock n room .field ≡ fieldWithClearance p (correctedAt p ds lock) n room
+  unfolding readingAt ruleAt
+  field-is-read room fair = comes-with-field _ room (first-refusal-passes (speedRule p ds lock) _ fair)
+
+  pub output-is
+      : (old : List ℕ)
+      → speedRule p ds lock .number ≡ 0
+      → fieldOutput p (correctedAt p ds lock) n old ≡ outputAt p ds lock n old
+  unfolding fieldOutput outputAt ruleAt
+  output-is old fair = rw (eq-eqb (speedRule p ds lock .number) 0 fair)
+
 -- ---- at a lock
 
 module _ (p : Profile) (ds : List ℕ) (lock n : ℕ) (old : List ℕ) where
@@ -162,10 +194,6 @@ module _ (p : Profile) (ds : List ℕ) (lock n : ℕ) (old : List ℕ) where
       unfolding readingAt ruleAt
       told-is =
           rw (answer-is, measured .nominal, measured .even, measured .odd, eq-eqb (speedRule p ds lock .number) 0 fair)
-
-      pub output-is : fieldOutput p (correctedAt p ds lock) n old ≡ outputAt p ds lock n old
-      unfolding fieldOutput outputAt ruleAt
-      output-is = rw (eq-eqb (speedRule p ds lock .number) 0 fair)
 
 -- ---- the entry
 

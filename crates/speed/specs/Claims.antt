@@ -26,7 +26,7 @@ pub record SameLock (p : Profile) (ds : List ℕ) (start n room : ℕ) : Type 0 
       × (correctedReading p ds start n room ≡ readingAt p ds lock n room)
   pub given
       : correctedRule p ds start n room .number ≡ 0
-      → findRule p ds start ≡ accepted (correctedReading p ds start n room .lock)
+      → (findRule p ds start .number ≡ 0) × (correctedReading p ds start n room .lock ≡ findRule p ds start .count)
 
 -- ---- nominal speed
 

@@ -92,7 +92,7 @@ returns-2 c =
       c .told .ensures
           ∙ ap (toldBy pace lock) (answer ∙ same .0)
           ∙ told-is p ds lock n old accepts pace m fair,
-      output ∙ same .1 ∙ output-is p ds lock n old accepts pace m fair,
+      output ∙ same .1 ∙ output-is p ds lock n old fair,
     )
 
 pub read-at-spec : {M : Type 1} → statement M
