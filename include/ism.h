@@ -93,6 +93,7 @@ uint32_t ism_interface_9(void); /* gives 9 */
 #define ISM_CROWDED 15u  /* more than 32 sectors in a set or entries on a track */
 #define ISM_UNRULY 16u   /* a word that no item has after its previous bit; place: the lowest such word */
 #define ISM_AT_ODDS 17u  /* a sector number twice in a set, or two good copies unlike; place: the lowest such number */
+#define ISM_OFF_SPEED 18u /* the drive is a sixteenth off its speed; place: 0 by the even intervals, 1 by the odd */
 
 /*
  * Limits. ISM_MAX_INTERVALS intervals always hold the stream of ISM_MAX_BYTES written bytes, and ISM_MAX_SET_BYTES
@@ -362,6 +363,46 @@ ism_answer ism_find(ism_profile profile, const uint16_t *intervals, size_t n, ui
  */
 ism_answer ism_read_field(ism_profile profile, const uint16_t *intervals, size_t n, uint64_t bytes, uint16_t *out,
                           size_t room);
+
+/*
+ * Corrected reader: so many bytes at the first lock from a start, at the drive's own speed. Of the 64 intervals before
+ * the lock, S0 is the sum of those at even places, counted from the first of them, and S1 that of those at odd places.
+ * At nominal speed each is 32 x t1. The intervals from the lock on are counted on alike, the one at the lock being
+ * even: an interval d becomes d x 32 x t1 divided by its S and rounded down. These numbers are classed, the first as
+ * coming after class 2, and read as ism_read_field reads.
+ *
+ *   intervals, n  any number of intervals, such as a track
+ *   start         the search begins here, as in ism_find, in the intervals as they are
+ *   bytes         bytes to read, 1 to 1,030, check bytes included
+ *   out, room     the items, as ism_read_field gives them; `bytes` of them
+ *   lock          the lock's place in the list
+ *   count         items, equal to `bytes`
+ *   used          intervals used, counted from the lock
+ *   holds         1 if the CRC register is zero after the items, else 0
+ *   clearance     the least over the corrected numbers of the used intervals
+ *   even, odd     S0 - 32 x t1 and S1 - 32 x t1
+ *   refusals      ISM_UNSET, ISM_CROSSED, ISM_ADRIFT, ISM_OFF_SPEED (16 x a difference, sign dropped, is above 32 x t1),
+ *                 ISM_MISCOUNT, then ISM_NARROW, ISM_WIDE or ISM_SHORT as first met, ISM_STRAY, ISM_FULL; the places of
+ *                 ISM_NARROW, ISM_WIDE and ISM_STRAY count from the lock
+ *
+ * What a bench does with the differences: 100 x (even + odd) / (64 x t1) is by how many percent the intervals are too
+ * long, so that the drive runs slow, or too short where it is below 0; (even - odd) / 32 is by how many half clocks the
+ * two halves of a pair differ. A drive is taken up to 6.25 percent either way, by each half. Where both differences are 0
+ * the answer is that of ism_read_field from the lock on. Two lists of which one is the other slowed or hastened by an
+ * exact ratio give the same but for the differences, where both have the lock at one place.
+ *
+ * The last of the 64 ends Early as written, so that S1 is not nominal where early < normal: there a field that
+ * ism_read_field reads may be refused here.
+ */
+typedef struct {
+    uint32_t number, place;
+    uint64_t lock, count, used;
+    uint32_t holds, clearance;
+    int32_t even, odd;
+} ism_corrected;
+
+ism_corrected ism_read_corrected(ism_profile profile, const uint16_t *intervals, size_t n, uint64_t start,
+                                 uint64_t bytes, uint16_t *out, size_t room);
 
 /*
  * Sector maker: the items of an ID field and a data field, for ism_write.

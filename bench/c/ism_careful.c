@@ -353,6 +353,103 @@ ism_answer NAME(read_items)(const ism_profile *p, const uint16_t *intervals, siz
     return answer;
 }
 
+/* --------------------------------------------------------------------------------------------------- slow drives */
+
+#define BLOCK 256u /* intervals corrected at once: an even number */
+
+/* Every second of the 64 intervals before a lock. */
+static uint32_t half_sum(const uint16_t *run) {
+    uint32_t sum = 0;
+    for (size_t i = 0; i < SYNC; i += 2) sum += run[i];
+    return sum;
+}
+
+static inline uint16_t at_speed(uint32_t nominal, uint32_t sum, uint16_t interval) {
+    uint32_t number = interval * nominal / sum;
+    return (uint16_t)(number > UINT16_MAX ? UINT16_MAX : number);
+}
+
+static void correct(uint32_t nominal, const uint32_t sums[2], const uint16_t *intervals, size_t n, uint16_t *block) {
+    uint32_t even = sums[0], odd = sums[1];
+    size_t i = 0;
+    for (; i + 1 < n; i += 2) {
+        block[i] = at_speed(nominal, even, intervals[i]);
+        block[i + 1] = at_speed(nominal, odd, intervals[i + 1]);
+    }
+    if (i < n) block[i] = at_speed(nominal, even, intervals[i]);
+}
+
+/* As read_bytes, block by block, with the nearest to the edges; the answer counts the intervals, or refuses. */
+ALWAYS_INLINE ism_answer read_slowed(const ism_profile *p, struct windows w, bool pairs, const uint32_t sums[2],
+                                     const uint16_t *intervals, size_t n, size_t bytes, uint16_t *items,
+                                     struct nearest *near) {
+    uint16_t block[BLOCK], kinds[BLOCK];
+    const uint32_t nominal = 32u * p->t1;
+    struct half_cells h = lead;
+    size_t used = 0, stray = NO_STRAY, count = 0;
+    bool two = true;
+    while (count < bytes) {
+        if (used == n) return refused(ISM_SHORT, 0);
+        size_t i = 0, length = n - used < BLOCK ? n - used : BLOCK;
+        correct(nominal, sums, intervals + used, length, block);
+        while (i < length && count < bytes) {
+            if (is_outside(w, block[i])) return refused_outside(w, block[i], used + i);
+            h = with_cell(h, w, pairs, block[i++]);
+            if (h.over < 0) continue;
+            uint32_t word = whole_word(h);
+            if (missing_clocks(word) != 0 && !is_mark_word(word) && stray == NO_STRAY)
+                stray = stray_place(h, used + i - 1);
+            items[count++] = item_of(word);
+            h.over -= WORD;
+        }
+        if (pairs) two = kinds_before(p, two, block, i, kinds);
+        add_nearest(near, p, block, pairs ? kinds : NULL, i);
+        used += i;
+    }
+    if (stray == NO_STRAY && ends_in_gap(h)) stray = used - 1;
+    return stray == NO_STRAY ? counted(used) : refused(ISM_STRAY, stray);
+}
+
+static ism_corrected turned_away(uint32_t number, uint32_t place) {
+    ism_corrected answer = {.number = number, .place = place};
+    return answer;
+}
+
+/* 16 x the difference of a sum, sign dropped, is above 32 x T1. */
+static bool is_off_speed(uint32_t nominal, uint32_t sum) {
+    return nominal < 16 * (sum < nominal ? nominal - sum : sum - nominal);
+}
+
+ism_corrected NAME(read_corrected)(ism_profile profile, const uint16_t *intervals, size_t n, uint64_t start,
+                                   uint64_t bytes, uint16_t *out, size_t room) {
+    uint16_t items[ISM_MAX_FIELD_BYTES];
+    ism_answer verdict = check_profile(&profile);
+    if (verdict.number != ISM_ACCEPTED) return turned_away(verdict.number, verdict.place);
+    size_t lock = NAME(find_lock)(&profile, intervals, n, start);
+    if (lock == NOWHERE) return turned_away(ISM_ADRIFT, 0);
+    const uint32_t nominal = 32u * profile.t1;
+    const uint32_t sums[2] = {half_sum(intervals + lock - SYNC), half_sum(intervals + lock - SYNC + 1)};
+    if (is_off_speed(nominal, sums[0])) return turned_away(ISM_OFF_SPEED, 0);
+    if (is_off_speed(nominal, sums[1])) return turned_away(ISM_OFF_SPEED, 1);
+    if (bytes < 1 || bytes > ISM_MAX_FIELD_BYTES) return turned_away(ISM_MISCOUNT, 0);
+    struct windows w = windows_of(&profile);
+    struct nearest near = none_near;
+    size_t count = (size_t)bytes;
+    verdict = w.pairs ? read_slowed(&profile, w, true, sums, intervals + lock, n - lock, count, items, &near)
+                      : read_slowed(&profile, w, false, sums, intervals + lock, n - lock, count, items, &near);
+    if (verdict.number != ISM_ACCEPTED) return turned_away(verdict.number, verdict.place);
+    if (room < count) return turned_away(ISM_FULL, 0);
+    memcpy(out, items, count * sizeof *items);
+    ism_corrected answer = {.lock = lock,
+                            .count = bytes,
+                            .used = verdict.count,
+                            .holds = register_after(items, count) == 0,
+                            .clearance = clearance_of(&profile, &near),
+                            .even = (int32_t)(sums[0] - nominal),
+                            .odd = (int32_t)(sums[1] - nominal)};
+    return answer;
+}
+
 /* --------------------------------------------------------------------------------------------------------- finder */
 
 static bool has_mark(const ism_profile *p, const uint16_t *intervals, size_t n) {

@@ -52,29 +52,9 @@ use Rattle.demands.proofs.OrderLaws.{told-once-accepted, told-room, tol
 use Rattle.demands.proofs.OrderLaws.{means-equal}
 use Rattle.demands.proofs.BestTurn.{best-in-turn}
 use Rattle.demands.proofs.StopLaws.{edges-in-turn, stop-in-turn}
-
--- ---- finder
-
-lock-or-adrift
-    : (cs : List Class) (places k : ℕ) → (firstLock cs k places .number ≡ 0) ⊎ (firstLock cs k places ≡ refused 10 0)
-unfolding firstLock
-lock-or-adrift cs zero k = inr refl
-lock-or-adrift cs (suc places) k =
-    elim (lockAt cs k) as (λ t.
-    (cond t (accepted k) (firstLock cs (suc k) places) .number ≡ 0)
-    ⊎ (cond t (accepted k) (firstLock cs (suc k) places) ≡ refused 10 0))
-    [ true ↦ inl refl | false ↦ lock-or-adrift cs places (suc k) ]
-
-lock-in-turn
-    : (cs : List Class) (start : ℕ)
-    → Answers (turn 10 (at0 ((k : ℕ) → lockAt cs k ≡ true → ⊥)) accept) (countedFrom start (lockFrom cs 0))
-unfolding lockFrom
-lock-in-turn cs start =
-    ⊎-elim (λ found.
-    rw found (answers-later (λ k none. none .0 _ (lock-from-found cs 0 found .stands)) answers-accepted))
-    (λ adrift.
-    rw adrift (answers-here (λ k stands. true≢false (cc (adrift-has-no-lock cs 0 (cc adrift) k (omega arith))), refl)))
-    (lock-or-adrift cs (length cs - 0) 0)
+use Rattle.demands.proofs.LockOrder.{lock-in-turn}
+use Rattle.demands.proofs.SpeedOrder.{corrected-in-turn, corrected-is-lent}
+use Rattle.speed.proofs.ReadLaws.{answer-is-rule}
 
 -- ---- images
 
@@ -114,6 +94,7 @@ demand-1 =
           profile-first p _
           (turn-by-test (means-either n 1 1030 n)
           (stop-in-turn cs _ _ (turn-by-test (means-at _ _) (last-below room n _)) n));
+      corrected-reader = corrected-in-turn;
       maker = λ track side sector code bytes room.
           turn-by-test (means-or (means-equal code 0) (means-at _ _)) (last-below room _ _);
       drive-report = λ p ds. profile-first p _ (last-below 51202 _ _);
@@ -135,6 +116,7 @@ demand-1 =
       program = program-in-turn;
       program-refuses = program-refuses;
       field-answer = field-answer;
+      corrected-answer = answer-is-rule;
       field-rest = field-rest;
       whole-list = whole-list;
       writer-output = λ p items old.
@@ -151,6 +133,7 @@ demand-1 =
           (told-by-test (outside 1 1030 n) 11 _
           (told-once-accepted (fieldStop cs n) (λ stops.
           told-by-test (fieldStray cs n) 7 _ (told-room n _ (field-items-count cs n stops))))));
+      corrected-output = corrected-is-lent;
       maker-output = λ track side sector code bytes old.
           settled-is-lent _ _ old (told-by-test (isMisfitInMaker code bytes) 12 _ (told-room _ _ refl));
       image-output = λ items old.

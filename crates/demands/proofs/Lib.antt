@@ -5,6 +5,8 @@ pub mod ProgramLaws
 pub mod FifoLaws
 pub mod RestLaws
 pub mod BestTurn
+pub mod LockOrder
+pub mod SpeedOrder
 pub mod Demand1
 pub mod SettledCases
 pub mod ListLaws

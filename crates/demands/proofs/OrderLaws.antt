@@ -106,6 +106,13 @@ means-below a b =
       | false ↦ λ e. fails (λ k c. let h = ltb-false a b e in omega arith)
     ] refl
 
+pub means-below-at : (place a b : ℕ) → Means place (λ k. (a < b) × (k ≡ place)) (ltb a b)
+means-below-at place a b =
+    elim (ltb a b) as (λ t. ltb a b ≡ t → Means place (λ k. (a < b) × (k ≡ place)) t) [
+      | true ↦ λ e. holds (ltb-true a b e, refl)
+      | false ↦ λ e. fails (λ k h. absurd (omega (arith, ltb-false a b e, h .0)))
+    ] refl
+
 pub means-equal : (a b : ℕ) → Means 0 (at0 (a ≡ b)) (eqb a b)
 means-equal a b =
     elim (eqb a b) as (λ t. eqb a b ≡ t → Means 0 (at0 (a ≡ b)) t) [

@@ -70,28 +70,35 @@ stripOrder p ds room =
     (turn 9 (at0 (room < length (itemsOfStream p ds)))
     accept)))))))
 
--- finder: 1, 2, 10 (no lock stands at any place of the list from the start on)
+-- 10, adrift: no lock stands at any place of a list
+abbrev pub Adrift : List Class → Type 0
+Adrift cs = (k : ℕ) → lockAt cs k ≡ true → ⊥
+
+-- finder: 1, 2, 10 (of the list from the start on)
 abbrev pub finderOrder : Profile → List ℕ → ℕ → Order
 finderOrder p ds start =
     profileOrder p
-    (turn 10 (at0 ((k : ℕ) → lockAt (classesOf p (drop start ds)) k ≡ true → ⊥))
+    (turn 10 (at0 (Adrift (classesOf p (drop start ds))))
     accept)
 
 -- the intervals of some classes, none narrow or wide, give fewer bits than the lead and n bytes
 abbrev pub Fewer : List Class → ℕ → Type 0
 Fewer cs n = length (readBits (cellsOfClasses cs)) < bitsWanted n
 
--- field: 1, 2, 12, then 5, 6 (met while bits are wanted) or 11 (the list ends while they are), 8, 9
-abbrev pub fieldOrder : Profile → List ℕ → ℕ → ℕ → Order
-fieldOrder p ds n room =
-    profileOrder p
-    (turn 12 (at0 ((n < 1) ⊎ (1030 < n)))
-    (turn 5 (λ place. FirstUnread Narrow (classesOf p ds) place × Fewer (take place (classesOf p ds)) n)
-    (turn 6 (λ place. FirstUnread Wide (classesOf p ds) place × Fewer (take place (classesOf p ds)) n)
-    (turn 11 (at0 ((anywhere isUnread (classesOf p ds) ≡ false) × Fewer (classesOf p ds) n))
-    (turn 8 (λ place. (fieldStray (classesOf p ds) n ≡ true) × (place ≡ fieldStrayPlace (classesOf p ds) n))
+-- 12, then 5, 6 (met while bits are wanted) or 11 (the list ends while they are), 8, 9
+abbrev pub countedFieldOrder : List Class → ℕ → ℕ → Order
+countedFieldOrder cs n room =
+    turn 12 (at0 ((n < 1) ⊎ (1030 < n)))
+    (turn 5 (λ place. FirstUnread Narrow cs place × Fewer (take place cs) n)
+    (turn 6 (λ place. FirstUnread Wide cs place × Fewer (take place cs) n)
+    (turn 11 (at0 ((anywhere isUnread cs ≡ false) × Fewer cs n))
+    (turn 8 (λ place. (fieldStray cs n ≡ true) × (place ≡ fieldStrayPlace cs n))
     (turn 9 (at0 (room < n))
-    accept))))))
+    accept)))))
+
+-- field: 1, 2, then these
+abbrev pub fieldOrder : Profile → List ℕ → ℕ → ℕ → Order
+fieldOrder p ds n room = profileOrder p (countedFieldOrder (classesOf p ds) n room)
 
 -- maker: 13 (the length code is 0, which document 02, (xiii), adds, or above 3, or the data not that long), 9
 abbrev pub makerOrder : ℕ → ℕ → ℕ → ℕ → List ℕ → ℕ → Order

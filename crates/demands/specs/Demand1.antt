@@ -24,6 +24,8 @@ use Rattle.merge.specs.Set.{setBytes, sectorsIn}
 use Rattle.merge.specs.Merge.{merged}
 use Rattle.merge.specs.Rule.{mergeRule, mergeAnswer, mergeOutput}
 use Rattle.track.specs.Index.{indexRule}
+use Rattle.speed.specs.Speed.{correctedAt}
+use Rattle.speed.specs.Reading.{lockOf, correctedRule, correctedReading, correctedOutput}
 use Rattle.limits.specs.Limits.{limitsRule}
 use Rattle.best.specs.Best.{bestRule}
 use Rattle.best.specs.declared.Writing.{Writing}
@@ -38,6 +40,7 @@ use Rattle.demands.specs.ReportCauses.{reportOrder, addOrder}
 use Rattle.demands.specs.ImageCauses.{imageMakerOrder, imageReaderOrder}
 use Rattle.demands.specs.IndexCauses.{indexOrder}
 use Rattle.demands.specs.MergeCauses.{mergeOrder, countedInBytes}
+use Rattle.demands.specs.SpeedCauses.{correctedOrder}
 use Rattle.demands.specs.BestCauses.{bestOrder}
 use Rattle.demands.specs.FifoCauses.{PutsInTurn, TakesRefuseNothing}
 use Rattle.demands.specs.ProgramCauses.{programOrder}
@@ -53,6 +56,9 @@ pub record Demand1 : Type 0 where
   pub finder : (p : Profile) (ds : List ℕ) (start : ℕ) → Answers (finderOrder p ds start) (findRule p ds start)
   pub field-reader
       : (p : Profile) (ds : List ℕ) (n room : ℕ) → Answers (fieldOrder p ds n room) (fieldRule p ds n room)
+  pub corrected-reader
+      : (p : Profile) (ds : List ℕ) (start n room : ℕ)
+      → Answers (correctedOrder p ds start n room) (correctedRule p ds start n room)
   pub maker
       : (track side sector code : ℕ) (bytes : List ℕ) (room : ℕ)
       → Answers (makerOrder track side sector code bytes room) (sectorRule track side sector code bytes room)
@@ -69,9 +75,13 @@ pub record Demand1 : Type 0 where
   -- a refusal of the program prints `refused`, number, place, and nothing else
   pub program-refuses
       : (text : List ℕ) → (programRule text .number ≡ 0 → ⊥) → programText text ≡ refusalText (programRule text)
-  -- the number, place and count that the field reader gives are those of its order; its second entry hands back the
+  -- the number, place and count that the field reader and the corrected reader give are those of their orders; the field
+  -- reader's second entry hands back the
   -- rest of the caller's own list, and on a refusal the whole of it
   pub field-answer : (p : Profile) (ds : List ℕ) (n room : ℕ) → fieldReading p ds n room .answer ≡ fieldRule p ds n room
+  pub corrected-answer
+      : (p : Profile) (ds : List ℕ) (start n room : ℕ)
+      → correctedReading p ds start n room .field .reading .answer ≡ correctedRule p ds start n room
   pub field-rest
       : (p : Profile) (ds : List ℕ) (n room : ℕ)
       → fieldRule p ds n room .number ≡ 0
@@ -90,6 +100,10 @@ pub record Demand1 : Type 0 where
   pub field-output
       : (p : Profile) (ds : List ℕ) (n : ℕ) (old : List ℕ)
       → Lent (fieldRule p ds n (length old)) (fieldItems (classesOf p ds) n) old (fieldOutput p ds n old)
+  pub corrected-output
+      : (p : Profile) (ds : List ℕ) (start n : ℕ) (old : List ℕ)
+      → Lent (correctedRule p ds start n (length old))
+      (fieldItems (classesOf p (correctedAt p ds (lockOf p ds start))) n) old (correctedOutput p ds start n old)
   pub maker-output
       : (track side sector code : ℕ) (bytes old : List ℕ)
       → Lent (sectorRule track side sector code bytes (length old)) (sectorItems track side sector code bytes) old

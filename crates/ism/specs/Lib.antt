@@ -1,5 +1,6 @@
 pub mod Answers
 pub mod Reports
+pub mod Slow
 pub mod Cards
 pub mod Windows
 pub mod Version

@@ -20,6 +20,7 @@ pub mod image;
 pub mod index;
 pub mod passes;
 pub mod queue;
+pub mod slow;
 pub mod version;
 pub mod windows;
 

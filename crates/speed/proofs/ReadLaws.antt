@@ -241,3 +241,30 @@ module _ (p : Profile) (ds : List ℕ) (start n : ℕ) (old : List ℕ) where
         let high = lock-is-within classes (lockFrom classes 0 .count) (first .stands) in
         let long = classes-length p (drop start ds) ∙ length-drop start ds in
         (fair, omega (arith, low, place), omega (arith, place, high, long))
+
+field-answer
+    : (p : Profile) (es : List ℕ) (n room : ℕ)
+    → fieldWithClearance p es n room .reading .answer ≡ fieldRule p es n room
+unfolding fieldWithClearance fieldReading
+field-answer p es n room = answer-is-its-rule (fieldRule p es n room) _ _
+
+-- the number, place and count that the entry gives are those of its rule
+pub answer-is-rule
+    : (p : Profile) (ds : List ℕ) (start n room : ℕ)
+    → correctedReading p ds start n room .field .reading .answer ≡ correctedRule p ds start n room
+unfolding correctedReading correctedRule ruleAt
+answer-is-rule p ds start n room = split (eqb (correctedRule p ds start n room .number) 0) refl
+  where
+    split
+        : (t : Bool)
+        → eqb (correctedRule p ds start n room .number) 0 ≡ t
+        → correctedReading p ds start n room .field .reading .answer ≡ correctedRule p ds start n room
+    split true e =
+        let lock = findRule p ds start .count in
+        let es = correctedAt p ds lock in
+        let (finds, there) = first-refusal-accepts (findRule p ds start) _ (eqb-true _ _ e) in
+        let (on-speed, reads) = first-refusal-accepts (speedRule p ds lock) _ there in
+        rw e (field-answer p es n room
+        ∙ sym (first-refusal-passes (findRule p ds start) _ finds
+        ∙ first-refusal-passes (speedRule p ds lock) (fieldRule p es n room) on-speed))
+    split false e = rw e refl

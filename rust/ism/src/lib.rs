@@ -33,6 +33,7 @@ mod limits;
 mod passes;
 mod refusal;
 mod report;
+mod slow;
 pub mod sys;
 #[cfg(test)]
 mod tests;
@@ -44,6 +45,7 @@ pub use limits::{margin_limits, After, Edge, Limit, Limits, Side, MAX_LIMITS};
 pub use passes::{merge, sectors, Sector, SectorSet, Sectors, MAX_SECTORS, MAX_SET_BYTES};
 pub use refusal::Refusal;
 pub use report::{drive_report, Report};
+pub use slow::{read_corrected, Corrected};
 pub use sys::{Profile, ReportRow};
 
 use refusal::accepted;

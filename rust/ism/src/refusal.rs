@@ -62,6 +62,11 @@ pub enum Refusal {
         /// the sector's number
         sector: u8,
     },
+    /// 18, off speed: the drive is more than a sixteenth off
+    OffSpeed {
+        /// 0 by the even intervals, 1 by the odd
+        half: usize,
+    },
     /// A number that this version of the interface does not list: the linked library is of another version
     Unlisted {
         /// the refusal's number
@@ -93,6 +98,7 @@ impl Refusal {
             15 => Refusal::TooManySectors,
             16 => Refusal::UnrulyWord { place },
             17 => Refusal::SectorsAtOdds { sector: place as u8 },
+            18 => Refusal::OffSpeed { half: place },
             _ => Refusal::Unlisted { number, place },
         })
     }
@@ -116,15 +122,18 @@ impl Refusal {
             Refusal::TooManySectors => 15,
             Refusal::UnrulyWord { .. } => 16,
             Refusal::SectorsAtOdds { .. } => 17,
+            Refusal::OffSpeed { .. } => 18,
             Refusal::Unlisted { number, .. } => *number,
         }
     }
 
-    /// The place: which profile number (from 1), which item, interval or word (from 0), which sector number; else 0.
+    /// The place: which profile number (from 1), which item, interval or word (from 0), which sector number, which half
+    /// of a pair; else 0.
     pub fn place(&self) -> usize {
         match self {
             Refusal::ProfileOutOfRange { field } => *field,
             Refusal::SectorsAtOdds { sector } => usize::from(*sector),
+            Refusal::OffSpeed { half } => *half,
             Refusal::NotAnItem { place }
             | Refusal::IntervalTooShort { place }
             | Refusal::IntervalTooLong { place }
@@ -162,6 +171,10 @@ impl fmt::Display for Refusal {
             Refusal::UnrulyWord { place } => write!(f, "word {place} is that of no item after its previous bit"),
             Refusal::SectorsAtOdds { sector } => {
                 write!(f, "sector {sector} is twice in one set, or its two good copies differ")
+            }
+            Refusal::OffSpeed { half } => {
+                let which = if *half == 0 { "even" } else { "odd" };
+                write!(f, "the drive is more than a sixteenth off its speed, by the {which} intervals before the lock")
             }
             Refusal::Unlisted { number, place } => write!(f, "unlisted refusal {number} at place {place}"),
         }

@@ -47,6 +47,21 @@ pub struct Answer {
     pub clearance: u32,
 }
 
+/// `ism_corrected`
+#[repr(C)]
+#[derive(Clone, Copy, Debug, PartialEq, Eq)]
+pub struct Corrected {
+    pub number: u32,
+    pub place: u32,
+    pub lock: u64,
+    pub count: u64,
+    pub used: u64,
+    pub holds: u32,
+    pub clearance: u32,
+    pub even: i32,
+    pub odd: i32,
+}
+
 /// `ism_limit`
 #[repr(C)]
 #[derive(Clone, Copy, Debug, Default, PartialEq, Eq)]
@@ -205,6 +220,15 @@ extern "C" {
         out: *mut u16,
         room: usize,
     ) -> Answer;
+    pub fn ism_read_corrected(
+        profile: Profile,
+        intervals: *const u16,
+        n: usize,
+        start: u64,
+        bytes: u64,
+        out: *mut u16,
+        room: usize,
+    ) -> Corrected;
     pub fn ism_make_image(items: *const u16, n: usize, words: *mut u16, room: usize) -> Answer;
     pub fn ism_read_image(words: *const u16, n: usize, items: *mut u16, room: usize) -> Answer;
     pub fn ism_make_sector(

@@ -43,7 +43,12 @@ impl<O, A: Reply> Expected<O, A> {
 
     /// An answer that stores nothing.
     pub fn answer(answer: A) -> Self {
-        Expected { answer, front: Vec::new() }
+        Expected::storing(answer, Vec::new())
+    }
+
+    /// An answer with the front of the output.
+    pub fn storing(answer: A, front: Vec<O>) -> Self {
+        Expected { answer, front }
     }
 }
 

@@ -19,6 +19,7 @@ pub mod profiles;
 pub mod reports;
 pub mod sectors;
 pub mod settled;
+pub mod slow_drives;
 pub mod stretch;
 pub mod strip_texts;
 pub mod strips;

@@ -133,6 +133,14 @@ fn library() {
     compare.group("long lists: leads", 0xD4, cases::long_lists::leads);
     compare.group("long lists: reports", 0xD5, cases::long_lists::reports);
     compare.group("long lists: searches", 0xD6, cases::long_lists::searches);
+    compare.group("slow drives: by hand", 0xE0, cases::slow_drives::by_hand);
+    compare.group("slow drives: limits of speed", 0xE1, cases::slow_drives::limits);
+    compare.group("slow drives: faults together", 0xE2, cases::slow_drives::faults);
+    compare.group("slow drives: tracks", 0xE3, cases::slow_drives::tracks);
+    compare.group("slow drives: random lists", 0xE4, cases::slow_drives::random_lists);
+    compare.group("slow drives: nominal speed", 0xE5, cases::slow_drives::nominal);
+    compare.group("slow drives: speed drops out", 0xE6, cases::slow_drives::speed_drops_out);
+    compare.group("slow drives: every length", 0xE7, cases::slow_drives::every_length);
     compare.group("merge: sets by hand", 0xB0, cases::merges::by_hand);
     compare.group("merge: every choice of a copy", 0xB1, cases::merges::every_choice);
     compare.group("merge: every size", 0xB2, cases::merges::every_size);
@@ -182,6 +190,7 @@ fn check_coverage(compare: &Compare) {
         ("ism_read_image", &[0, 4, 16, 9]),
         ("ism_find", &[0, 1, 2, 10]),
         ("ism_read_field", &[0, 1, 2, 12, 5, 6, 11, 8, 9]),
+        ("ism_read_corrected", &[0, 1, 2, 10, 18, 12, 5, 6, 11, 8, 9]),
         ("ism_make_sector", &[0, 13, 9]),
         ("ism_merge", &[0, 13, 15, 17, 9]),
         ("ism_index_track", &[0, 1, 2, 15]),

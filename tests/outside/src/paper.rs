@@ -15,6 +15,7 @@ mod profile;
 mod reading;
 pub mod report;
 mod sector;
+pub mod slow;
 pub mod strip;
 
 pub use cells::*;

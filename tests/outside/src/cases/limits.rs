@@ -127,9 +127,10 @@ pub fn null_pointers(compare: &mut Compare, _: &mut Random) {
             ism_find(p, null(), 0, 0).number,
             ism_read_field(p, null(), 0, 1, null_mut(), 0).number,
             ism_make_sector(0, 0, 0, 0, null(), 0, null_mut(), 0).number,
+            ism_read_corrected(p, null(), 0, 0, 1, null_mut(), 0).number,
         ]
     };
-    for (number, expected) in numbers.into_iter().zip([0, 9, 7, 10, 11, 13]) {
+    for (number, expected) in numbers.into_iter().zip([0, 9, 7, 10, 11, 13, 10]) {
         compare.claim(&format!("null pointers of length 0 give {numbers:?}"), number == expected);
     }
     compare.claim("no items are two intervals", out == [58, 58, 7, 7]);

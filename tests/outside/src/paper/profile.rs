@@ -69,11 +69,11 @@ pub fn ends_short(letters: &str) -> bool {
     letters.is_empty() || letters.ends_with('2')
 }
 
-/// The classes of a list of intervals, a letter each.
-pub fn classes(eleven: &Eleven, intervals: &[u16]) -> String {
+/// The classes of a list of intervals, a letter each; corrected numbers (request (xi)) are of any size.
+pub fn classes<N: Copy + Into<i64>>(eleven: &Eleven, intervals: &[N]) -> String {
     let mut letters = String::new();
     for interval in intervals {
-        letters.push(class_letter(eleven, ends_short(&letters), i64::from(*interval)));
+        letters.push(class_letter(eleven, ends_short(&letters), (*interval).into()));
     }
     letters
 }
@@ -81,22 +81,21 @@ pub fn classes(eleven: &Eleven, intervals: &[u16]) -> String {
 /// How far an interval is inside its window: the most half clocks by which it could move either way and keep its class;
 /// 0 for narrow and wide.
 pub fn clearance(eleven: &Eleven, after_short: bool, interval: u16) -> u32 {
-    (1..).take_while(|by| keeps(eleven, after_short, interval, *by)).count() as u32
+    (1..).take_while(|by| keeps(eleven, after_short, interval.into(), *by)).count() as u32
 }
 
 /// The least of these over a list of intervals: ever longer moves are tried on all of them.
-pub fn least_clearance(eleven: &Eleven, intervals: &[u16]) -> u32 {
+pub fn least_clearance<N: Copy + Into<i64>>(eleven: &Eleven, intervals: &[N]) -> u32 {
     let letters = classes(eleven, intervals);
     let kept = |by: i64| {
-        let one = |(place, interval): (usize, &u16)| keeps(eleven, ends_short(&letters[..place]), *interval, by);
+        let one = |(place, interval): (usize, &N)| keeps(eleven, ends_short(&letters[..place]), (*interval).into(), by);
         intervals.iter().enumerate().all(one)
     };
     (1..).take_while(|by| kept(*by)).count() as u32
 }
 
 /// Whether an interval is of class 2, 3 or 4 and of the same class when moved either way.
-fn keeps(eleven: &Eleven, after_short: bool, interval: u16, by: i64) -> bool {
-    let d = i64::from(interval);
+fn keeps(eleven: &Eleven, after_short: bool, d: i64, by: i64) -> bool {
     let [class, lower, upper] = [d, d - by, d + by].map(|e| class_letter(eleven, after_short, e));
     !"nw".contains(class) && lower == class && upper == class
 }

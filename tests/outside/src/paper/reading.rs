@@ -123,7 +123,7 @@ pub struct Field {
 }
 
 /// The field reader.
-pub fn read_field(eleven: &Eleven, intervals: &[u16], n: u64, room: usize) -> Result<Field, Refused> {
+pub fn read_field<N: Copy + Into<i64>>(eleven: &Eleven, intervals: &[N], n: u64, room: usize) -> Result<Field, Refused> {
     check_profile(eleven)?;
     if !(1..=MOST_FIELD_BYTES).contains(&n) {
         return refuse(12, 0);
@@ -136,7 +136,7 @@ pub fn read_field(eleven: &Eleven, intervals: &[u16], n: u64, room: usize) -> Re
         let Some(interval) = intervals.get(used) else {
             return refuse(11, 0);
         };
-        let letter = class_letter(eleven, ends_short(&letters), i64::from(*interval));
+        let letter = class_letter(eleven, ends_short(&letters), (*interval).into());
         check_letter(letter, used)?;
         reading.take(letter, used);
         letters.push(letter);
