@@ -381,14 +381,14 @@ ism_answer ism_read_field(ism_profile profile, const uint16_t *intervals, size_t
  *   holds         1 if the CRC register is zero after the items, else 0
  *   clearance     the least over the corrected numbers of the used intervals
  *   even, odd     S0 - 32 x t1 and S1 - 32 x t1
- *   refusals      ISM_UNSET, ISM_CROSSED, ISM_ADRIFT, ISM_OFF_SPEED (16 x a difference, sign dropped, is above 32 x t1),
- *                 ISM_MISCOUNT, then ISM_NARROW, ISM_WIDE or ISM_SHORT as first met, ISM_STRAY, ISM_FULL; the places of
- *                 ISM_NARROW, ISM_WIDE and ISM_STRAY count from the lock
+ *   refusals      ISM_UNSET, ISM_CROSSED, ISM_ADRIFT, ISM_OFF_SPEED (16 x a difference, sign dropped, is above
+ *                 32 x t1), ISM_MISCOUNT, then ISM_NARROW, ISM_WIDE or ISM_SHORT as first met, ISM_STRAY, ISM_FULL; the
+ *                 places of ISM_NARROW, ISM_WIDE and ISM_STRAY count from the lock
  *
  * What a bench does with the differences: 100 x (even + odd) / (64 x t1) is by how many percent the intervals are too
  * long, so that the drive runs slow, or too short where it is below 0; (even - odd) / 32 is by how many half clocks the
- * two halves of a pair differ. A drive is taken up to 6.25 percent either way, by each half. Where both differences are 0
- * the answer is that of ism_read_field from the lock on. Two lists of which one is the other slowed or hastened by an
+ * two halves of a pair differ. A drive is taken up to 6.25 percent either way, by each half. Where both differences are
+ * 0 the answer is that of ism_read_field from the lock on. Two lists of which one is the other slowed or hastened by an
  * exact ratio give the same but for the differences, where both have the lock at one place.
  *
  * The last of the 64 ends Early as written, so that S1 is not nominal where early < normal: there a field that

@@ -262,6 +262,30 @@ fn read_field(r: &mut Random, all: &[Implementation], p: Profile) -> Result<(), 
     same(all, what, with_output(all, room, |who, out| (who.read_field)(p, list, bytes, out)))
 }
 
+/// The corrected reader, which not all have: a sync field, marks and a stream, at some speed.
+fn read_corrected(r: &mut Random, all: &[Implementation], p: Profile) -> Result<(), String> {
+    let mut list = vec![p.t1; r.of(&[64, 64, 65, 90])];
+    list.extend([3, 4, 3, 4, 3].map(|units: u16| p.t1.wrapping_add(p.t0.wrapping_mul(units - 2))));
+    list.extend(stream(r, &all[0], p, 1_040));
+    let slow = r.within(935, 1_065) as u64;
+    list.iter_mut().for_each(|d| *d = (u64::from(*d) * slow / 1_000).min(65_535) as u16);
+    let most = list.len() as u64 / 6 + 2;
+    let bytes = if r.one_in(30) { r.of(&[0, 1, 1_030, 1_031, u64::MAX]) } else { 1 + r.below(most) };
+    let start = if r.one_in(4) { r.below(30) } else { 0 };
+    let room = room(r, bytes.min(2_000));
+    let mut results = all.iter().filter_map(|who| {
+        let mut out = vec![FILL; room];
+        Some((who.name, who.read_corrected?(p, &list, start, bytes, &mut out), out))
+    });
+    let (_, answer, output) = results.next().expect("the library has it");
+    match results.find(|(_, other, out)| *other != answer || *out != output) {
+        None => Ok(()),
+        Some((name, other, _)) => {
+            Err(format!("read_corrected {p:?} {start} {bytes} {list:?}: {name} gives {other:?}, library {answer:?}"))
+        }
+    }
+}
+
 /// Intervals in runs, each of class 2, of class 3, narrow, wide, or such that the one before decides; at times a mark.
 fn runs(r: &mut Random, p: Profile) -> Vec<u16> {
     let mut list = Vec::new();
@@ -490,7 +514,9 @@ pub fn run(all: &[Implementation], calls: u64) -> Result<(), String> {
             0..=3 => write(r, all, p)?,
             4..=7 => read(r, all, p)?,
             8..=10 => read_field(r, all, p)?,
-            11..=12 => find(r, all, p)?,
+            11 => find(r, all, p)?,
+            12 if r.one_in(2) => read_corrected(r, all, p)?,
+            12 => find(r, all, p)?,
             13 if r.one_in(4) => make_sector(r, all)?,
             13 if r.one_in(4) => index_track(r, all, p)?,
             14 => fifo(r, all)?,

@@ -3,10 +3,13 @@
 
 use bench::careful::*;
 use bench::plain::*;
-use ism::sys::{Answer, Fifo, FifoAnswer, Index, Profile, Report};
+use ism::sys::{Answer, Corrected, Fifo, FifoAnswer, Index, Profile, Report};
 
 /// Track, side, sector, length code.
 pub type Id = [u8; 4];
+
+/// The corrected reader: list, start, bytes, output.
+pub type ReadCorrected = fn(Profile, &[u16], u64, u64, &mut [u16]) -> Corrected;
 
 /// What kind of version one is; the best of a kind counts.
 #[derive(Clone, Copy, PartialEq, Eq)]
@@ -50,6 +53,8 @@ pub struct Implementation {
     pub read: fn(Profile, &[u16], &mut [u16]) -> Answer,
     pub find: fn(Profile, &[u16], u64) -> Answer,
     pub read_field: fn(Profile, &[u16], u64, &mut [u16]) -> Answer,
+    /// the library and careful C alone have it
+    pub read_corrected: Option<ReadCorrected>,
     pub make_sector: fn(Id, &[u8], &mut [u16]) -> Answer,
     pub make_image: fn(&[u16], &mut [u16]) -> Answer,
     pub read_image: fn(&[u16], &mut [u16]) -> Answer,
@@ -140,6 +145,7 @@ macro_rules! c_interface {
                     read_field: |p, list, n, out| unsafe {
                         read_field(p, list.as_ptr(), list.len(), n, out.as_mut_ptr(), out.len())
                     },
+                    read_corrected: None,
                     make_sector: |[track, side, sector, code], data, out| unsafe {
                         make_sector(track, side, sector, code, data.as_ptr(), data.len(), out.as_mut_ptr(), out.len())
                     },
@@ -206,6 +212,7 @@ const RUST: Implementation = Implementation {
     read: plain_rust_read,
     find: plain_rust_find,
     read_field: plain_rust_read_field,
+    read_corrected: None,
     make_sector: plain_rust_make_sector,
     make_image: plain_rust_make_image,
     read_image: plain_rust_read_image,
@@ -220,7 +227,7 @@ const RUST: Implementation = Implementation {
 macro_rules! careful {
     ($module:ident, $prefix:literal, $name:literal) => {
         mod $module {
-            use super::{Answer, Implementation, Index, Kind, Profile, RUST};
+            use super::{Answer, Corrected, Implementation, Index, Kind, Profile, RUST};
 
             extern "C" {
                 #[link_name = concat!($prefix, "margin")]
@@ -236,6 +243,16 @@ macro_rules! careful {
                 #[link_name = concat!($prefix, "read_field")]
                 fn read_field(p: Profile, list: *const u16, n: usize, bytes: u64, out: *mut u16, room: usize)
                     -> Answer;
+                #[link_name = concat!($prefix, "read_corrected")]
+                fn read_corrected(
+                    p: Profile,
+                    list: *const u16,
+                    n: usize,
+                    start: u64,
+                    bytes: u64,
+                    out: *mut u16,
+                    room: usize,
+                ) -> Corrected;
                 #[link_name = concat!($prefix, "index_track")]
                 fn index_track(p: Profile, list: *const u16, n: usize) -> Index;
             }
@@ -252,6 +269,9 @@ macro_rules! careful {
                 read_field: |p, list, n, out| unsafe {
                     read_field(p, list.as_ptr(), list.len(), n, out.as_mut_ptr(), out.len())
                 },
+                read_corrected: Some(|p, list, start, n, out| unsafe {
+                    read_corrected(p, list.as_ptr(), list.len(), start, n, out.as_mut_ptr(), out.len())
+                }),
                 index_track: |p, list| unsafe { index_track(p, list.as_ptr(), list.len()) },
                 ..RUST
             };
@@ -275,10 +295,16 @@ const CAREFUL_RUST: Implementation = Implementation {
     ..RUST
 };
 
+fn library_read_corrected(p: Profile, list: &[u16], start: u64, bytes: u64, out: &mut [u16]) -> Corrected {
+    // SAFETY: each pointer comes with the length of its slice
+    unsafe { ism::sys::ism_read_corrected(p, list.as_ptr(), list.len(), start, bytes, out.as_mut_ptr(), out.len()) }
+}
+
 /// The library first.
 pub fn all() -> [Implementation; 15] {
+    let library = library::implementation(Kind::Library, "library");
     [
-        library::implementation(Kind::Library, "library"),
+        Implementation { read_corrected: Some(library_read_corrected), ..library },
         portable_gcc_o2::implementation(Kind::Portable, "portable-gcc-O2"),
         portable_gcc_o3::implementation(Kind::Portable, "portable-gcc-O3"),
         portable_clang_o2::implementation(Kind::Portable, "portable-clang-O2"),

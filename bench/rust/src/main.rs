@@ -106,12 +106,13 @@ fn repeat(name: &str, who: &str, times: usize, implementations: &[Implementation
 fn agree(implementations: &[Implementation], calls: u64) {
     for plan in tasks::all() {
         let mut task = (plan.make)();
-        let results: Vec<_> = implementations.iter().map(|who| (task.run(who), task.output())).collect();
+        let answering: Vec<_> = implementations.iter().filter(|who| plan.answers(who)).collect();
+        let results: Vec<_> = answering.iter().map(|who| (task.run(who), task.output())).collect();
         if results[0].0.number != task.number {
             fail(&format!("{} is answered with {:?}", plan.name, results[0].0), 1);
         }
         if let Some(who) = results.iter().position(|result| *result != results[0]) {
-            fail(&format!("{} and the library disagree on {}", implementations[who].name, plan.name), 1);
+            fail(&format!("{} and the library disagree on {}", answering[who].name, plan.name), 1);
         }
     }
     if let Err(difference) = agreement::run(implementations, calls) {

@@ -67,31 +67,49 @@ pub struct Plan {
     pub name: &'static str,
     pub input: &'static str,
     pub make: fn() -> Task,
-    /// whether the careful versions have its entry
-    careful: bool,
+    entry: Entry,
+}
+
+/// Which versions have a task's entry; careful ones answer by plain Rust what they do not have.
+#[derive(Clone, Copy, PartialEq, Eq)]
+enum Entry {
+    /// the careful ones too
+    Careful,
+    Plain,
+    /// the corrected reader: the library and careful C
+    Corrected,
 }
 
 impl Plan {
     /// Whether an implementation is measured on the task.
     pub fn measures(&self, who: &Implementation) -> bool {
-        self.careful || !who.kind.is_careful()
+        match self.entry {
+            Entry::Careful => true,
+            Entry::Plain => !who.kind.is_careful(),
+            Entry::Corrected => self.answers(who),
+        }
+    }
+
+    /// Whether it answers at all.
+    pub fn answers(&self, who: &Implementation) -> bool {
+        self.entry != Entry::Corrected || who.read_corrected.is_some()
     }
 }
 
 macro_rules! plans {
-    ($careful:literal, $($name:literal, $input:literal, $make:expr;)*) => {
-        [$(Plan { name: $name, input: $input, make: || $make, careful: $careful }),*]
+    ($entry:expr, $($name:literal, $input:literal, $make:expr;)*) => {
+        [$(Plan { name: $name, input: $input, make: || $make, entry: $entry }),*]
     };
 }
 
 pub fn all() -> Vec<Plan> {
-    with_careful().into_iter().chain(with_pairs()).chain(others()).collect()
+    with_careful().into_iter().chain(with_pairs()).chain(at_own_speed()).chain(others()).collect()
 }
 
 /// Writer, readers, finder and index.
 fn with_careful() -> Vec<Plan> {
     Vec::from(plans! {
-        true,
+        Entry::Careful,
         "write-10", "10 bytes", write(items(10));
         "write-512", "512 bytes", write(items(512));
         "write-6400", "6400 bytes", write(items(6_400));
@@ -129,7 +147,7 @@ fn with_careful() -> Vec<Plan> {
 /// Readers, finder and index where the interval before counts.
 fn with_pairs() -> Vec<Plan> {
     Vec::from(plans! {
-        true,
+        Entry::Careful,
         "read_pairs-6400", "6400 bytes, unequal pairs", read(PAIRS, items(6_400));
         "read_pairs_moved-6400", "6400 bytes, unequal pairs, each interval moved by up to 12",
             read_moved(PAIRS, items(6_400));
@@ -145,9 +163,20 @@ fn with_pairs() -> Vec<Plan> {
     })
 }
 
+/// The corrected reader on a drive that runs 3 percent slow.
+fn at_own_speed() -> Vec<Plan> {
+    Vec::from(plans! {
+        Entry::Corrected,
+        "read_corrected-10", "10 bytes, 3 percent slow", read_corrected(PROFILE, 10);
+        "read_corrected-512", "512 bytes, 3 percent slow", read_corrected(PROFILE, 512);
+        "read_corrected-1030", "1030 bytes, 3 percent slow", read_corrected(PROFILE, 1_030);
+        "read_corrected_pairs-1030", "1030 bytes, 3 percent slow, unequal pairs", read_corrected(PAIRS, 1_030);
+    })
+}
+
 fn others() -> Vec<Plan> {
     Vec::from(plans! {
-        false,
+        Entry::Plain,
         "make_sector-512", "512 data bytes", make_sector(512);
         "make_sector-1024", "1024 data bytes", make_sector(1_024);
         "sector-512", "512 data bytes, made and written", sector(512);
@@ -302,6 +331,23 @@ fn read_field(p: Profile, size: usize) -> Task {
 
 fn read_field_moved(p: Profile, size: usize) -> Task {
     read_field_list(p, moved(field(p, size)), size)
+}
+
+/// A sync field and such a field, each interval 3 percent longer, rounded down. The lock's place, the differences and
+/// the used intervals are part of the answer.
+fn read_corrected(p: Profile, size: usize) -> Task {
+    let items = [vec![0; 12], vec![MARK_A1; 3], items(size - 5), vec![CHECK]].concat();
+    let slowed = |d: u16| (u32::from(d) * 103 / 100) as u16;
+    let list: Vec<u16> = stream(p, &items).into_iter().map(slowed).collect();
+    let units = list.len();
+    let run: Run = Box::new(move |who, out| {
+        let read = who.read_corrected.expect("measured where it is");
+        let read = read(p, &list, 0, size as u64, out);
+        let used = read.used + read.lock + (read.even + 3 * read.odd) as u64;
+        let (holds, clearance) = (read.holds, read.clearance);
+        Answer { number: read.number, place: read.place, count: read.count, used, holds, clearance }
+    });
+    Task::new(units, "interval", size, run)
 }
 
 fn length_code(size: usize) -> u8 {

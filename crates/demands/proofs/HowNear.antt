@@ -20,7 +20,7 @@ use Rattle.lengths.specs.Units.{classOfUnits}
 use Rattle.lengths.proofs.KindLaws.{CellLength, two-short, two-long, three-short, three-long, four-short, four-long}
 use Rattle.lengths.proofs.KindLaws.{cell-length-at, stream-has-cells, length-fits}
 use Rattle.lengths.specs.Margin.{afterTwo}
-use Rattle.lengths.proofs.NearLaws.{Near, near-of-each, near-itself}
+use Rattle.lengths.proofs.NearLaws.{Near, near-streams-are-equally-long, near-at, near-of-each, near-itself}
 use Rattle.lengths.proofs.WindowLaws.{near-length-has-class, near-stream-is-passed}
 use Rattle.lengths.proofs.MarginLaws.{margin-leaves-room}
 use Rattle.lengths.proofs.WitnessLaws.{Broken, above-margin-is-broken}
@@ -48,31 +48,43 @@ inner-of-cell (four-short low high) = tt
 inner-of-cell (four-long low high) = tt
 
 module _ (p : Profile) (accepts : AcceptedProfile p) where
+  -- each interval of a list that is near a stream: no more than c from a length, it has the margin's room less c
+  pub near-is-clear
+      : (items : List ℕ) (c : ℕ)
+      → c ≤ stated p
+      → (changed : List ℕ)
+      → Near c changed (streamOf p items)
+      → (k : ℕ)
+      → k < length changed
+      → stated p - c ≤ clearanceIn (cursorAt p changed k) (getD changed k 0)
+  unfolding streamOf clearanceOf
+  near-is-clear items c few changed near k h =
+      let two = afterTwo (writtenCells (written items)) k in
+      let room = rw (← stated-is-the-margin p accepts) at (margin-leaves-room (kept p accepts)) in
+      let same = near-streams-are-equally-long c changed (streamOf p items) near in
+      let there : k < length (streamOf p items) = rw (← same) h in
+      let window =
+      cell-length-at 2 (writtenCells (written items)) _ (stream-has-cells (kept p accepts) (written items)) k there in
+      let within : Near (stated p) changed (streamOf p items) =
+      near-of-each (stated p) changed (streamOf p items) same (λ j inside.
+      let (longer, shorter) = near-at c changed (streamOf p items) near j in
+      (omega (arith, longer, few), omega (arith, shorter, few))) in
+      let (longer, shorter) = near-at c changed (streamOf p items) near k in
+      let here = near-length-has-class room (getD changed k 0) window (omega (arith, longer, few)) (omega (arith, shorter, few)) in
+      rw (near-stream-is-passed room (kept p accepts) (written items) changed within k (omega arith))
+      (kept-is-cleared p two accepts (getD changed k 0) (stated p - c) (rw here (inner-of-cell window))
+      (λ d up down. cc (near-length-has-class room d window (omega arith) (omega arith))))
+
   module _
       (items : List ℕ) (c : ℕ) (few : c ≤ stated p) (changed : List ℕ) (moved : Moved c (streamOf p items) changed)
     where
-      -- each interval of a changed stream: no more than c from a length, it has the margin's room less c
       pub each-is-clear
           : (k : ℕ) → k < length changed → stated p - c ≤ clearanceIn (cursorAt p changed k) (getD changed k 0)
-      unfolding streamOf clearanceOf
-      each-is-clear k h =
-          let two = afterTwo (writtenCells (written items)) k in
-          let room = rw (← stated-is-the-margin p accepts) at (margin-leaves-room (kept p accepts)) in
-          let there : k < length (streamOf p items) = rw (← moved .as-many) h in
-          let window =
-          cell-length-at 2 (writtenCells (written items)) _ (stream-has-cells (kept p accepts) (written items)) k there in
-          let near : Near (stated p) changed (streamOf p items) =
-          near-of-each (stated p) changed (streamOf p items) (moved .as-many) (λ j inside.
-          let there : j < length changed = rw (moved .as-many) inside in
-          let longer = moved .no-longer j there in
-          let shorter = moved .no-shorter j there in
-          (omega arith, omega arith)) in
-          let longer = moved .no-longer k h in
-          let shorter = moved .no-shorter k h in
-          let here = near-length-has-class room (getD changed k 0) window (omega arith) (omega arith) in
-          rw (near-stream-is-passed room (kept p accepts) (written items) changed near k (omega arith))
-          (kept-is-cleared p two accepts (getD changed k 0) (stated p - c) (rw here (inner-of-cell window))
-          (λ d up down. cc (near-length-has-class room d window (omega arith) (omega arith))))
+      each-is-clear =
+          near-is-clear items c few changed
+          (near-of-each c changed (streamOf p items) (moved .as-many) (λ k inside.
+          let there : k < length changed = rw (moved .as-many) inside in
+          (moved .no-longer k there, moved .no-shorter k there)))
 
       pub within-the-margin : Moved (stated p) (streamOf p items) changed
       within-the-margin =

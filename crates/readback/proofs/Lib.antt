@@ -16,5 +16,7 @@ pub mod SectorIndexed
 pub mod TrackIndexed
 -- The clearances of its fields
 pub mod SectorClears
+-- Slow drives
+pub mod SlowReads
 -- Old disks
 pub mod OldDisks

@@ -3,3 +3,4 @@ pub mod NoLockInData
 pub mod TrackIndexed
 pub mod SectorClears
 pub mod OldDisks
+pub mod SlowReads

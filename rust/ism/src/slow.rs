@@ -53,15 +53,7 @@ pub fn read_corrected(
 ) -> Result<Corrected, Refusal> {
     // SAFETY: each pointer comes with the length of its slice, and slices do not overlap
     let read = unsafe {
-        sys::ism_read_corrected(
-            profile,
-            intervals.as_ptr(),
-            intervals.len(),
-            start,
-            bytes,
-            out.as_mut_ptr(),
-            out.len(),
-        )
+        sys::ism_read_corrected(profile, intervals.as_ptr(), intervals.len(), start, bytes, out.as_mut_ptr(), out.len())
     };
     match Refusal::from_numbers(read.number, read.place) {
         Some(refusal) => Err(refusal),

@@ -36,10 +36,11 @@ fn slowed(list: &[u16], thousandths: i64) -> Vec<u16> {
 /// Answers worked out by hand under the worked profile: 32 x T1 is 1,856. The field is three A1 marks and FE: with 64 of
 /// 58 before it S0 and S1 are nominal.
 pub fn by_hand(compare: &mut Compare, _: &mut Random) {
-    let mark = [91, 116, 87, 116, 87, 58, 116, 87, 116, 87, 58, 116, 87, 116, 87, 58, 58, 58, 58, 58, 58, 87, 87];
-    let with_sync = |even: u16, odd: u16| [[even, odd].repeat(32), mark.to_vec()].concat();
+    let marks = [91, 116, 87, 116, 91, 50, 120, 87, 116, 91, 50, 120, 87, 116, 91];
+    let mark = [&marks[..], &[54, 58, 58, 58, 58, 58, 54, 91, 87, 87, 91]].concat();
+    let with_sync = |even: u16, odd: u16| [[even, odd].repeat(32), mark.clone()].concat();
     let (answer, items) = read(compare, &WORKED, &with_sync(58, 58), 0, 4);
-    let plain = CorrectedAnswer { lock: 64, count: 4, used: 22, clearance: 10, ..CorrectedAnswer::default() };
+    let plain = CorrectedAnswer { lock: 64, count: 4, used: 23, clearance: 10, ..CorrectedAnswer::default() };
     compare.claim("nominal speed", answer == CorrectedAnswer { holds: answer.holds, ..plain });
     compare.claim("three marks and FE", items == [0x1A1, 0x1A1, 0x1A1, 0xFE]);
     // S0 = 1,920, S1 = 1,792: 91 becomes 87, 116 at an odd place 120, 58 at an even place 56
@@ -171,11 +172,12 @@ pub fn faults(compare: &mut Compare, random: &mut Random) {
 /// Sectors on drives of many speeds, moved a little: ID and data from each start.
 pub fn tracks(compare: &mut Compare, random: &mut Random) {
     for _ in 0..300 {
-        let eleven = random.pick(&[WORKED, PAIRED, APART, random.true_profile()]);
+        let any = random.true_profile();
+        let eleven = random.pick(&[WORKED, PAIRED, APART, any]);
         let data = random.bytes(128);
         let items = sector_items([1, 0, random.byte(), 0], &data);
         let by = random.between(0, 6);
-        let written = moved_by(by.min(u64::from(eleven[0]) / 4), &stream_of(&eleven, &items), random);
+        let written = moved_by(by.min(u64::from(eleven[5])), &stream_of(&eleven, &items), random);
         let list = slowed(&written, random.pick(&[-70, -62, -30, 0, 0, 30, 45, 60, 63, 70]));
         let mut start = 0;
         for bytes in [10, 134] {
@@ -202,8 +204,10 @@ pub fn random_lists(compare: &mut Compare, random: &mut Random) {
             list[place] = random.pick(&[any, list[place].saturating_add(1), list[place] / 2, 65_535, 61_440, 61_439]);
         }
         let exact = written_count(&items) as u64 - 12;
-        let bytes = random.pick(&[exact, exact, exact, 1, exact + 1, random.between(0, exact + 3)]);
-        let start = random.pick(&[0, 0, lock as u64 - 64, lock as u64 - 63, random.between(0, 200)]);
+        let any = random.between(0, exact + 3);
+        let bytes = random.pick(&[exact, exact, exact, 1, exact + 1, any]);
+        let any = random.between(0, 200);
+        let start = random.pick(&[0, 0, lock as u64 - 64, lock as u64 - 63, any]);
         let room = random.room(bytes as usize);
         compare.corrected(&eleven, &list, start, bytes, room);
     }

@@ -123,7 +123,12 @@ pub struct Field {
 }
 
 /// The field reader.
-pub fn read_field<N: Copy + Into<i64>>(eleven: &Eleven, intervals: &[N], n: u64, room: usize) -> Result<Field, Refused> {
+pub fn read_field<N: Copy + Into<i64>>(
+    eleven: &Eleven,
+    intervals: &[N],
+    n: u64,
+    room: usize,
+) -> Result<Field, Refused> {
     check_profile(eleven)?;
     if !(1..=MOST_FIELD_BYTES).contains(&n) {
         return refuse(12, 0);

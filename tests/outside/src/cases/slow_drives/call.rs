@@ -79,7 +79,13 @@ fn from_wrapper(result: Result<ism::Corrected, Refusal>) -> CorrectedAnswer {
 }
 
 /// What the library says, and the output.
-pub fn library_corrected(eleven: &Eleven, intervals: &[u16], start: u64, bytes: u64, out: &mut [u16]) -> CorrectedAnswer {
+pub fn library_corrected(
+    eleven: &Eleven,
+    intervals: &[u16],
+    start: u64,
+    bytes: u64,
+    out: &mut [u16],
+) -> CorrectedAnswer {
     // SAFETY: each pointer comes with the length of its slice
     unsafe {
         ism_read_corrected(
