@@ -64,7 +64,7 @@ extern "C" {
  * as another language may, compares ism_version() first.
  */
 #define ISM_VERSION_MAJOR 0u
-#define ISM_VERSION_MINOR 12u
+#define ISM_VERSION_MINOR 13u
 #define ISM_VERSION_PATCH 0u
 #define ISM_VERSION (ISM_VERSION_MAJOR * 10000u + ISM_VERSION_MINOR * 100u + ISM_VERSION_PATCH)
 

@@ -42,6 +42,7 @@ static inline const char *ism_refusal_text(uint32_t number) {
     case ISM_CROWDED: return "more than 32 sectors";
     case ISM_UNRULY: return "a word of the image is that of no item after the bit before it";
     case ISM_AT_ODDS: return "a sector number is twice in one set, or its two good copies differ";
+    case ISM_OFF_SPEED: return "the drive is more than a sixteenth off its speed";
     default: return "a refusal that this header does not know";
     }
     /* clang-format on */

@@ -172,6 +172,37 @@ static uint32_t call_read_field(source *s) {
     return answered;
 }
 
+static uint32_t add_corrected(const ism_corrected *read) {
+    add(read->number);
+    add(read->place);
+    add(read->lock);
+    add(read->count);
+    add(read->used);
+    add(read->holds);
+    add(read->clearance);
+    add((uint32_t)read->even);
+    add((uint32_t)read->odd);
+    return read->number;
+}
+
+static uint32_t call_read_corrected(source *s) {
+    ism_profile p = any_profile(s);
+    size_t n = fill_intervals(s, p, intervals, MOST_INTERVALS);
+    unsigned longer = (unsigned)between(s, 0, 16); /* of 100, so that some drives are off speed */
+    for (size_t k = 0; k < n; k++) {
+        uint32_t d = intervals[k] * (100u + longer) / 100u;
+        intervals[k] = (uint16_t)(d < 65535 ? d : 65535);
+    }
+    uint64_t start = one_in(s, 4) ? between(s, 0, n + 1) : 0, bytes = between(s, 0, 1 + n / 5);
+    if (one_in(s, 15)) bytes = one_in(s, 2) ? between(s, 1029, 1032) : any(s);
+    size_t room = any_room(s, (size_t)(bytes < 1040 ? bytes : 1040), 1100);
+    spoil(out, room + 8);
+    ism_corrected read = ism_read_corrected(p, LIST(intervals, n), start, bytes, LIST(out, room));
+    add_numbers(intervals, n);
+    add_numbers(out, room + 8);
+    return add_corrected(&read);
+}
+
 static uint32_t call_make_sector(source *s) {
     uint64_t id = any(s);
     uint8_t code = (uint8_t)(one_in(s, 12) ? between(s, 4, 255) : between(s, 0, 3));
@@ -284,6 +315,9 @@ const entry entries[] = {
     {"ism_find", call_find, PROFILE | BIT(ISM_ADRIFT)},
     {"ism_read_field", call_read_field,
      PROFILE | BIT(ISM_MISCOUNT) | BIT(ISM_NARROW) | BIT(ISM_WIDE) | BIT(ISM_SHORT) | BIT(ISM_STRAY) | BIT(ISM_FULL)},
+    {"ism_read_corrected", call_read_corrected,
+     PROFILE | BIT(ISM_ADRIFT) | BIT(ISM_OFF_SPEED) | BIT(ISM_MISCOUNT) | BIT(ISM_NARROW) | BIT(ISM_WIDE) |
+         BIT(ISM_SHORT) | BIT(ISM_STRAY) | BIT(ISM_FULL)},
     {"ism_make_sector", call_make_sector, BIT(0) | BIT(ISM_MISFIT) | BIT(ISM_FULL)},
     {"ism_index_track", call_index_track, PROFILE | BIT(ISM_CROWDED)},
     {"ism_make_image", call_make_image, BIT(0) | BIT(ISM_OVERLONG) | BIT(ISM_FOREIGN) | BIT(ISM_FULL)},

@@ -47,13 +47,14 @@ impl Corrected {
 pub fn read_corrected(
     profile: Profile,
     intervals: &[u16],
-    start: u64,
-    bytes: u64,
+    start: usize,
+    bytes: usize,
     out: &mut [u16],
 ) -> Result<Corrected, Refusal> {
     // SAFETY: each pointer comes with the length of its slice, and slices do not overlap
     let read = unsafe {
-        sys::ism_read_corrected(profile, intervals.as_ptr(), intervals.len(), start, bytes, out.as_mut_ptr(), out.len())
+        let (list, n, room) = (intervals.as_ptr(), intervals.len(), out.len());
+        sys::ism_read_corrected(profile, list, n, start as u64, bytes as u64, out.as_mut_ptr(), room)
     };
     match Refusal::from_numbers(read.number, read.place) {
         Some(refusal) => Err(refusal),

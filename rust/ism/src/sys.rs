@@ -51,14 +51,23 @@ pub struct Answer {
 #[repr(C)]
 #[derive(Clone, Copy, Debug, PartialEq, Eq)]
 pub struct Corrected {
+    /// 0, or the number of the refusal
     pub number: u32,
+    /// the place of the refusal
     pub place: u32,
+    /// the lock's place
     pub lock: u64,
+    /// items
     pub count: u64,
+    /// intervals used, from the lock
     pub used: u64,
+    /// 1 where the sum holds
     pub holds: u32,
+    /// half clocks
     pub clearance: u32,
+    /// of the even intervals before the lock: their sum less 32 x T1
     pub even: i32,
+    /// of the odd
     pub odd: i32,
 }
 

@@ -234,8 +234,8 @@ pub fn nominal(compare: &mut Compare, random: &mut Random) {
         let Ok(lock) = ism::find_lock(profile(&eleven), &list, 0) else { continue };
         let mut out = vec![7; room];
         let mut plain_out = out.clone();
-        let read = ism::read_corrected(profile(&eleven), &list, 0, bytes, &mut out);
-        let plain = ism::read_field(profile(&eleven), &list[lock..], bytes, &mut plain_out);
+        let read = ism::read_corrected(profile(&eleven), &list, 0, bytes as usize, &mut out);
+        let plain = ism::read_field(profile(&eleven), &list[lock..], bytes as usize, &mut plain_out);
         let same = if sums(&list[lock - 64..lock]) == [32 * i64::from(eleven[0]); 2] {
             read.map(|read| (read.lock, read.field, read.even, read.odd)) == plain.map(|field| (lock, field, 0, 0))
                 && out == plain_out

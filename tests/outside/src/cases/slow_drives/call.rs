@@ -74,7 +74,7 @@ fn from_wrapper(result: Result<ism::Corrected, Refusal>) -> CorrectedAnswer {
             even: read.even,
             odd: read.odd,
         },
-        Err(refusal) => CorrectedAnswer::refusal(Refused { number: refusal.number(), place: refusal.place() }),
+        Err(refusal) => CorrectedAnswer::refusal(Refused { number: refusal.number(), place: refusal.place() as u32 }),
     }
 }
 
@@ -109,7 +109,7 @@ impl Compare {
             room,
             paper: &|intervals| Expected::new(read_corrected(eleven, intervals, start, bytes, room).map(expected)),
             interface: &|intervals, out| library_corrected(eleven, intervals, start, bytes, out),
-            wrapper: Some(&|intervals, out| from_wrapper(ism::read_corrected(p, intervals, start, bytes, out))),
+            wrapper: Some(&|intervals, out| from_wrapper(ism::read_corrected(p, intervals, start as usize, bytes as usize, out))),
         };
         self.run(intervals, call);
     }
