@@ -183,7 +183,7 @@ pub fn tracks(compare: &mut Compare, random: &mut Random) {
         for bytes in [10, 134] {
             compare.corrected(&eleven, &list, start, bytes, bytes as usize);
             compare.corrected(&eleven, &list, start, bytes + 1, 135);
-            let Ok(lock) = ism::find_lock(profile(&eleven), &list, start) else { break };
+            let Ok(lock) = ism::find_lock(profile(&eleven), &list, start as usize) else { break };
             start = lock as u64 + 1;
         }
     }
