@@ -40,6 +40,17 @@ FIELD(ism_best, place, 4, 4);
 FIELD(ism_best, margin, 8, 8);
 FIELD(ism_best, profile, 16, 22);
 
+SIZE(ism_corrected, 48);
+FIELD(ism_corrected, number, 0, 4);
+FIELD(ism_corrected, place, 4, 4);
+FIELD(ism_corrected, lock, 8, 8);
+FIELD(ism_corrected, count, 16, 8);
+FIELD(ism_corrected, used, 24, 8);
+FIELD(ism_corrected, holds, 32, 4);
+FIELD(ism_corrected, clearance, 36, 4);
+FIELD(ism_corrected, even, 40, 4);
+FIELD(ism_corrected, odd, 44, 4);
+
 SIZE(ism_fifo, 10);
 FIELD(ism_fifo, mode, 0, 2);
 FIELD(ism_fifo, held, 2, 2);
@@ -133,7 +144,7 @@ enum { refusal_Refusal_ProfileOutOfRange, refusal_Refusal_ProfileInconsistent, r
         refusal_Refusal_NotWholeBytes, refusal_Refusal_MisplacedMark, refusal_Refusal_OutputTooShort,
         refusal_Refusal_NoLock, refusal_Refusal_EndsEarly, refusal_Refusal_CountOutOfRange,
         refusal_Refusal_SectorSizeMismatch, refusal_Refusal_MalformedInput, refusal_Refusal_TooManySectors,
-        refusal_Refusal_UnrulyWord, refusal_Refusal_SectorsAtOdds };
+        refusal_Refusal_UnrulyWord, refusal_Refusal_SectorsAtOdds, refusal_Refusal_OffSpeed };
 struct refusal_Refusal {
     uint8_t tag;
     union {
@@ -145,6 +156,7 @@ struct refusal_Refusal {
         uint32_t MalformedInput;
         uint32_t UnrulyWord;
         uint32_t SectorsAtOdds;
+        uint32_t OffSpeed;
     } u;
 };
 
@@ -608,6 +620,47 @@ struct limits_Held {
     struct array_limits_Limit_10 limits;
 };
 
+/* speed::pace::Pace, crates/speed/src/pace.rt */
+struct speed_pace_Pace {
+    uint32_t nominal;
+    uint32_t even;
+    uint32_t odd;
+};
+
+/* speed::gather::BlockRead, crates/speed/src/gather.rt */
+struct speed_gather_BlockRead {
+    struct intervals_block_Progress at;
+    struct items_Check check;
+};
+
+struct array_u16_17 {
+    uint16_t a[17];
+};
+
+/* speed::gather::Along, crates/speed/src/gather.rt */
+struct speed_gather_Along {
+    struct intervals_block_Progress at;
+    struct items_Check check;
+    struct refusal_Verdict edges;
+    struct clearance_seen_Seen seen;
+};
+
+/* speed::gather::Gathered, crates/speed/src/gather.rt */
+struct speed_gather_Gathered {
+    struct refusal_Counted end;
+    bool holds;
+    uint16_t clearance;
+};
+
+/* speed::reader::Corrected, crates/speed/src/reader.rt */
+struct speed_reader_Corrected {
+    struct fields_reader_FieldRead read;
+    uint16_t clearance;
+    uint64_t lock;
+    uint32_t even;
+    uint32_t odd;
+};
+
 struct array_ism_card_IsmLimit_10 {
     ism_limit a[10];
 };
@@ -661,6 +714,11 @@ static uint32_t count_ones(uint32_t bits) {
     bits = (bits & 0x33333333) + ((bits >> 2) & 0x33333333);
     bits = (bits + (bits >> 4)) & 0x0F0F0F0F;
     return (uint32_t)(bits * 0x01010101) >> 24;
+}
+
+/* The signed number whose bits these are, in two's complement. */
+static int32_t as_int32(uint32_t bits) {
+    return bits < 0x80000000 ? (int32_t)bits : -(int32_t)(0xFFFFFFFF - bits) - 1;
 }
 
 /* The crate std */
@@ -812,7 +870,8 @@ static uint32_t refusal_Refusal_number(struct refusal_Refusal self) {
     case refusal_Refusal_MalformedInput: return 14;
     case refusal_Refusal_TooManySectors: return 15;
     case refusal_Refusal_UnrulyWord: return 16;
-    default: return 17; /* refusal_Refusal_SectorsAtOdds */
+    case refusal_Refusal_SectorsAtOdds: return 17;
+    default: return 18; /* refusal_Refusal_OffSpeed */
     }
 }
 
@@ -844,7 +903,8 @@ static uint32_t refusal_Refusal_place(struct refusal_Refusal self) {
     case refusal_Refusal_MalformedInput: return self.u.MalformedInput;
     case refusal_Refusal_TooManySectors: return 0;
     case refusal_Refusal_UnrulyWord: return self.u.UnrulyWord;
-    default: return self.u.SectorsAtOdds; /* refusal_Refusal_SectorsAtOdds */
+    case refusal_Refusal_SectorsAtOdds: return self.u.SectorsAtOdds;
+    default: return self.u.OffSpeed; /* refusal_Refusal_OffSpeed */
     }
 }
 
@@ -1945,8 +2005,11 @@ static bool intervals_fours_all_fit(struct slice_u32 words) {
     return all;
 }
 
-/* intervals::edges::find_outside, crates/intervals/src/edges.rt: The first that is none. */
-static struct refusal_Verdict intervals_edges_find_outside(struct timing_cursor_Cursor start,
+/*
+ * intervals::edges::find_outside, crates/intervals/src/edges.rt
+ * The first that is none, the first of all having place `from`.
+ */
+static struct refusal_Verdict intervals_edges_find_outside(struct timing_cursor_Cursor start, uint64_t from,
         struct slice_u16 intervals) {
     struct timing_cursor_Cursor cursor = start;
     uint64_t k = 0;
@@ -1955,11 +2018,11 @@ static struct refusal_Verdict intervals_edges_find_outside(struct timing_cursor_
         struct timing_Class class = classed.class;
         if (timing_Class_number(class) == 1) {
             return (struct refusal_Verdict){.tag = refusal_Verdict_Refused,
-                    .u.Refused = {.tag = refusal_Refusal_IntervalTooShort, .u.IntervalTooShort = (uint32_t)k}};
+                    .u.Refused = {.tag = refusal_Refusal_IntervalTooShort, .u.IntervalTooShort = (uint32_t)(from + k)}};
         }
         if (timing_Class_number(class) == 5) {
             return (struct refusal_Verdict){.tag = refusal_Verdict_Refused,
-                    .u.Refused = {.tag = refusal_Refusal_IntervalTooLong, .u.IntervalTooLong = (uint32_t)k}};
+                    .u.Refused = {.tag = refusal_Refusal_IntervalTooLong, .u.IntervalTooLong = (uint32_t)(from + k)}};
         }
         cursor = classed.next;
         k++;
@@ -1967,12 +2030,18 @@ static struct refusal_Verdict intervals_edges_find_outside(struct timing_cursor_
     return (struct refusal_Verdict){.tag = refusal_Verdict_Accepted};
 }
 
-/* intervals::edges::check_edges, crates/intervals/src/edges.rt: It is looked for only where there is one. */
-static struct refusal_Verdict intervals_edges_check_edges(struct timing_Profile p, struct slice_u16 intervals) {
-    if (intervals_edges_all_cells(timing_cursor_Cursor_start(p), intervals)) {
+/* intervals::edges::check_edges_from, crates/intervals/src/edges.rt: It is looked for only where there is one. */
+static struct refusal_Verdict intervals_edges_check_edges_from(struct timing_cursor_Cursor start, uint64_t from,
+        struct slice_u16 intervals) {
+    if (intervals_edges_all_cells(start, intervals)) {
         return (struct refusal_Verdict){.tag = refusal_Verdict_Accepted};
     }
-    return intervals_edges_find_outside(timing_cursor_Cursor_start(p), intervals);
+    return intervals_edges_find_outside(start, from, intervals);
+}
+
+/* intervals::edges::check_edges, crates/intervals/src/edges.rt: Of a whole list. */
+static struct refusal_Verdict intervals_edges_check_edges(struct timing_Profile p, struct slice_u16 intervals) {
+    return intervals_edges_check_edges_from(timing_cursor_Cursor_start(p), 0, intervals);
 }
 
 /*
@@ -3948,18 +4017,28 @@ static struct clearance_seen_Seen clearance_seen_Seen_all(struct clearance_seen_
 }
 
 /*
+ * clearance::seen::Seen::with_all, crates/clearance/src/seen.rt
+ * With all intervals of a list. Where the pairs are equal, all stand between the same bounds.
+ */
+static struct clearance_seen_Seen clearance_seen_Seen_with_all(struct clearance_seen_Seen self,
+        struct slice_u16 intervals) {
+    struct timing_cursor_Cursor cursor = self.cursor;
+    if (timing_cursor_Cursor_is_steady(cursor)) {
+        struct clearance_extremes_Extremes extremes = self.extremes;
+        struct timing_Bounds bounds = cursor.bounds;
+        return (struct clearance_seen_Seen){.extremes = clearance_seen_extremes_alike(extremes, bounds, intervals),
+                .cursor = cursor};
+    }
+    return clearance_seen_Seen_all(self, intervals);
+}
+
+/*
  * clearance::least::least_from, crates/clearance/src/least.rt
- * The least over the intervals of a list that has some. Where the pairs are equal, all stand between the same bounds.
+ * The least over the intervals of a list that has some.
  */
 static uint16_t clearance_least_least_from(struct timing_cursor_Cursor start, struct slice_u16 intervals) {
-    struct clearance_extremes_Extremes none = clearance_extremes_Extremes_none();
-    if (timing_cursor_Cursor_is_steady(start)) {
-        struct timing_Bounds bounds = start.bounds;
-        struct clearance_extremes_Extremes t8 = clearance_seen_extremes_alike(none, bounds, intervals);
-        return clearance_extremes_Extremes_least(t8, start.min.f0, start.rpt.f0);
-    }
-    struct clearance_seen_Seen seen = {.extremes = none, .cursor = start};
-    struct clearance_extremes_Extremes extremes = clearance_seen_Seen_all(seen, intervals).extremes;
+    struct clearance_seen_Seen none = {.extremes = clearance_extremes_Extremes_none(), .cursor = start};
+    struct clearance_extremes_Extremes extremes = clearance_seen_Seen_with_all(none, intervals).extremes;
     return clearance_extremes_Extremes_least(extremes, start.min.f0, start.rpt.f0);
 }
 
@@ -4206,6 +4285,267 @@ static struct limits_Held limits_margin_limits(struct timing_Profile p) {
     return (struct limits_Held){.answer = {.tag = refusal_Counted_Count, .u.Count = found.count}, .limits = limits};
 }
 
+/* The crate speed */
+
+/* speed::pace::corrected, crates/speed/src/pace.rt: An interval at the pace of a sum, cut off. */
+static uint16_t speed_pace_corrected(uint32_t nominal, uint32_t sum, uint16_t interval) {
+    uint32_t number = ((uint32_t)interval * nominal) / sum;
+    if (65535 < number) return 65535;
+    return (uint16_t)number;
+}
+
+/*
+ * speed::pace::Pace::correct, crates/speed/src/pace.rt
+ * Intervals of which the first is even: the two sums take turns.
+ */
+static void speed_pace_Pace_correct(struct speed_pace_Pace self, struct slice_u16 intervals, struct slice_u16_mut out) {
+    uint32_t nominal = self.nominal;
+    uint32_t own = self.even;
+    uint32_t other = self.odd;
+    uint64_t k = 0;
+    while (k < intervals.len) {
+        out.at[k] = speed_pace_corrected(nominal, own, intervals.at[k]);
+        uint32_t next = other;
+        other = own;
+        own = next;
+        k++;
+    }
+}
+
+/* speed::pace::difference, crates/speed/src/pace.rt: The signed difference of a sum to 32 × T1. */
+static uint32_t speed_pace_difference(uint32_t nominal, uint32_t sum) {
+    return (uint32_t)((uint32_t)sum - (uint32_t)nominal);
+}
+
+/*
+ * speed::gather::edges_after, crates/speed/src/gather.rt
+ * The first interval that is no cell, in all before or in these.
+ */
+static struct refusal_Verdict speed_gather_edges_after(struct refusal_Verdict before, struct timing_cursor_Cursor start,
+        uint64_t from, struct slice_u16 intervals) {
+    if (before.tag == refusal_Verdict_Refused) {
+        return (struct refusal_Verdict){.tag = refusal_Verdict_Refused, .u.Refused = before.u.Refused};
+    }
+    return intervals_edges_check_edges_from(start, from, intervals);
+}
+
+/* speed::pace::Pace::measured, crates/speed/src/pace.rt: Of 64 intervals. */
+static struct speed_pace_Pace speed_pace_Pace_measured(struct timing_HalfClocks t1, struct slice_u16 run) {
+    uint32_t even = 0;
+    uint32_t odd = 0;
+    uint64_t k = 0;
+    while (k < 64) {
+        even += (uint32_t)run.at[k];
+        odd += (uint32_t)run.at[k + 1];
+        k += 2;
+    }
+    return (struct speed_pace_Pace){.nominal = 32 * (uint32_t)t1.f0, .even = even, .odd = odd};
+}
+
+/* speed::pace::off_speed, crates/speed/src/pace.rt: 16 × the difference, sign dropped, exceeds 32 × T1. */
+static bool speed_pace_off_speed(uint32_t nominal, uint32_t sum) {
+    if (sum < nominal) return nominal < 16 * (nominal - sum);
+    return nominal < 16 * (sum - nominal);
+}
+
+/* speed::pace::Pace::check, crates/speed/src/pace.rt: 18, off speed: the even ones, then the odd. */
+static struct refusal_Verdict speed_pace_Pace_check(struct speed_pace_Pace self) {
+    if (speed_pace_off_speed(self.nominal, self.even)) {
+        return (struct refusal_Verdict){.tag = refusal_Verdict_Refused,
+                .u.Refused = {.tag = refusal_Refusal_OffSpeed, .u.OffSpeed = 0}};
+    }
+    if (speed_pace_off_speed(self.nominal, self.odd)) {
+        return (struct refusal_Verdict){.tag = refusal_Verdict_Refused,
+                .u.Refused = {.tag = refusal_Refusal_OffSpeed, .u.OffSpeed = 1}};
+    }
+    return (struct refusal_Verdict){.tag = refusal_Verdict_Accepted};
+}
+
+/*
+ * speed::gather::read_block, crates/speed/src/gather.rt
+ * The intervals of a block, read: their items through the register, and to their places.
+ */
+static struct speed_gather_BlockRead speed_gather_read_block(struct intervals_block_Progress start,
+        struct items_Check check, struct slice_u16 block, uint32_t n, struct slice_u16_mut out) {
+    struct array_u8_64 units = {0};
+    struct array_u16_17 words = {0};
+    uint32_t done = start.pass.reading.words;
+    uint64_t length = block.len;
+    struct slice_u16_mut t16 = slice_u16_mut(words.a, 17);
+    struct intervals_block_Progress at =
+            intervals_block_pass_block(start, block, slice_u8_mut(units.a, length), n, 0, t16);
+    uint64_t count = (uint64_t)(at.pass.reading.words - done);
+    struct items_Check check_2 = fields_gather_sum_up(check, slice_u16_mut(words.a, count), (uint64_t)done, out);
+    return (struct speed_gather_BlockRead){.at = at, .check = check_2};
+}
+
+/* speed::gather::Along::next, crates/speed/src/gather.rt: With a block more. */
+static struct speed_gather_Along speed_gather_Along_next(struct speed_gather_Along self, struct slice_u16 block,
+        uint32_t n, struct slice_u16_mut out) {
+    struct intervals_block_Progress start = self.at;
+    struct refusal_Verdict edges = self.edges;
+    struct clearance_seen_Seen seen = self.seen;
+    struct timing_cursor_Cursor cursor = start.cursor;
+    uint64_t from = start.pass.used;
+    struct speed_gather_BlockRead read = speed_gather_read_block(start, self.check, block, n, out);
+    struct intervals_block_Progress at = read.at;
+    struct items_Check check = read.check;
+    uint64_t used = at.pass.used - from;
+    struct refusal_Verdict t16 = speed_gather_edges_after(edges, cursor, from, slice_u16(block.at, used));
+    return (struct speed_gather_Along){.at = at, .check = check, .edges = t16,
+            .seen = clearance_seen_Seen_with_all(seen, slice_u16(block.at, used))};
+}
+
+/* speed::gather::Along::advance, crates/speed/src/gather.rt: With the next block of a list, corrected. */
+static struct speed_gather_Along speed_gather_Along_advance(struct speed_gather_Along self, struct speed_pace_Pace pace,
+        struct slice_u16 intervals, uint32_t n, struct slice_u16_mut out) {
+    struct array_u16_64 block = {0};
+    uint64_t from = self.at.pass.used;
+    uint64_t count = lists_at_most(64, intervals.len - from);
+    struct slice_u16_mut t17 = slice_u16_mut(block.a, count);
+    speed_pace_Pace_correct(pace, slice_u16(intervals.at + from, from + count - from), t17);
+    return speed_gather_Along_next(self, slice_u16(block.a, count), n, out);
+}
+
+/* speed::gather::Along::start, crates/speed/src/gather.rt: Before the first interval. */
+static struct speed_gather_Along speed_gather_Along_start(struct timing_Profile p) {
+    struct intervals_block_Progress t2 = intervals_block_Progress_start(p);
+    struct items_Check t3 = items_Check_fresh();
+    struct clearance_extremes_Extremes t5 = clearance_extremes_Extremes_none();
+    return (struct speed_gather_Along){.at = t2, .check = t3, .edges = {.tag = refusal_Verdict_Accepted},
+            .seen = {.extremes = t5, .cursor = timing_cursor_Cursor_start(p)}};
+}
+
+/*
+ * speed::gather::pass_over, crates/speed/src/gather.rt
+ * One pass over the corrected intervals of n bytes, each taken as a cell.
+ */
+static struct speed_gather_Along speed_gather_pass_over(struct timing_Profile p, struct speed_pace_Pace pace,
+        struct slice_u16 intervals, uint32_t n, struct slice_u16_mut out) {
+    struct speed_gather_Along along = speed_gather_Along_start(p);
+    while (intervals_block_Progress_goes_on(along.at, n, intervals.len)) {
+        along = speed_gather_Along_advance(along, pace, intervals, n, out);
+    }
+    return along;
+}
+
+/*
+ * speed::gather::gather, crates/speed/src/gather.rt
+ * A field of n bytes. An interval among the used ones that is no cell comes before all else.
+ */
+static struct speed_gather_Gathered speed_gather_gather(struct timing_Profile p, struct speed_pace_Pace pace,
+        struct slice_u16 intervals, uint32_t n, struct slice_u16_mut out) {
+    struct speed_gather_Along along = speed_gather_pass_over(p, pace, intervals, n, out);
+    struct intervals_Pass pass = along.at.pass;
+    bool holds = along.check.register_ == 0;
+    struct refusal_Verdict edges = along.edges;
+    if (edges.tag == refusal_Verdict_Refused) {
+        return (struct speed_gather_Gathered){.end = {.tag = refusal_Counted_Refused, .u.Refused = edges.u.Refused},
+                .holds = holds, .clearance = 0};
+    }
+    struct refusal_Counted t15 = fields_gather_conclude(pass.reading, pass.used, n);
+    return (struct speed_gather_Gathered){.end = t15, .holds = holds,
+            .clearance = clearance_extremes_Extremes_least(along.seen.extremes, p.min.f0, p.rpt.f0)};
+}
+
+/* speed::reader::turn_away, crates/speed/src/reader.rt */
+static struct speed_reader_Corrected speed_reader_turn_away(struct refusal_Refusal refusal) {
+    return (struct speed_reader_Corrected){.read = {.tag = fields_reader_FieldRead_Refused, .u.Refused = refusal},
+            .clearance = 0, .lock = 0, .even = 0, .odd = 0};
+}
+
+/* speed::reader::told, crates/speed/src/reader.rt: A field with the lock's place and the differences. */
+static struct speed_reader_Corrected speed_reader_told(struct speed_pace_Pace pace, uint64_t lock,
+        struct clearance_ClearFieldRead field) {
+    struct fields_reader_FieldRead read = field.read;
+    if (read.tag == fields_reader_FieldRead_Refused) return speed_reader_turn_away(read.u.Refused);
+    uint32_t t11 = speed_pace_difference(pace.nominal, pace.even);
+    return (struct speed_reader_Corrected){.read = {.tag = fields_reader_FieldRead_Field,
+            .u.Field = {.count = read.u.Field.count, .used = read.u.Field.used, .holds = read.u.Field.holds}},
+            .clearance = field.clearance, .lock = lock, .even = t11,
+            .odd = speed_pace_difference(pace.nominal, pace.odd)};
+}
+
+/*
+ * speed::reader::with_clearance, crates/speed/src/reader.rt
+ * A field comes with its clearance, a refusal without.
+ */
+static struct clearance_ClearFieldRead speed_reader_with_clearance(struct fields_reader_FieldRead read,
+        uint16_t clearance) {
+    if (read.tag == fields_reader_FieldRead_Refused) {
+        return (struct clearance_ClearFieldRead){.read = {.tag = fields_reader_FieldRead_Refused,
+                .u.Refused = read.u.Refused}, .clearance = 0};
+    }
+    return (struct clearance_ClearFieldRead){.read = {.tag = fields_reader_FieldRead_Field,
+            .u.Field = {.count = read.u.Field.count, .used = read.u.Field.used, .holds = read.u.Field.holds}},
+            .clearance = clearance};
+}
+
+/*
+ * speed::reader::read_into, crates/speed/src/reader.rt
+ * The items wait in a buffer, as a refusal changes nothing that was lent.
+ */
+static struct clearance_ClearFieldRead speed_reader_read_into(struct timing_Profile p, struct speed_pace_Pace pace,
+        struct slice_u16 intervals, uint64_t n, struct slice_u16_mut buffer, struct slice_u16_mut out) {
+    struct speed_gather_Gathered gathered = speed_gather_gather(p, pace, intervals, (uint32_t)n, buffer);
+    struct refusal_Counted end = gathered.end;
+    if (end.tag == refusal_Counted_Refused) {
+        struct fields_reader_FieldRead t16 = {.tag = fields_reader_FieldRead_Refused, .u.Refused = end.u.Refused};
+        return speed_reader_with_clearance(t16, 0);
+    }
+    struct fields_reader_FieldRead read =
+            fields_reader_deliver(slice_u16(buffer.at, n), end.u.Count, gathered.holds, out);
+    return speed_reader_with_clearance(read, gathered.clearance);
+}
+
+/* speed::reader::read_checked, crates/speed/src/reader.rt: A short field has a short buffer. */
+static struct clearance_ClearFieldRead speed_reader_read_checked(struct timing_Profile p, struct speed_pace_Pace pace,
+        struct slice_u16 intervals, uint64_t n, struct slice_u16_mut out) {
+    if (n <= 16) {
+        struct array_u16_16 buffer = {0};
+        return speed_reader_read_into(p, pace, intervals, n, slice_u16_mut(buffer.a, 16), out);
+    }
+    struct array_u16_1030 buffer_2 = {0};
+    return speed_reader_read_into(p, pace, intervals, n, slice_u16_mut(buffer_2.a, 1030), out);
+}
+
+/*
+ * speed::reader::read_slowed, crates/speed/src/reader.rt
+ * 12, then as the field reader over the corrected intervals.
+ */
+static struct clearance_ClearFieldRead speed_reader_read_slowed(struct timing_Profile p, struct speed_pace_Pace pace,
+        struct slice_u16 intervals, uint64_t n, struct slice_u16_mut out) {
+    if ((n < 1) | (1030 < n)) {
+        struct fields_reader_FieldRead t10 =
+                {.tag = fields_reader_FieldRead_Refused, .u.Refused = {.tag = refusal_Refusal_CountOutOfRange}};
+        return speed_reader_with_clearance(t10, 0);
+    }
+    return speed_reader_read_checked(p, pace, intervals, n, out);
+}
+
+/* speed::reader::read_at, crates/speed/src/reader.rt: At a lock: 18, then as the field reader. */
+static struct speed_reader_Corrected speed_reader_read_at(struct timing_Profile p, struct slice_u16 intervals,
+        uint64_t lock, uint64_t n, struct slice_u16_mut out) {
+    uint64_t t9 = lock - 64;
+    struct speed_pace_Pace pace = speed_pace_Pace_measured(p.t1, slice_u16(intervals.at + t9, lock - t9));
+    struct refusal_Verdict t15 = speed_pace_Pace_check(pace);
+    if (t15.tag == refusal_Verdict_Refused) return speed_reader_turn_away(t15.u.Refused);
+    struct clearance_ClearFieldRead field =
+            speed_reader_read_slowed(p, pace, slice_u16(intervals.at + lock, intervals.len - lock), n, out);
+    return speed_reader_told(pace, lock, field);
+}
+
+/*
+ * speed::reader::read_corrected, crates/speed/src/reader.rt
+ * 1, 2, 10, 18, 12, then 5, 6 or 11 as first met, 8, 9; places of 5, 6 and 8 count from the lock.
+ */
+static struct speed_reader_Corrected speed_reader_read_corrected(struct timing_Profile p, struct slice_u16 intervals,
+        uint64_t start, uint64_t n, struct slice_u16_mut out) {
+    struct refusal_Counted t8 = fields_finder_find_lock(p, intervals, start);
+    if (t8.tag == refusal_Counted_Refused) return speed_reader_turn_away(t8.u.Refused);
+    return speed_reader_read_at(p, intervals, t8.u.Count, n, out);
+}
+
 /* The crate ism */
 
 /* ism::answer, crates/ism/src/lib.rt */
@@ -4223,6 +4563,22 @@ static ism_answer ism_clear_answer(struct clearance_ClearCount given) {
     uint32_t t4 = refusal_Counted_place(counted);
     return (ism_answer){.number = t3, .place = t4, .count = refusal_Counted_count(counted), .used = 0, .holds = 0,
             .clearance = (uint32_t)given.clearance};
+}
+
+/* ism::slow::corrected_answer, crates/ism/src/slow.rt */
+static ism_corrected ism_slow_corrected_answer(struct speed_reader_Corrected corrected) {
+    struct fields_reader_FieldRead read = corrected.read;
+    if (read.tag == fields_reader_FieldRead_Field) {
+        return (ism_corrected){.number = 0, .place = 0, .lock = corrected.lock, .count = read.u.Field.count,
+                .used = read.u.Field.used, .holds = (uint32_t)read.u.Field.holds,
+                .clearance = (uint32_t)corrected.clearance, .even = as_int32(corrected.even),
+                .odd = as_int32(corrected.odd)};
+    }
+    struct refusal_Refusal refusal = read.u.Refused;
+    uint32_t t13 = refusal_Refusal_number(refusal);
+    return (ism_corrected){.number = t13, .place = refusal_Refusal_place(refusal), .lock = corrected.lock, .count = 0,
+            .used = 0, .holds = 0, .clearance = (uint32_t)corrected.clearance, .even = as_int32(corrected.even),
+            .odd = as_int32(corrected.odd)};
 }
 
 /* ism::card::edge_number, crates/ism/src/card.rt */
@@ -4312,7 +4668,7 @@ static ism_answer ism_image_ism_read_image(struct slice_u16 words, struct slice_
 
 /* ism::version::ism_version, crates/ism/src/version.rt */
 static uint32_t ism_version_ism_version(void) {
-    return 1200;
+    return 1300;
 }
 
 /* ism::card::kind_number, crates/ism/src/card.rt */
@@ -4440,6 +4796,14 @@ static ism_answer ism_ism_read(ism_profile p, struct slice_u16 intervals, struct
     return ism_clear_answer(strip);
 }
 
+/* ism::slow::ism_read_corrected, crates/ism/src/slow.rt */
+static ism_corrected ism_slow_ism_read_corrected(ism_profile p, struct slice_u16 intervals, uint64_t start,
+        uint64_t bytes, struct slice_u16_mut out) {
+    struct speed_reader_Corrected corrected =
+            speed_reader_read_corrected(ism_profile_(p), intervals, start, bytes, out);
+    return ism_slow_corrected_answer(corrected);
+}
+
 /* ism::disk::ism_read_field, crates/ism/src/disk.rt */
 static ism_answer ism_disk_ism_read_field(ism_profile p, struct slice_u16 intervals, uint64_t bytes,
         struct slice_u16_mut out) {
@@ -4559,6 +4923,13 @@ ism_answer ism_read_field(ism_profile profile, const uint16_t *intervals, size_t
         size_t room) {
     uint16_t none_u16 = 0;
     return ism_disk_ism_read_field(profile, slice_u16(n == 0 ? &none_u16 : intervals, n), bytes,
+            slice_u16_mut(room == 0 ? &none_u16 : out, room));
+}
+
+ism_corrected ism_read_corrected(ism_profile profile, const uint16_t *intervals, size_t n, uint64_t start,
+        uint64_t bytes, uint16_t *out, size_t room) {
+    uint16_t none_u16 = 0;
+    return ism_slow_ism_read_corrected(profile, slice_u16(n == 0 ? &none_u16 : intervals, n), start, bytes,
             slice_u16_mut(room == 0 ? &none_u16 : out, room));
 }
 

@@ -10,10 +10,11 @@ from translator.terms import (
     Truth, Unary, Unknown, Variants,
 )
 
-PAIR, ANSWER, REPORT = Named("c::Pair"), Named("c::Answer"), Named("c::Report")
+PAIR, ANSWER, REPORT, SPEED = (Named(f"c::{name}") for name in ("Pair", "Answer", "Report", "Speed"))
 ROWS = Array(U64, 5)
 DECLARED = {
     "c::Pair": Fields((U16, U32)), "c::Answer": Variants(((), (U64,), (U64, BOOL))), "c::Report": Fields((U32, ROWS)),
+    "c::Speed": Fields((U32, U32)),
 }
 SOURCE = Names(types={
     "c::Pair": TypeText("crates/c/src/lib.rt", [], ["short", "b"]),
@@ -21,6 +22,7 @@ SOURCE = Names(types={
         "crates/c/src/lib.rt", [], [], [("None", []), ("Count", [None]), ("Found", ["place", "holds"])]
     ),
     "c::Report": TypeText("crates/c/src/lib.rt", [], ["number", "rows"]),
+    "c::Speed": TypeText("crates/c/src/lib.rt", [], ["place", "even"]),
 })
 NAMES = {1: "a", 2: "b", 3: "list", 4: "pair", 5: "answer", 6: "table", 7: "out", 8: "flag", 9: "p", 10: "report"}
 A, B, LIST, OUT = local(1), local(2), Local(3, WORDS), Local(7, WORDS_MUT)
@@ -29,7 +31,8 @@ FLAG, TABLE_HERE, TABLE_THERE = local(8, BOOL), Local(6, TABLE), Local(9, Ref(Fa
 
 def writer():
     paths = PathNames(set())
-    return Expressions(Types(DECLARED, SOURCE, paths, {"c::Report": "ism_report"}), paths, NAMES)
+    crossing = {"c::Report": "ism_report", "c::Speed": "ism_speed"}
+    return Expressions(Types(DECLARED, SOURCE, paths, crossing, {("c::Speed", 1)}), paths, NAMES)
 
 
 def text(expression):
@@ -178,6 +181,15 @@ class SeveralParts(unittest.TestCase):
         self.assertEqual(text(words), "(struct array_u16_4){{0, 1, 2, 3}}")
         pairs = Aggregate((pair, pair), Array(PAIR, 2))
         self.assertEqual(text(pairs), "(struct array_c_Pair_2){{{.short_ = 1, .b = 2}, {.short_ = 1, .b = 2}}}")
+
+    def test_signed_numbers_of_the_header(self):
+        speed = Aggregate((local(1, U32), local(2, U32)), SPEED)
+        self.assertEqual(text(speed), "(ism_speed){.place = a, .even = as_int32(b)}")
+        none = Aggregate((number(0, U32), number(0, U32)), SPEED)
+        self.assertEqual(text(none), "(ism_speed){.place = 0, .even = 0}")
+        self.assertEqual(text(Field(Local(1, SPEED), 0, U32)), "a.place")
+        with self.assertRaises(Unknown):
+            text(Field(Local(1, SPEED), 1, U32))
 
     def test_repeated(self):
         self.assertEqual(text(Repeat(number(0, U16), TABLE)), "(struct array_u16_4){0}")

@@ -34,7 +34,7 @@ def match(text=TEXT, declared=DECLARED, locals_=LOCALS, source=None):
     header = read_text(text, {})
     crossing = Crossing(header, declared, source or names())
     crossing.match_entry(header.entries["c_make"], Function("c::c_make", len(locals_) - 1, locals_, frozenset(), []))
-    return crossing.structs
+    return crossing
 
 
 class Reading(unittest.TestCase):
@@ -56,7 +56,11 @@ class Reading(unittest.TestCase):
 
 class Agreement(unittest.TestCase):
     def test_names_in_c(self):
-        self.assertEqual(match(), {"c::Pair": "c_pair", "c::Report": "c_report"})
+        self.assertEqual(match().structs, {"c::Pair": "c_pair", "c::Report": "c_report"})
+
+    def test_signed_fields(self):
+        self.assertEqual(match().signed, set())
+        self.assertEqual(match(text=TEXT.replace("uint32_t number", "int32_t number")).signed, {("c::Report", 0)})
 
     def test_what_was_proved_otherwise(self):
         wrong = [
@@ -70,6 +74,8 @@ class Agreement(unittest.TestCase):
             {"declared": {**DECLARED, "c::Report": Fields((U32, Array(PAIR, 4)))}},
             {"source": names(Pair=["b", "a"])},
             {"text": TEXT.replace("const uint16_t *list", "const uint8_t *list")},
+            {"text": TEXT.replace("const uint16_t *list", "const int16_t *list")},
+            {"text": TEXT.replace("uint32_t number", "int16_t number")},
         ]
         for change in wrong:
             with self.assertRaises(Unknown, msg=change):

@@ -8,11 +8,12 @@ from .terms import Array, Bool, Fields, Int, Named, Pointer, Ref, Slice, Unit, U
 class Types:
     """Spells types, and keeps the definitions of those that were spelled, in an order that C accepts."""
 
-    def __init__(self, declared, source, paths, crossing):
+    def __init__(self, declared, source, paths, crossing, signed=frozenset()):
         self.declared = declared
         self.source = source
         self.paths = paths
         self.crossing = crossing
+        self.signed = signed
         self.memory = Memory(declared)
         self.definitions = {}
         self.slices = []
@@ -124,6 +125,10 @@ class Types:
             flat = parts if isinstance(self.declared[ty.name], Fields) else [part for types in parts for part in types]
             return any(self.holds_reference(part) for part in flat)
         return isinstance(ty, (Pointer, Ref, Slice))
+
+    def is_signed(self, owner, index):
+        """Whether a field is of a struct that crosses and a signed number there: in MIR it is its bits."""
+        return isinstance(owner, Named) and (owner.name, index) in self.signed
 
     def is_bare(self, owner, ty):
         """Whether a field is an array of a struct that crosses: there C has an array, and elsewhere a struct of one."""

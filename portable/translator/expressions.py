@@ -8,7 +8,7 @@ them gets its type.
 
 import re
 
-from .helpers import helper_name
+from .helpers import helper_name, signed_name
 from .terms import (
     Address, Aggregate, Array, Binary, Bool, Call, Case, Cast, Deref, Field, Int, Local, Named, Nothing, Number, Offset,
     Payload, Ref, Repeat, Slice, Tag, Truth, Unary, Unknown,
@@ -118,6 +118,8 @@ class Expressions:
         return self.locals[local.index], ATOM
 
     def write_field(self, expression):
+        if self.types.is_signed(expression.of.ty, expression.index):
+            raise Unknown("a signed number of the header that is read or stored by itself")
         return self.member(expression.of, self.types.field(expression.of.ty, expression.index)), ATOM
 
     def write_tag(self, expression):
@@ -227,7 +229,7 @@ class Expressions:
             return "{0}"
         if isinstance(expression, Case):
             return self.case_braces(expression)
-        parts = [self.initial(part) for part in expression.parts]
+        parts = [self.part(expression.ty, i, part) for i, part in enumerate(expression.parts)]
         if not parts:
             return "{0}"
         if isinstance(expression.ty, Array):
@@ -236,6 +238,12 @@ class Expressions:
             raise Unknown(f"{expression.ty.name} within an expression")
         fields = [f".{self.types.field(expression.ty, i)} = {part}" for i, part in enumerate(parts)]
         return "{" + ", ".join(fields) + "}"
+
+    def part(self, owner, index, expression):
+        text = self.initial(expression)
+        if self.types.is_signed(owner, index) and not is_zero(expression):
+            return f"{signed_name(expression.ty.bits)}({text})"
+        return text
 
     def has_bare(self, ty):
         """Whether a struct crosses and holds an array, which C cannot assign."""

@@ -85,13 +85,15 @@ def read_header(path):
 
 
 class Crossing:
-    """The structs that cross, each with its name in C, found by going over the entries."""
+    """The structs that cross, each with its name in C, and which of their fields are signed there, found by going over
+    the entries."""
 
     def __init__(self, header, declared, names):
         self.header = header
         self.declared = declared
         self.names = names
         self.structs = {}
+        self.signed = set()
 
     def match_entry(self, entry, function):
         """Holds an entry of the header to the function that was proved."""
@@ -122,8 +124,11 @@ class Crossing:
             raise Unknown(f"the header has both {c_type} and {self.structs[name]} for {name}")
         if [field.name for field in fields] != self.names.types[name].fields:
             raise Unknown(f"the fields of {c_type} in the header and of {name} have different names")
-        for field, ty in zip(fields, declared.types):
-            self.match(ty, field.type, field.length, f"{c_type}.{field.name}")
+        for index, (field, ty) in enumerate(zip(fields, declared.types)):
+            if isinstance(ty, Int) and field.length is None and field.type == f"int{ty.bits}_t":
+                self.signed.add((name, index))
+            else:
+                self.match(ty, field.type, field.length, f"{c_type}.{field.name}")
 
 
 def number_type(ty):

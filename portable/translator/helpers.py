@@ -1,6 +1,7 @@
 """What stands at the head of the file, and the functions for operations that C has no sign for."""
 
 from .layout import comment, filled
+from .terms import Unknown
 
 PREFACE = """\
 The library {name} as one C file, for any processor.
@@ -46,6 +47,11 @@ static uint32_t count_ones(uint32_t bits) {
 static uint32_t count_ones_64(uint64_t bits) {
     return count_ones((uint32_t)bits) + count_ones((uint32_t)(bits >> 32));
 }""",
+    "as_int32": """\
+/* The signed number whose bits these are, in two's complement. */
+static int32_t as_int32(uint32_t bits) {
+    return bits < 0x80000000 ? (int32_t)bits : -(int32_t)(0xFFFFFFFF - bits) - 1;
+}""",
 }
 NAMES = {"leadingZeros": "leading_zeros", "countOnes": "count_ones"}
 
@@ -53,6 +59,13 @@ NAMES = {"leadingZeros": "leading_zeros", "countOnes": "count_ones"}
 def helper_name(op, bits):
     """The function for an operation on a number of so many bits."""
     return f"{NAMES[op]}_64" if bits == 64 else NAMES[op]
+
+
+def signed_name(bits):
+    """The function from the bits of a signed number to the number."""
+    if bits != 32:
+        raise Unknown(f"a signed number of {bits} bits in a struct of the header")
+    return "as_int32"
 
 
 def helper_lines(used):

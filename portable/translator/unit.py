@@ -3,14 +3,14 @@
 from .asserts import assert_lines
 from .cnames import PathNames, local_names, short
 from .ctypes_ import Types
-from .expressions import Expressions
+from .expressions import Expressions, is_zero
 from .header import Crossing, read_header
-from .helpers import helper_lines, helper_name, preface
+from .helpers import helper_lines, helper_name, preface, signed_name
 from .layout import broken, comment, filled, indented
 from .reader import read_program
 from .source import read_crates
 from .statements import Statements
-from .terms import Aggregate, Assign, Call, Case, Return, Slice, Unary, Unknown
+from .terms import Aggregate, Assign, Call, Case, Named, Return, Slice, Unary, Unknown
 from .tidy import tidy, use_parameters
 from .walk import all_parts, all_statements, heads
 
@@ -30,7 +30,8 @@ class Library:
         self.functions = {function.name: function for function in self.program.functions}
         self.paths = PathNames(self.header.words)
         self.entries = self.find_entries()
-        self.types = Types(self.program.declared, self.source, self.paths, self.match_entries())
+        crossing = self.match_entries()
+        self.types = Types(self.program.declared, self.source, self.paths, crossing.structs, crossing.signed)
 
     def find_entries(self):
         """The proved function of each entry, in the header's order: those that the crate exports, all of them."""
@@ -47,7 +48,7 @@ class Library:
         crossing = Crossing(self.header, self.program.declared, self.source)
         for entry, path in self.entries.items():
             crossing.match_entry(self.header.entries[entry], self.functions[path])
-        return crossing.structs
+        return crossing
 
     def reached(self):
         """The functions that the entries need, in MIR's order, in which each comes after those that it calls."""
@@ -133,7 +134,15 @@ class Library:
                 for expression in heads(statement):
                     parts = [part for part in all_parts(expression) if isinstance(part, Unary) and part.op != "not"]
                     found |= {helper_name(part.op, part.of.ty.bits) for part in parts}
+                    found |= {name for part in all_parts(expression) for name in self.signs(part)}
         return found
+
+    def signs(self, value):
+        """The functions that a struct with signed numbers needs."""
+        if isinstance(value, Aggregate) and isinstance(value.ty, Named):
+            parts = [part for i, part in enumerate(value.parts) if self.types.is_signed(value.ty, i)]
+            return {signed_name(part.ty.bits) for part in parts if not is_zero(part)}
+        return set()
 
     def entry_lines(self, entry):
         """An entry hands its arguments to the function that was proved, a pointer and a count as a slice."""
