@@ -13,7 +13,7 @@ use lib.ListN.{length, take, length-map}
 use Rattle.refusal.specs.Table.{numberOf, placeOf}
 use Rattle.refusal.specs.Answer.{Answer, accepted, refused, refuseIf, firstRefusal}
 use Rattle.refusal.specs.declared.Refusal.{Refusal}
-use Rattle.refusal.proofs.AnswerLaws.{refusal-decides, first-refusal-passes, number-is-not-zero}
+use Rattle.refusal.proofs.AnswerLaws.{refusal-decides, first-refusal-accepts, first-refusal-passes, number-is-not-zero}
 use Rattle.timing.specs.Profile.{profileRule}
 use Rattle.timing.specs.Class.{atStart, classesOf}
 use Rattle.timing.specs.machine.Edges.{unitsFrom}
@@ -208,3 +208,10 @@ module _ (p : Profile) (ds : List ℕ) (n : ℕ) (r : Pass) where
                 rw same-pass (items-of-cells xs n some few (rw (same-gather n (same-front fair)) at zero))
                 ∙ sym (same-items n (same-front fair));
           }
+
+      -- where the field reads, none of the used intervals is narrow or wide, and its items are those that were passed
+      pub items-passed : rule .number ≡ 0 → itemsPassed p ds n ≡ fieldItems (classesOf p ds) n
+      items-passed zero =
+          let whole = gather-stops-nowhere (classesOf p ds) n zero in
+          let stopped = ap (λ (a : Answer). a .number) (sym stop-is) ∙ whole in
+          field-ends .items (first-refusal-accepts edges (fieldStop (classesOfCells xs) n) stopped .0) zero

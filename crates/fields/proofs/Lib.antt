@@ -17,3 +17,4 @@ pub mod WrittenFieldLaws
 pub mod StartLaws
 pub mod EndLaws
 pub mod PartLaws
+pub mod BytesLaws

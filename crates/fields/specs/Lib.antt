@@ -1,5 +1,6 @@
 pub mod Lock
 pub mod Field
 pub mod FieldRule
+pub mod Bytes
 pub mod Claims
 pub mod machine
