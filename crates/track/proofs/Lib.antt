@@ -7,5 +7,9 @@ pub mod GoesLaws
 pub mod OrderLaws
 pub mod InOrderLaws
 pub mod FoundLaws
+pub mod HandedLaws
+pub mod StoredLaws
+pub mod TrackSetLaws
+pub mod SetAnswerLaws
 pub mod InsertionLaws
 pub mod GatherLaws

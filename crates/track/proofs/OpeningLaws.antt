@@ -40,17 +40,17 @@ module _ (p : Profile) (ds : List ℕ) (n : ℕ) where
   same-answer true a used holds = refl
   same-answer false a used holds = refl
 
-  reading-is-accepted : reads p ds n ≡ true → fieldRule p ds n n .number ≡ 0
+  pub reading-is-accepted : reads p ds n ≡ true → fieldRule p ds n n .number ≡ 0
   unfolding reads fieldOf fieldReading
   reading-is-accepted e =
       sym (ap (λ (a : Answer). a .number) (same-answer (eqb (fieldRule p ds n n .number) 0) (fieldRule p ds n n) _ _))
       ∙ eqb-true _ 0 e
 
-  items-are-read : reads p ds n ≡ true → itemsOf p ds n ≡ fieldItems (classesOf p ds) n
+  pub items-are-read : reads p ds n ≡ true → itemsOf p ds n ≡ fieldItems (classesOf p ds) n
   unfolding itemsOf
   items-are-read e = output-is-items p ds n _ (reading-is-accepted e) (length-replicate n 0)
 
-  items-count : reads p ds n ≡ true → length (itemsOf p ds n) ≡ n
+  pub items-count : reads p ds n ≡ true → length (itemsOf p ds n) ≡ n
   items-count e =
       let accepts = gather-accepts p ds n n (reading-is-accepted e) in
       ap length (items-are-read e)

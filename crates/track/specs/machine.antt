@@ -1,3 +1,4 @@
 -- Machine, not meaning.
 pub mod Steps
 pub mod Insertion
+pub mod Handed

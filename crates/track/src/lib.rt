@@ -12,6 +12,8 @@ pub use index::IndexEntry;
 pub use index::TrackIndex;
 pub use index::index_track;
 use refusal::Counted;
+pub use set::TrackSet;
+pub use set::read_track;
 use timing::Profile;
 
 mod content;
@@ -19,6 +21,7 @@ mod id;
 mod index;
 mod opening;
 mod order;
+mod set;
 
 // An entry's data field: the place of its lock and whether its sum holds, or that none was found.
 pub enum DataField {
