@@ -36,7 +36,8 @@ use Rattle.merge.specs.Merge.{isCrowded, numbers, atOddsAt}
 use Rattle.merge.specs.Set.{isMisfitSet, sectorsIn}
 use Rattle.merge.specs.Rule.{roomRule as merge-room, mergeRule, mergeAnswer, mergeOutput}
 use Rattle.report.specs.Report.{reportRule, addRule}
-use Rattle.track.specs.Index.{crowdRule, indexRule}
+use Rattle.track.specs.Index.{entriesOf, crowdRule, indexRule}
+use Rattle.track.specs.TrackSectors.{trackRule, trackAnswer, trackOutput}
 use Rattle.limits.specs.Limits.{limitsRule}
 use Rattle.demands.specs.Order.{accept, turn, at0, Answers}
 use Rattle.demands.specs.Causes.{stripOrder}
@@ -55,6 +56,7 @@ use Rattle.demands.proofs.StopLaws.{edges-in-turn, stop-in-turn}
 use Rattle.demands.proofs.LockOrder.{lock-in-turn}
 use Rattle.demands.proofs.SpeedOrder.{corrected-in-turn, corrected-is-lent}
 use Rattle.speed.proofs.ReadLaws.{answer-is-rule}
+use Rattle.demands.proofs.TrackSetLaws.{track-rule-in-turn}
 
 -- ---- images
 
@@ -70,7 +72,7 @@ pub demand-1 : Demand1
 unfolding marginRule limitsRule classRule writeRule listRule streamRule streamOf sectorRule isMisfitInMaker readRule
     stripRule fieldRule findRule searchRule reportRule addRule makeRule wordsRule readImageRule roomRule indexRule
     crowdRule mergeRule merge-room isCrowded writeOutput readOutput fieldOutput sectorOutput makeOutput
-    readImageOutput mergeOutput mergeAnswer
+    readImageOutput mergeOutput mergeAnswer trackOutput trackAnswer
 demand-1 =
     record {
       margin = λ p. profile-first p _ answers-accepted;
@@ -106,6 +108,8 @@ demand-1 =
           turn-before 3 _ _ (means-below 6400 _)
           (turn-before 15 _ _ (means-at _ _) (rw (item-count words) (last-below room _ _)));
       track-index = λ p ds. profile-first p _ (last-below 32 _ _);
+      track-set = λ p ds room.
+          rw (track-rule-in-turn p ds room) (profile-first p _ (turn-by-test (means-below 32 _) (last-below room _ _)));
       merge = λ first second room.
           turn-by-test (means-or (means-at _ _) (means-at _ _))
           (turn-by-test (means-or (means-either 32 _ 32 _) (means-below 32 _))
@@ -140,6 +144,12 @@ demand-1 =
           settled-is-lent _ _ old (told-after (listRule items) (told-room _ _ (image-count items)));
       image-items = λ words old.
           settled-is-lent _ _ old (told-after (wordsRule words) (told-room _ _ (item-count words)));
+      track-set-output = λ p ds old.
+          settled-is-lent _ _ old
+          (told-bytes (trackRule p ds (length old)) _ _
+          (rw (track-rule-in-turn p ds (length old))
+          (told-after (profileRule p)
+          (told-by-test (ltb 32 (length (entriesOf p ds))) 14 _ (told-if-room _ (length old) _ (λ fits. fits))))));
       merge-output = λ first second old.
           let a = sectorsIn first in
           let b = sectorsIn second in

@@ -7,6 +7,7 @@ pub mod RestLaws
 pub mod BestTurn
 pub mod LockOrder
 pub mod SpeedOrder
+pub mod TrackSetLaws
 pub mod Demand1
 pub mod SettledCases
 pub mod ListLaws

@@ -24,6 +24,7 @@ use Rattle.merge.specs.Set.{setBytes, sectorsIn}
 use Rattle.merge.specs.Merge.{merged}
 use Rattle.merge.specs.Rule.{mergeRule, mergeAnswer, mergeOutput}
 use Rattle.track.specs.Index.{indexRule}
+use Rattle.track.specs.TrackSectors.{sectorsFound, trackRule, trackAnswer, trackOutput}
 use Rattle.speed.specs.Speed.{correctedAt}
 use Rattle.speed.specs.Reading.{lockOf, correctedRule, correctedReading, correctedOutput}
 use Rattle.limits.specs.Limits.{limitsRule}
@@ -38,7 +39,7 @@ use Rattle.demands.specs.Order.{accept, Answers, Lent}
 use Rattle.demands.specs.Causes.{profileOrder, writerOrder, stripOrder, finderOrder, fieldOrder, makerOrder}
 use Rattle.demands.specs.ReportCauses.{reportOrder, addOrder}
 use Rattle.demands.specs.ImageCauses.{imageMakerOrder, imageReaderOrder}
-use Rattle.demands.specs.IndexCauses.{indexOrder}
+use Rattle.demands.specs.IndexCauses.{indexOrder, trackSetOrder}
 use Rattle.demands.specs.MergeCauses.{mergeOrder, countedInBytes}
 use Rattle.demands.specs.SpeedCauses.{correctedOrder}
 use Rattle.demands.specs.BestCauses.{bestOrder}
@@ -67,6 +68,7 @@ pub record Demand1 : Type 0 where
   pub image-maker : (items : List ℕ) (room : ℕ) → Answers (imageMakerOrder items room) (makeRule items room)
   pub image-reader : (words : List ℕ) (room : ℕ) → Answers (imageReaderOrder words room) (readImageRule words room)
   pub track-index : (p : Profile) (ds : List ℕ) → Answers (indexOrder p ds) (indexRule p ds)
+  pub track-set : (p : Profile) (ds : List ℕ) (room : ℕ) → Answers (trackSetOrder p ds room) (trackRule p ds room)
   pub merge : (first second : List ℕ) (room : ℕ) → Answers (mergeOrder first second room) (mergeRule first second room)
   pub processor-put : (n : ℕ) (s : State) → PutsInTurn Processor n s (ruleOf (Put n) s)
   pub chip-put : (n : ℕ) (s : State) → PutsInTurn Chip n s (ruleOf (ChipPut n) s)
@@ -113,6 +115,9 @@ pub record Demand1 : Type 0 where
   pub image-items
       : (words old : List ℕ)
       → Lent (readImageRule words (length old)) (bytesIn words) old (readImageOutput words old)
+  pub track-set-output
+      : (p : Profile) (ds old : List ℕ)
+      → Lent (countedInBytes (trackAnswer p ds (length old))) (setBytes (sectorsFound p ds)) old (trackOutput p ds old)
   pub merge-output
       : (first second old : List ℕ)
       → Lent (countedInBytes (mergeAnswer first second (length old)))

@@ -1,8 +1,11 @@
-// The index of a track.
+// The index of a track, and its sectors as a set.
 ghost use mathlib.Core.Path.{_≡_};
+ghost use lib.ListN.{length};
 ghost use Rattle.track.specs.Index.{indexRule, indexEntries};
 ghost use Rattle.track.specs.HandedBack.{indexAnswerOf};
-ghost use Rattle.ism.specs.Answers.{profileOf};
+ghost use Rattle.track.specs.TrackSectors.{trackAnswer, trackOutput};
+ghost use Rattle.ism.specs.Answers.{profileOf, givenMerge};
+use crate::IsmAnswer;
 use crate::IsmProfile;
 use crate::profile;
 use track::TrackIndex;
@@ -14,4 +17,23 @@ pub extern "C" fn ism_index_track(p: IsmProfile, intervals: &[u16]) -> TrackInde
         (indexEntries (profileOf p) (now (intervals .entry))) ⌝ }
 {
     track::index_track(profile(p), intervals)
+}
+
+// The set of a track's sectors, for the merge.
+#[no_mangle]
+pub extern "C" fn ism_read_track(p: IsmProfile, intervals: &[u16], set: &mut [u8]) -> IsmAnswer
+    ensures answer { λ r. ⌜
+        r ≡ givenMerge (trackAnswer (profileOf p) (now (intervals .entry)) (length (now (set .entry)))) ⌝ }
+    ensures output { λ _. ⌜
+        now (set .exit) ≡ trackOutput (profileOf p) (now (intervals .entry)) (now (set .entry)) ⌝ }
+{
+    let read = track::read_track(profile(p), intervals, set);
+    IsmAnswer {
+        number: read.number,
+        place: read.place,
+        count: read.count as u64,
+        used: read.bytes as u64,
+        holds: 0,
+        clearance: 0,
+    }
 }
