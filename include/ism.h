@@ -3,10 +3,10 @@
  *
  * The library turns data bytes, mark bytes and check orders into the intervals between flux transitions, with write
  * precompensation, and turns measured intervals back into bytes. It also finds locks, where the classes of a mark stand
- * behind a sync field, reads one field, makes the items of one sector, lists the sectors of a track, reports how worn a
- * drive is, says what holds a drive type's margin down and which windows have the largest, merges the sectors of two
- * passes over a track, exchanges bit images with drive emulators and models the chip's two-item FIFO with its error
- * register.
+ * behind a sync field, reads one field, makes the items of one sector, lists the sectors of a track and reads them as a
+ * set, merges the sets of two passes, reports how worn a drive is, says what holds a drive type's margin down and which
+ * windows have the largest, exchanges bit images with drive emulators and models the chip's two-item FIFO with its
+ * error register.
  *
  * Common to all functions
  *
@@ -21,7 +21,8 @@
  *   their own may run at the same time. From an interrupt handler too, if the handler keeps what the code uses as any
  *   compiled code does: the SSE registers, and the 128 bytes below the stack pointer that the convention gives to the
  *   code that was interrupted (the red zone). docs/BENCHMARKS.md gives the stack of each function: 3,300 bytes at most,
- *   and 4 KB at most for ism_index_track with the index that it returns; portable/README.md that of portable/ism.c.
+ *   and 4 KB at most for ism_index_track with the index that it returns and for ism_read_track; portable/README.md
+ *   that of portable/ism.c.
  *
  *   Every argument value is answered. A refusal comes back in `number` and `place`, changes no buffer, and leaves
  *   `count`, `used`, `holds`, `clearance`, `margin`, the rows of a report, every field of an index's entries, the
@@ -515,6 +516,21 @@ ism_answer ism_read_image(const uint16_t *words, size_t n, uint16_t *items, size
  *              number twice in one set, or in both with both sums good and another code or other data), ISM_FULL
  */
 ism_answer ism_merge(const uint8_t *first, size_t n, const uint8_t *second, size_t m, uint8_t *out, size_t room);
+
+/*
+ * The set of a track: one pass, as ism_merge takes it. It has the sectors of ism_index_track whose data was found, in the
+ * index's order, each with the number and the code of its ID, whether the sum of its data holds, and the data; a mark
+ * byte among the data gives the byte. What ism_read_field gives at data_place is the same.
+ *
+ *   intervals, n  any number of intervals, narrow and wide ones too
+ *   set, room     the set; ISM_MAX_SET_BYTES is always room enough
+ *   count         sectors in the set
+ *   used          its bytes
+ *   refusals      ISM_UNSET, ISM_CROSSED, ISM_CROWDED (a 33rd entry of the index would be needed), ISM_FULL
+ *
+ * A number that stands on the track twice is in the set twice: ism_merge judges that.
+ */
+ism_answer ism_read_track(ism_profile profile, const uint16_t *intervals, size_t n, uint8_t *set, size_t room);
 
 /*
  * Reports: how worn a drive is. A report has a row for each class of interval, in the order narrow, 2, 3, 4, wide: how

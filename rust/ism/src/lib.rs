@@ -42,7 +42,7 @@ pub use best::{best_windows, Best};
 pub use fifo::{Fifo, FifoMode};
 pub use index::{index_track, DataField, Index, IndexEntry};
 pub use limits::{margin_limits, After, Edge, Limit, Limits, Side, MAX_LIMITS};
-pub use passes::{merge, sectors, Sector, SectorSet, Sectors, MAX_SECTORS, MAX_SET_BYTES};
+pub use passes::{merge, read_track, sectors, Sector, SectorSet, Sectors, MAX_SECTORS, MAX_SET_BYTES};
 pub use refusal::Refusal;
 pub use report::{drive_report, Report};
 pub use slow::{read_corrected, Corrected};

@@ -1,7 +1,7 @@
 //! The sectors that passes over one track read, and the merge of two of them.
 
 use crate::refusal::accepted;
-use crate::{sector_bytes, sys, Refusal};
+use crate::{sector_bytes, sys, Profile, Refusal};
 
 /// The most sectors of one set.
 pub const MAX_SECTORS: usize = 32;
@@ -64,6 +64,40 @@ impl<'a> SectorSet<'a> {
     pub fn bytes(&self) -> &[u8] {
         &self.buffer[..self.used]
     }
+
+    /// Its sectors in order.
+    pub fn sectors(&self) -> Sectors<'_> {
+        sectors(self.bytes())
+    }
+}
+
+/// Reads one pass over a track: the sectors of [`index_track`](crate::index_track) whose data was found, in its order,
+/// as a set for [`merge`] over the caller's buffer. A mark byte among the data gives the byte.
+///
+/// ```no_run
+/// # let profile = ism::Profile {
+/// #     t1: 58, t0: 29, early: 8, normal: 10, late: 12, min: 36,
+/// #     b23_short: 73, b23_long: 73, b34_short: 106, b34_long: 106, rpt: 139,
+/// # };
+/// # let (one, two) = ([0; 64], [0; 64]);
+/// let [mut first, mut second, mut out] = [[0; ism::MAX_SET_BYTES]; 3];
+/// let first = ism::read_track(profile, &one, &mut first)?;
+/// let second = ism::read_track(profile, &two, &mut second)?;
+/// for sector in ism::merge(first.bytes(), second.bytes(), &mut out)? {
+///     println!("sector {}: {}", sector.number, if sector.holds { "good" } else { "bad" });
+/// }
+/// # Ok::<(), ism::Refusal>(())
+/// ```
+///
+/// A number that stands on the track twice is in the set twice: the merge judges that. Refusals in order: profile, too
+/// many sectors, output too short; the buffer is then as it was.
+pub fn read_track<'a>(profile: Profile, intervals: &[u16], buffer: &'a mut [u8]) -> Result<SectorSet<'a>, Refusal> {
+    // SAFETY: each pointer comes with the length of its slice, and slices do not overlap
+    let answer = unsafe {
+        sys::ism_read_track(profile, intervals.as_ptr(), intervals.len(), buffer.as_mut_ptr(), buffer.len())
+    };
+    let used = accepted(answer)?.used as usize;
+    Ok(SectorSet { buffer, used })
 }
 
 /// The sectors of a set as bytes, in order; it ends where the bytes are no whole sector.

@@ -252,6 +252,7 @@ extern "C" {
     ) -> Answer;
     pub fn ism_index_track(profile: Profile, intervals: *const u16, n: usize) -> Index;
     pub fn ism_merge(first: *const u8, n: usize, second: *const u8, m: usize, out: *mut u8, room: usize) -> Answer;
+    pub fn ism_read_track(profile: Profile, intervals: *const u16, n: usize, set: *mut u8, room: usize) -> Answer;
     pub fn ism_drive_report(profile: Profile, intervals: *const u16, n: usize) -> Report;
     pub fn ism_add_reports(a: Report, b: Report) -> Report;
     pub fn ism_fifo_new(mode: u16) -> Fifo;
