@@ -518,9 +518,9 @@ ism_answer ism_read_image(const uint16_t *words, size_t n, uint16_t *items, size
 ism_answer ism_merge(const uint8_t *first, size_t n, const uint8_t *second, size_t m, uint8_t *out, size_t room);
 
 /*
- * The set of a track: one pass, as ism_merge takes it. It has the sectors of ism_index_track whose data was found, in the
- * index's order, each with the number and the code of its ID, whether the sum of its data holds, and the data; a mark
- * byte among the data gives the byte. What ism_read_field gives at data_place is the same.
+ * The set of a track: one pass, as ism_merge takes it. It has the sectors of ism_index_track whose data was found, in
+ * the index's order, each with the number and the code of its ID, whether the sum of its data holds, and the data; a
+ * mark byte among the data gives the byte. What ism_read_field gives at data_place is the same.
  *
  *   intervals, n  any number of intervals, narrow and wide ones too
  *   set, room     the set; ISM_MAX_SET_BYTES is always room enough

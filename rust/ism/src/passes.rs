@@ -93,9 +93,8 @@ impl<'a> SectorSet<'a> {
 /// many sectors, output too short; the buffer is then as it was.
 pub fn read_track<'a>(profile: Profile, intervals: &[u16], buffer: &'a mut [u8]) -> Result<SectorSet<'a>, Refusal> {
     // SAFETY: each pointer comes with the length of its slice, and slices do not overlap
-    let answer = unsafe {
-        sys::ism_read_track(profile, intervals.as_ptr(), intervals.len(), buffer.as_mut_ptr(), buffer.len())
-    };
+    let answer =
+        unsafe { sys::ism_read_track(profile, intervals.as_ptr(), intervals.len(), buffer.as_mut_ptr(), buffer.len()) };
     let used = accepted(answer)?.used as usize;
     Ok(SectorSet { buffer, used })
 }

@@ -23,6 +23,7 @@ pub mod slow_drives;
 pub mod stretch;
 pub mod strip_texts;
 pub mod strips;
+pub mod track_sets;
 
 use crate::paper::Eleven;
 

@@ -166,6 +166,11 @@ fn library() {
     compare.group("index: made tracks", 0xCB, cases::indexes::made_tracks);
     compare.group("index: distances of the locks", 0xBF, cases::indexes::distances);
     compare.group("index: long tracks", 0xCC, cases::indexes::long_tracks);
+    compare.group("track set: told", 0x1A4, cases::track_sets::told);
+    compare.group("track set: rooms", 0x1A5, cases::track_sets::rooms);
+    compare.group("track set: faults together", 0x1A6, cases::track_sets::faults);
+    compare.group("track set: random fields", 0x1A7, cases::track_sets::random_fields);
+    compare.group("track set: made tracks merged", 0x1A8, cases::track_sets::made_tracks);
     compare.group("index: every order of few numbers", 0x1A0, cases::indexes::order::few_numbers);
     compare.group("index: many numbers in order", 0x1A1, cases::indexes::order::many_numbers);
     compare.group("index: crowded before the order", 0x1A2, cases::indexes::order::crowded_before);
@@ -194,6 +199,7 @@ fn check_coverage(compare: &Compare) {
         ("ism_make_sector", &[0, 13, 9]),
         ("ism_merge", &[0, 13, 15, 17, 9]),
         ("ism_index_track", &[0, 1, 2, 15]),
+        ("ism_read_track", &[0, 1, 2, 15, 9]),
         ("ism_fifo", &[0, 3]),
     ];
     println!("answers seen, refusal number and times (0 is acceptance):");

@@ -17,6 +17,7 @@ pub mod report;
 mod sector;
 pub mod slow;
 pub mod strip;
+pub mod track_set;
 
 pub use cells::*;
 pub use items::*;

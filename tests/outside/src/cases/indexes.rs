@@ -2,7 +2,7 @@
 
 mod call;
 pub mod order;
-mod pieces;
+pub mod pieces;
 pub mod told;
 
 use super::faults::{building_profile, profile_with, Faults};
