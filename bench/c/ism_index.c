@@ -1,5 +1,5 @@
 /*
- * Profile, finder, field reader and index in C, over the search for a lock and the reading of items of the version
+ * Profile, finder, field reader, index and set of a track in C, over the search for a lock and the reading of items of the version
  * whose PREFIX it gets.
  */
 #include "common.h"
@@ -106,4 +106,29 @@ ism_index NAME(index_track)(ism_profile profile, const uint16_t *intervals, size
         put_in_order(&index, entry);
     }
     return index;
+}
+
+/* As a caller of index and field reader makes a set: each data field is read once more. */
+ism_answer NAME(read_track)(ism_profile profile, const uint16_t *intervals, size_t n, uint8_t *set, size_t room) {
+    ism_index index = NAME(index_track)(profile, intervals, n);
+    if (index.number != ISM_ACCEPTED) return refused(index.number, index.place);
+    ism_answer answer = counted(0);
+    for (size_t k = 0; k < index.count; k++) {
+        if (!index.entries[k].found) continue;
+        answer.count++;
+        answer.used += 3 + ((size_t)128 << index.entries[k].code);
+    }
+    if (room < answer.used) return refused(ISM_FULL, 0);
+    uint16_t items[ISM_MAX_FIELD_BYTES];
+    for (size_t k = 0; k < index.count; k++) {
+        const ism_index_entry *entry = &index.entries[k];
+        if (!entry->found) continue;
+        size_t size = (size_t)128 << entry->code, place = (size_t)entry->data_place;
+        NAME(read_items)(&profile, intervals + place, n - place, size + 6, items, size + 6);
+        *set++ = entry->sector;
+        *set++ = entry->code;
+        *set++ = entry->holds;
+        for (size_t i = 0; i < size; i++) *set++ = (uint8_t)items[4 + i];
+    }
+    return answer;
 }

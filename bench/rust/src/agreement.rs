@@ -3,7 +3,7 @@
 
 use bench::plain::put_sector;
 use ism::sys::{Fifo, FifoAnswer, Profile, Report, ReportRow};
-use ism::{CHECK, MARK_A1, MARK_C2, MAX_BYTES, MAX_INTERVALS};
+use ism::{CHECK, MARK_A1, MARK_C2, MAX_BYTES, MAX_INTERVALS, MAX_SET_BYTES};
 
 use crate::implementations::{Implementation, FIFO_OPERATIONS};
 use crate::tasks::{profile_of, PAIRS, PROFILE, WIDE_PAIRS};
@@ -436,7 +436,14 @@ fn index_track(r: &mut Random, all: &[Implementation], p: Profile) -> Result<(),
         damage(r, p, &mut track);
     }
     let what = || format!("index_track {p:?} {track:?}");
-    same(all, what, with_output(all, 0, |who, _| (who.index_track)(p, &track)))
+    same(all, what, with_output(all, 0, |who, _| (who.index_track)(p, &track)))?;
+    let needed = (all[0].read_track)(p, &track, &mut vec![0; MAX_SET_BYTES]).used;
+    let room = room(r, needed);
+    let call = |who: &Implementation, _: &mut [u16]| {
+        let mut set = vec![0xBE; room];
+        ((who.read_track)(p, &track, &mut set), set)
+    };
+    same(all, || format!("read_track {p:?} {track:?}"), with_output(all, 0, call))
 }
 
 /// The sectors of a pass, most of the same data for the same number, damaged at times.

@@ -11,7 +11,7 @@ pub use writer::careful_rust_write;
 
 use ism::sys::{Answer, Index, Profile};
 
-use crate::plain::index::{index_track, Fields};
+use crate::plain::index::{index_track, read_track, Fields};
 use crate::plain::register::{ALL_ONES, MARK};
 
 struct Careful;
@@ -29,6 +29,11 @@ impl Fields for Careful {
 #[inline(never)]
 pub fn careful_rust_index_track(profile: Profile, intervals: &[u16]) -> Index {
     index_track::<Careful>(profile, intervals)
+}
+
+#[inline(never)]
+pub fn careful_rust_read_track(profile: Profile, intervals: &[u16], set: &mut [u8]) -> Answer {
+    read_track::<Careful>(profile, intervals, set)
 }
 
 /// The register with a byte passed through: the eight bits at once, by x^16 + x^12 + x^5 + 1. Before a mark byte that

@@ -60,6 +60,7 @@ pub struct Implementation {
     pub read_image: fn(&[u16], &mut [u16]) -> Answer,
     pub merge: fn(&[u8], &[u8], &mut [u8]) -> Answer,
     pub index_track: fn(Profile, &[u16]) -> Index,
+    pub read_track: fn(Profile, &[u16], &mut [u8]) -> Answer,
     pub drive_report: fn(Profile, &[u16]) -> Report,
     pub add_reports: fn(Report, Report) -> Report,
     /// A FIFO operation by its number, in the order of `ism.h`.
@@ -113,6 +114,8 @@ macro_rules! c_interface {
                 fn merge(first: *const u8, n: usize, second: *const u8, m: usize, out: *mut u8, room: usize) -> Answer;
                 #[link_name = concat!($prefix, "index_track")]
                 fn index_track(p: Profile, list: *const u16, n: usize) -> Index;
+                #[link_name = concat!($prefix, "read_track")]
+                fn read_track(p: Profile, list: *const u16, n: usize, set: *mut u8, room: usize) -> Answer;
                 #[link_name = concat!($prefix, "drive_report")]
                 fn drive_report(p: Profile, list: *const u16, n: usize) -> Report;
                 #[link_name = concat!($prefix, "add_reports")]
@@ -159,6 +162,9 @@ macro_rules! c_interface {
                         merge(a.as_ptr(), a.len(), b.as_ptr(), b.len(), out.as_mut_ptr(), out.len())
                     },
                     index_track: |p, list| unsafe { index_track(p, list.as_ptr(), list.len()) },
+                    read_track: |p, list, set| unsafe {
+                        read_track(p, list.as_ptr(), list.len(), set.as_mut_ptr(), set.len())
+                    },
                     drive_report: |p, list| unsafe { drive_report(p, list.as_ptr(), list.len()) },
                     add_reports: |a, b| unsafe { add_reports(a, b) },
                     fifo: |operation, fifo, item| unsafe {
@@ -218,6 +224,7 @@ const RUST: Implementation = Implementation {
     read_image: plain_rust_read_image,
     merge: plain_rust_merge,
     index_track: plain_rust_index_track,
+    read_track: plain_rust_read_track,
     drive_report: plain_rust_drive_report,
     add_reports: |a, b| plain_rust_add_reports(&a, &b),
     fifo: rust_fifo,
@@ -255,6 +262,8 @@ macro_rules! careful {
                 ) -> Corrected;
                 #[link_name = concat!($prefix, "index_track")]
                 fn index_track(p: Profile, list: *const u16, n: usize) -> Index;
+                #[link_name = concat!($prefix, "read_track")]
+                fn read_track(p: Profile, list: *const u16, n: usize, set: *mut u8, room: usize) -> Answer;
             }
 
             /// Each pointer comes with the length of its slice.
@@ -273,6 +282,9 @@ macro_rules! careful {
                     read_corrected(p, list.as_ptr(), list.len(), start, n, out.as_mut_ptr(), out.len())
                 }),
                 index_track: |p, list| unsafe { index_track(p, list.as_ptr(), list.len()) },
+                read_track: |p, list, set| unsafe {
+                    read_track(p, list.as_ptr(), list.len(), set.as_mut_ptr(), set.len())
+                },
                 ..RUST
             };
         }
@@ -292,6 +304,7 @@ const CAREFUL_RUST: Implementation = Implementation {
     find: careful_rust_find,
     read_field: careful_rust_read_field,
     index_track: careful_rust_index_track,
+    read_track: careful_rust_read_track,
     ..RUST
 };
 

@@ -17,7 +17,7 @@ mod writer;
 pub use fifo::*;
 pub use finder::plain_rust_find;
 pub use images::{plain_rust_make_image, plain_rust_read_image};
-pub use index::plain_rust_index_track;
+pub use index::{plain_rust_index_track, plain_rust_read_track};
 pub use passes::plain_rust_merge;
 pub use reader::{plain_rust_read, plain_rust_read_field};
 pub use reports::{plain_rust_add_reports, plain_rust_drive_report};

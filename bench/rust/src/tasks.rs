@@ -139,6 +139,9 @@ fn with_careful() -> Vec<Plan> {
         "index-9", "a track of 9 sectors of 512 bytes", index(PROFILE, track_of(PROFILE, 9, 512));
         "index_descending-32", "a track of 32 sectors of 256 bytes, their numbers descending",
             index(PROFILE, descending_track());
+        "read_track-9", "the set of a track of 9 sectors of 512 bytes", read_track(track_of(PROFILE, 9, 512), 9 * 515);
+        "read_track-32", "the set of a track of 32 sectors of 256 bytes, their numbers descending",
+            read_track(descending_track(), 32 * 259);
         "index_in_locks-100000", "100000 intervals of locks that read as nothing", index(PROFILE, repeated(one_mark()));
         "index_in_ids-100000", "100000 intervals of IDs whose sum fails", index(PROFILE, repeated(failing_id()));
     })
@@ -430,6 +433,17 @@ fn track_of(p: Profile, sectors: usize, size: usize) -> Vec<u16> {
         plain_rust_make_sector(id, &data[number * size..(number + 1) * size], out);
     }
     stream(p, &items)
+}
+
+/// The sectors of a track as a set of so many bytes.
+fn read_track(track: Vec<u16>, bytes: usize) -> Task {
+    let units = track.len();
+    let run: Run = Box::new(move |who, out| {
+        // SAFETY: any bytes are numbers of sixteen bits
+        let (_, out, _) = unsafe { out.align_to_mut::<u8>() };
+        (who.read_track)(PROFILE, &track, out)
+    });
+    Task::new(units, "interval", bytes.div_ceil(2), run)
 }
 
 /// Longer than one strip can be: the streams of the sectors, one after the other.

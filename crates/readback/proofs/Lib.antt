@@ -13,7 +13,11 @@ pub mod NoLockInData
 pub mod EveryDotRaised
 -- The law of a track of sectors
 pub mod SectorIndexed
+pub mod TrackFound
 pub mod TrackIndexed
+-- A track read as a set, and merged
+pub mod SetOrder
+pub mod TrackSet
 -- The clearances of its fields
 pub mod SectorClears
 -- Slow drives

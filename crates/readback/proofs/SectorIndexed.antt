@@ -4,19 +4,23 @@ use Prim.Native.Nat.{ℕ, _≤_}
 use mathlib.Core.Path.{_≡_, sym, ap, _∙_}
 use mathlib.Core.Bool.{true}
 use mathlib.Mathlib.Data.Bool.Basic.{or-eq-false-eq-eq-false-and-eq-false}
-use mathlib.Core.List.{List, _∷_, []}
+use mathlib.Core.List.{List, _∷_, [], map}
 use native.Mathlib.Omega.{arith}
 use borrow.Author.Tests.{lt-ltb, le-leb, ltb-false}
 use lib.Dec.{ltb}
 use lib.ListN.{length, getD, drop}
+use lib.Seq.{take-at}
 use Rattle.lists.proofs.PlaceLaws.{everywhere-of-passing, everywhere-of-none}
 use Rattle.timing.specs.declared.Profile.{Profile}
 use Rattle.items.specs.Item.{isByte}
 use Rattle.items.proofs.ItemLaws.{data-is-byte}
-use Rattle.sectors.specs.Sector.{isMisfit}
+use Rattle.fields.specs.Bytes.{byteOf}
+use Rattle.sectors.specs.Sector.{sectorSize, isMisfit}
+use Rattle.sectors.proofs.SectorCounts.{size-of-code}
 use Rattle.track.specs.FieldKinds.{opensWith, identifies, isId, dataBytes, isData}
 use Rattle.track.specs.Index.{hasLock, lockPlace, fieldEnd, hasData, dataFrom, idByte, entryAt, entryEnd, nextStart}
 use Rattle.track.specs.Index.{entriesAt, entriesFrom}
+use Rattle.track.specs.TrackSectors.{dataAt}
 use Rattle.track.specs.declared.DataField.the-variants.{Found}
 use Rattle.track.specs.declared.Entry.{Entry}
 use Rattle.track.proofs.SearchLaws.{search-goes-on}
@@ -130,6 +134,13 @@ module _
     data-ends =
         rw (has-data, data-lock .1, field-is-read data-reads .uses)
         (ap (endOf p changed data-place) (sym (data-bytes-count s makes)))
+
+    -- what is read of it is the sector's data
+    pub data-given : dataAt p changed data-place (s .code) ≡ map byteOf (s .bytes)
+    unfolding dataAt
+    data-given =
+        let size = size-of-code (s .track) (s .side) (s .sector) (s .code) (s .bytes) (makes .fits) in
+        rw (items-are-its-bytes data-reads) (ap (map byteOf) (take-at (s .bytes) _ (sectorSize (s .code)) size))
 
     -- ---- the entry
 

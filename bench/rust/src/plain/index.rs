@@ -1,4 +1,4 @@
-//! Index of a track.
+//! Index and set of a track.
 
 use ism::sys::{Answer, Index, IndexEntry, Profile};
 
@@ -33,7 +33,13 @@ pub fn plain_rust_index_track(profile: Profile, intervals: &[u16]) -> Index {
     index_track::<Plain>(profile, intervals)
 }
 
+#[inline(never)]
+pub fn plain_rust_read_track(profile: Profile, intervals: &[u16], set: &mut [u8]) -> Answer {
+    read_track::<Plain>(profile, intervals, set)
+}
+
 const MOST_SECTORS: usize = 32;
+const FULL: u32 = 9;
 const CROWDED: u32 = 15;
 const ID_BYTES: usize = 10;
 
@@ -109,4 +115,28 @@ pub fn index_track<F: Fields>(p: Profile, intervals: &[u16]) -> Index {
         put_in_order(&mut index, entry);
     }
     index
+}
+
+/// As a caller of index and field reader makes a set: each data field is read once more.
+pub fn read_track<F: Fields>(p: Profile, intervals: &[u16], set: &mut [u8]) -> Answer {
+    let index = index_track::<F>(p, intervals);
+    let answer = |number, place, count, used| Answer { number, place, count, used, holds: 0, clearance: 0 };
+    if index.number != 0 {
+        return answer(index.number, index.place, 0, 0);
+    }
+    let found = || index.entries[..index.count as usize].iter().filter(|entry| entry.found != 0);
+    let used: usize = found().map(|entry| 3 + (128 << entry.code)).sum();
+    let Some(mut rest) = set.get_mut(..used) else { return answer(FULL, 0, 0, 0) };
+    let mut items = [0; MAX_FIELD_BYTES as usize];
+    for entry in found() {
+        let size = 128 << entry.code;
+        let field = &mut items[..size + 6];
+        let read = F::read_items(&p, &intervals[entry.data_place as usize..], field);
+        debug_assert!(read.is_ok());
+        let (sector, behind) = rest.split_at_mut(3 + size);
+        sector[..3].copy_from_slice(&[entry.sector, entry.code, entry.holds]);
+        sector[3..].iter_mut().zip(&field[4..]).for_each(|(byte, item)| *byte = *item as u8);
+        rest = behind;
+    }
+    answer(0, 0, found().count() as u64, used as u64)
 }
