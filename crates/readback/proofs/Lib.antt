@@ -18,6 +18,9 @@ pub mod TrackIndexed
 -- A track read as a set, and merged
 pub mod SetOrder
 pub mod TrackSet
+pub mod PassLaws
+pub mod CountOnce
+pub mod TrackRead
 -- The clearances of its fields
 pub mod SectorClears
 -- Slow drives

@@ -33,7 +33,7 @@ use Rattle.readback.proofs.SectorAhead.{data-count, endOf, FieldsFound}
 -- ---- what the layout takes
 
 module _ (s : Sector) (makes : Makes s) where
-  code-is-small : s .code ≤ 3
+  pub code-is-small : s .code ≤ 3
   unfolding isMisfit
   code-is-small = ltb-false 3 (s .code) (or-eq-false-eq-eq-false-and-eq-false (ltb 3 (s .code)) _ .0 (makes .fits) .0)
 

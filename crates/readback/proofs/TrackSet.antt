@@ -185,7 +185,7 @@ module _ (p : Profile) (changed : List ℕ) where
 
 -- ---- different numbers
 
-none-of-number : (s : Sector) (ss : List Sector) → everywhere (otherNumber s) ss ≡ true → heldOf (s .sector) (map asRead ss) ≡ Nothing
+pub none-of-number : (s : Sector) (ss : List Sector) → everywhere (otherNumber s) ss ≡ true → heldOf (s .sector) (map asRead ss) ≡ Nothing
 unfolding heldOf otherNumber
 none-of-number s [] others = refl
 none-of-number s (t ∷ ss) others =
@@ -247,3 +247,6 @@ module _
         ∙ length-map listed (sectorFrom p changed)
         ∙ ordered-length (entriesBehind [] ss)
         ∙ as-many [] ss
+
+    pub set-held : (n : ℕ) → heldOf n (byNumber ss) ≡ heldOf n (map asRead ss)
+    set-held n = ap (heldOf n) (sym set-is-by-number ∙ listed-sectors) ∙ same-held n
