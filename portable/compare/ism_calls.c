@@ -217,12 +217,18 @@ static uint32_t call_make_sector(source *s) {
     return answered;
 }
 
-static uint32_t call_index_track(source *s) {
+/* Intervals under a profile, now and then of a track with more sectors than an index takes. */
+static size_t fill_any_track(source *s, ism_profile *p) {
     static const ism_profile worked = {58, 29, 8, 10, 12, 36, 73, 73, 106, 106, 139};
     int is_full = one_in(s, 150);
-    ism_profile p = is_full ? worked : any_profile(s);
-    size_t n =
-        is_full ? fill_track(s, p, 36, intervals, MOST_INTERVALS) : fill_intervals(s, p, intervals, MOST_INTERVALS);
+    *p = is_full ? worked : any_profile(s);
+    return is_full ? fill_track(s, *p, 36, intervals, MOST_INTERVALS)
+                   : fill_intervals(s, *p, intervals, MOST_INTERVALS);
+}
+
+static uint32_t call_index_track(source *s) {
+    ism_profile p;
+    size_t n = fill_any_track(s, &p);
     ism_index index = ism_index_track(p, LIST(intervals, n));
     add_numbers(intervals, n);
     return add_index(&index);
@@ -244,6 +250,17 @@ static uint32_t call_read_image(source *s) {
     uint32_t answered = add_answer(ism_read_image(LIST(items, n), LIST(out, room)));
     add_numbers(items, n);
     add_numbers(out, room + 8);
+    return answered;
+}
+
+static uint32_t call_read_track(source *s) {
+    ism_profile p;
+    size_t n = fill_any_track(s, &p), most = MOST_SET_BYTES;
+    size_t exact = (size_t)ism_read_track(p, intervals, n, first_set, most).used, room = any_room(s, exact, most - 8);
+    memset(first_set, 0xE5, most);
+    uint32_t answered = add_answer(ism_read_track(p, LIST(intervals, n), LIST(first_set, room)));
+    add_numbers(intervals, n);
+    add_bytes(first_set, room + 8);
     return answered;
 }
 
@@ -322,6 +339,7 @@ const entry entries[] = {
     {"ism_index_track", call_index_track, PROFILE | BIT(ISM_CROWDED)},
     {"ism_make_image", call_make_image, BIT(0) | BIT(ISM_OVERLONG) | BIT(ISM_FOREIGN) | BIT(ISM_FULL)},
     {"ism_read_image", call_read_image, BIT(0) | BIT(ISM_OVERLONG) | BIT(ISM_UNRULY) | BIT(ISM_FULL)},
+    {"ism_read_track", call_read_track, PROFILE | BIT(ISM_CROWDED) | BIT(ISM_FULL)},
     {"ism_merge", call_merge, BIT(0) | BIT(ISM_MISFIT) | BIT(ISM_CROWDED) | BIT(ISM_AT_ODDS) | BIT(ISM_FULL)},
     {"ism_drive_report", call_drive_report, PROFILE | BIT(ISM_OVERLONG)},
     {"ism_add_reports", call_add_reports, BIT(0) | BIT(ISM_OVERLONG)},
