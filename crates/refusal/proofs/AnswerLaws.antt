@@ -16,6 +16,7 @@ use Rattle.refusal.specs.declared.Refusal.the-variants.{TooLong, Interva
 use Rattle.refusal.specs.declared.Refusal.the-variants.{MisplacedMark, OutputTooShort, NoLock, EndsEarly}
 use Rattle.refusal.specs.declared.Refusal.the-variants.{CountOutOfRange, SectorSizeMismatch, MalformedInput}
 use Rattle.refusal.specs.declared.Refusal.the-variants.{TooManySectors, UnrulyWord, SectorsAtOdds, OffSpeed}
+use Rattle.refusal.specs.declared.Refusal.the-variants.{PageLost, FillSoiled}
 use Rattle.refusal.specs.declared.Verdict.{Verdict}
 use Rattle.refusal.specs.declared.Verdict.the-variants.{Accepted, Refused}
 
@@ -40,6 +41,8 @@ number-is-not-zero r =
       | UnrulyWord at ↦ refl
       | SectorsAtOdds sector ↦ refl
       | OffSpeed half ↦ refl
+      | PageLost page ↦ refl
+      | FillSoiled page ↦ refl
     ]
 
 module _ (r : Refusal) (rule : Answer) where

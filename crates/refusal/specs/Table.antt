@@ -6,7 +6,7 @@ use Rattle.refusal.specs.declared.Refusal.the-variants.{TooLong, Interva
 use Rattle.refusal.specs.declared.Refusal.the-variants.{NotWholeBytes, MisplacedMark, OutputTooShort, NoLock}
 use Rattle.refusal.specs.declared.Refusal.the-variants.{EndsEarly, CountOutOfRange, SectorSizeMismatch}
 use Rattle.refusal.specs.declared.Refusal.the-variants.{MalformedInput, TooManySectors, UnrulyWord, SectorsAtOdds}
-use Rattle.refusal.specs.declared.Refusal.the-variants.{OffSpeed}
+use Rattle.refusal.specs.declared.Refusal.the-variants.{OffSpeed, PageLost, FillSoiled}
 
 -- the column "No."
 abbrev pub numberOf : Refusal → ℕ
@@ -28,6 +28,8 @@ numberOf TooManySectors = 15
 numberOf (UnrulyWord at) = 16
 numberOf (SectorsAtOdds sector) = 17
 numberOf (OffSpeed half) = 18
+numberOf (PageLost page) = 19
+numberOf (FillSoiled page) = 20
 
 -- the column "Place given"
 abbrev pub placeOf : Refusal → ℕ
@@ -49,3 +51,5 @@ placeOf TooManySectors = 0
 placeOf (UnrulyWord at) = at
 placeOf (SectorsAtOdds sector) = sector
 placeOf (OffSpeed half) = half
+placeOf (PageLost page) = page
+placeOf (FillSoiled page) = page

@@ -40,6 +40,10 @@ pub enum Refusal {
     SectorsAtOdds(u32),
     // 18, off speed: 0 for the even intervals before the lock, 1 for the odd
     OffSpeed(u32),
+    // 19, lost page: which page, from 1
+    PageLost(u32),
+    // 20, soiled fill: which page, from 1
+    FillSoiled(u32),
 }
 
 // What a test answers that gives no value.
@@ -78,6 +82,8 @@ impl Refusal {
             Refusal::UnrulyWord(_) => 16,
             Refusal::SectorsAtOdds(_) => 17,
             Refusal::OffSpeed(_) => 18,
+            Refusal::PageLost(_) => 19,
+            Refusal::FillSoiled(_) => 20,
         }
     }
 
@@ -104,6 +110,8 @@ impl Refusal {
             Refusal::UnrulyWord(at) => at,
             Refusal::SectorsAtOdds(sector) => sector,
             Refusal::OffSpeed(half) => half,
+            Refusal::PageLost(page) => page,
+            Refusal::FillSoiled(page) => page,
         }
     }
 }
