@@ -43,7 +43,7 @@ module _ (first second : List ℕ) (a : Accepts first second) where
         few = rw (reads-back, merged-count ss ts (a .peace)) (a .different);
       }
 
-  held-again : (n : ℕ) → n < 256 → heldOf n (sectorsIn (result first second)) ≡ taken (heldOf n ss) (heldOf n ts)
+  pub held-again : (n : ℕ) → n < 256 → heldOf n (sectorsIn (result first second)) ≡ taken (heldOf n ss) (heldOf n ts)
   unfolding sectorsIn
   held-again n h = rw reads-back (held-of-merged ss ts n (once n h) h)
 

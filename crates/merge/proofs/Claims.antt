@@ -14,6 +14,7 @@ use Rattle.merge.proofs.MergedLaws.{merged-numbers, none-is-twice}
 use Rattle.merge.proofs.OnceLaws.{alone-in-order, alone-is-taken, alone-numbers, empty-first, empty-second}
 use Rattle.merge.proofs.OnceLaws.{itself-second}
 use Rattle.merge.proofs.AgainLaws.{few-again, fits-again, in-order-again, once-again}
+use Rattle.merge.proofs.AloneLaws.{merged-with-none, result-keeps}
 use Rattle.merge.proofs.EitherFirst.{merged-swaps, rule-swaps, settles-alike}
 
 pub merge-laws : MergeLaws
@@ -48,4 +49,6 @@ merge-laws =
       either-pass-first = λ first second old good.
           settles-alike _ _ _ _ old (rule-swaps first second (length old) good) (λ e.
           ap setBytes (merged-swaps _ _ good (acceptance-says first second (length old) e .peace)));
+      with-the-empty-set = merged-with-none;
+      each-number-kept = result-keeps;
     }

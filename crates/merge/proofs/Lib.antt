@@ -2,6 +2,7 @@ pub mod SetLaws
 pub mod PlaceLaws
 pub mod IndexLaws
 pub mod NumberLaws
+pub mod TwiceLaws
 pub mod ChoiceLaws
 pub mod OutputLaws
 pub mod AscendingLaws
@@ -14,6 +15,9 @@ pub mod AcceptLaws
 pub mod OnceLaws
 pub mod MergedLaws
 pub mod AgainLaws
+pub mod AloneLaws
+pub mod SetRuleLaws
+pub mod EntryLaws
 pub mod SwapLaws
 pub mod EitherFirst
 pub mod Claims

@@ -7,11 +7,12 @@ use mathlib.Core.Option.{some}
 use lib.Dec.{eqb, leb}
 use lib.ListN.{length}
 use Rattle.lists.specs.Place.{everywhere}
-use Rattle.refusal.specs.Answer.{accepted}
+use Rattle.refusal.specs.Answer.{accepted, firstRefusal}
 use Rattle.sectors.specs.Sector.{sectorSize}
 use Rattle.merge.specs.Set.{Sector, setBytes, setOf, sectorsIn}
 use Rattle.merge.specs.Merge.{Held, Nothing, One, Twice, numbers, heldOf, taken, merged, inEither}
-use Rattle.merge.specs.Rule.{mergeRule, result, mergeAnswer, mergeOutput}
+use Rattle.merge.specs.Rule.{roomRule, mergeRule, result, mergeAnswer, mergeOutput}
+use Rattle.merge.specs.Alone.{setRule}
 
 -- ---- sets as bytes
 
@@ -89,3 +90,13 @@ pub record MergeLaws : Type 0 where
       → ((n : ℕ) → n < 256 → bothFail (heldOf n (sectorsIn first)) (heldOf n (sectorsIn second)) ≡ false)
       → (mergeAnswer first second (length old) ≡ mergeAnswer second first (length old))
       × (mergeOutput first second old ≡ mergeOutput second first old)
+  -- with the empty set: what the set by itself is turned away for, and then 9
+  pub with-the-empty-set
+      : (bs : List ℕ) (room : ℕ)
+      → mergeRule bs [] room ≡ firstRefusal (setRule bs) (roomRule (sectorsIn bs) (sectorsIn []) room)
+  -- and the set that it gives has of each number what the set has
+  pub each-number-kept
+      : (bs : List ℕ) (room n : ℕ)
+      → mergeRule bs [] room .number ≡ 0
+      → n < 256
+      → heldOf n (sectorsIn (result bs [])) ≡ heldOf n (sectorsIn bs)

@@ -5,7 +5,9 @@ ghost use mathlib.Core.Bool.{false, not, _||_};
 ghost use lib.Dec.{eqb};
 ghost use lib.ListN.{length, replicate};
 ghost use Rattle.refusal.specs.Answer.{countedAnswer};
-ghost use Rattle.merge.specs.Set.{setOf, isMisfitSet};
+ghost use Rattle.lists.specs.Place.{anywhere};
+ghost use Rattle.merge.specs.Set.{setOf, isMisfitSet, sectorsIn};
+ghost use Rattle.merge.specs.Alone.{isTwiceIn};
 ghost use Rattle.merge.specs.Merge.{howMany, numbers};
 ghost use Rattle.merge.specs.machine.Index.{endRule, countRule, entryWith, entryInEither, Indexed};
 use refusal::Counted;
@@ -58,19 +60,24 @@ fn entry(old: u16, place: u16) -> u16
     65535
 }
 
-// 32 sectors have at most 32,864 bytes, so a place fits 16 bits and is not 65,535.
-pub fn index_set(set: &[u8], index: &mut [u16; 256])
+// Whether a number is there twice. 32 sectors have at most 32,864 bytes, so a place fits 16 bits and is not 65,535.
+pub fn index_set(set: &[u8], index: &mut [u16; 256]) -> bool
     requires { ⌜
         (isMisfitSet (now set) ≡ false) × (length (now set) ≤ 32864) × (now index ≡ replicate 256 0) ⌝ }
-    ensures { λ _. ⌜ Indexed (now (set .entry)) (now (index .exit)) ⌝ }
+    ensures indexed { λ _. ⌜ Indexed (now (set .entry)) (now (index .exit)) ⌝ }
+    ensures twice { λ r. ⌜ r ≡ anywhere (isTwiceIn (sectorsIn (now (set .entry)))) numbers ⌝ }
 {
+    let mut twice = false;
     let mut start: usize = 0;
     while start < set.len() {
         let code = start + 1;
         let number = set[start] as usize;
-        index[number] = entry(index[number], code as u16);
+        let old = index[number];
+        twice = twice | (old != 0);
+        index[number] = entry(old, code as u16);
         start = code + 2 + sectors::sector_size(set[code]);
     }
+    twice
 }
 
 fn in_either(a: u16, b: u16) -> bool

@@ -7,6 +7,7 @@ ghost use Rattle.refusal.specs.Answer.{accepted, refuseIf, verdictAnswer, count
 ghost use Rattle.merge.specs.Set.{sectorsIn};
 ghost use Rattle.merge.specs.Rule.{roomRule, mergedAnswer, mergeAnswer, mergeOutput};
 ghost use Rattle.merge.specs.machine.Index.{Indexed, setsRule, numbersRule, checkedRule, Settles};
+pub use alone::index_alone;
 use ascending::merged_size;
 use ascending::write_merged;
 use choice::lowest_at_odds;
@@ -17,6 +18,7 @@ use refusal::Counted;
 use refusal::Refusal;
 use refusal::Verdict;
 
+mod alone;
 mod ascending;
 mod choice;
 mod index;

@@ -27,8 +27,8 @@ deliver-requires c κs =
     let counted = c .before .before .before .before in
     let asked = counted .before .before in
     let indexed = asked .before .before .before in (
-      indexed .before .before .index-set .ensures,
-      indexed .index-set2 .ensures,
+      indexed .before .before .index-set .ensures .0,
+      indexed .index-set2 .ensures .0,
       rw (counted .count .given .1) at (asked .check-numbers .ensures),
     )
 

@@ -1,31 +1,43 @@
--- Why `merge::index::index_set` makes the set's index: each turn enters the sector at its place. Rests on no axiom.
+-- Why `merge::index::index_set` makes the set's index and tells whether a number is there twice: each turn enters the
+-- sector at its place. Rests on no axiom.
 use Prim.Native.Nat.{_+_, _-_, _<_, _≤_}
-use mathlib.Core.Path.{_≡_, ap, _∙_}
-use mathlib.Core.Bool.{false}
+use mathlib.Core.Path.{_≡_, sym, ap, _∙_}
+use mathlib.Core.Bool.{Bool, false, not, _||_}
 use native.Mathlib.Omega.{arith}
 use lib.ListN.{length, drop, getD, length-set}
+use lib.Dec.{eqb}
 use borrow.Author.Needs.{needs}
+use Rattle.lists.specs.Place.{anywhere}
 use Rattle.sectors.specs.Sector.{sectorSize}
 use Rattle.merge.specs.Set.{setOf, isNone, isMisfitSet}
 use Rattle.merge.proofs.IndexLaws.{Indexing, fresh-indexes, end-indexes, whole-here, sector-indexes, rest-here}
+use Rattle.merge.specs.Merge.{numbers}
+use Rattle.merge.proofs.TwiceLaws.{marksTwice, fresh-marks-none, sector-marks, marks-tell}
 use Rattle.merge.proofs.index.index_set.Statement.{statement}
 use Rattle.merge.proofs.index.index_set.Tie as tie
 
 abbrev Inv-loop : tie.InvT-loop
-Inv-loop set index₀ start₀ index start =
+Inv-loop set index₀ twice₀ start₀ index twice start =
     (start ≤ length set)
     × (isNone (setOf (drop start set)) ≡ false)
     × (length index ≡ 256)
     × Indexing set index start
+    × (twice ≡ anywhere (marksTwice index) numbers)
 
 abbrev μ-loop : tie.MeasureT-loop
-μ-loop set index₀ start₀ index start = length set - start
+μ-loop set index₀ twice₀ start₀ index twice start = length set - start
 
 loop-holds : tie.Need-loop-holds Inv-loop μ-loop
 unfolding isMisfitSet
 loop-holds c =
     let fresh = c .before .pre .2 in
-    (omega arith, c .before .pre .0, ap length fresh, rw fresh (fresh-indexes (c .before .args .set .now)))
+    let set = c .before .args .set .now in (
+      omega arith,
+      c .before .pre .0,
+      ap length fresh,
+      rw fresh (fresh-indexes set),
+      rw fresh (sym fresh-marks-none),
+    )
 
 byte
     : (c : tie.After-shared-slice-known2 Inv-loop μ-loop)
@@ -58,12 +70,17 @@ loop-again c =
       sector-indexes set start inside fits index size (turn .before .before .before .pre .1)
           (turn .before .loop .inv .3)
           (byte (c .before .before .before .before)),
+      ap (λ (t : Bool). t || not (eqb (getD index (getD set start 0) 0) 0)) (turn .before .loop .inv .4)
+          ∙ sector-marks index (getD set start 0) (start + 1) size (byte (c .before .before .before .before)) (λ q.
+          omega (arith, turn .before .before .before .pre .1)),
     )
 
 returns : tie.Need-returns Inv-loop μ-loop
 returns c =
-    end-indexes (c .before .before .before .args .set .now) (c .before .loop .index) (c .before .loop .start)
-    (c .loop-test .left) (c .before .loop .inv .3)
+    let set = c .before .before .before .args .set .now in
+    let index = c .before .loop .index in
+    let indexed = end-indexes set index (c .before .loop .start) (c .loop-test .left) (c .before .loop .inv .3) in
+    (indexed, c .before .loop .inv .4 ∙ marks-tell set index indexed)
 
 pub index-set-spec : {M : Type 1} → statement M
 index-set-spec =
