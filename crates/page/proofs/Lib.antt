@@ -1,0 +1,5 @@
+pub mod CellLaws
+pub mod ColumnLaws
+pub mod PageLaws
+pub mod MakingLaws
+pub mod ReadingLaws

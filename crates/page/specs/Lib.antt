@@ -1,0 +1,4 @@
+pub mod Page
+pub mod Reading
+pub mod Making
+pub mod machine
