@@ -114,6 +114,16 @@ pub fits-is-some : (bs : List ℕ) → isMisfitSet bs ≡ false → setOf bs ≡
 unfolding isMisfitSet sectorsIn
 fits-is-some bs e = some-of-it (setOf bs) e
 
+pub sectors-of-set
+    : (bs : List ℕ) (ss : List Sector) → setOf bs ≡ some ss → (isMisfitSet bs ≡ false) × (sectorsIn bs ≡ ss)
+unfolding isMisfitSet sectorsIn
+sectors-of-set bs ss e = (ap isNone e, ap orEmpty e)
+
+-- a sector more at the front
+pub bytes-of-first : (s : Sector) (ss : List Sector) → setBytes (s ∷ ss) ≡ sectorBytes s ++ setBytes ss
+unfolding setBytes
+bytes-of-first s ss = refl
+
 read-is-a-sector
     : (a b s : ℕ) (rest : List ℕ) → b ≤ 3 → sectorSize b ≤ length rest → isSector (sectorOf a b s rest) ≡ true
 unfolding isSector sectorOf

@@ -5,7 +5,7 @@ use mathlib.Core.Path.{_≡_, refl, ap, ap₂, _∙_, sym}
 use mathlib.Core.Bool.{Bool, true, false, cond, true≢false}
 use mathlib.Core.List.{List, [], _∷_, _++_, flatMap}
 use native.Mathlib.Omega.{arith}
-use borrow.Author.Tests.{eqb-true, ne-eqb}
+use borrow.Author.Tests.{eqb-true, eq-eqb, ne-eqb}
 use lib.Dec.{eqb}
 use Rattle.lists.specs.Table.{tabulated}
 use Rattle.merge.specs.Set.{Sector}
@@ -13,6 +13,21 @@ use Rattle.merge.specs.Merge.{Held, Nothing, One, Twice, withCopy, heldO
 use Rattle.merge.specs.Merge.{numbers, isTwice}
 use Rattle.merge.proofs.IndexLaws.{joined, joined-assoc, joined-nothing}
 use Rattle.merge.proofs.OutputLaws.{taken-keeps}
+
+-- ---- a sector more at the front
+
+module _ (n : ℕ) (s : Sector) (ss : List Sector) where
+  pub held-of-own-first : s .number ≡ n → heldOf n (s ∷ ss) ≡ withCopy s (heldOf n ss)
+  unfolding heldOf
+  held-of-own-first e = rw (eq-eqb (s .number) n e)
+
+  pub held-of-other-first : (s .number ≡ n → ⊥) → heldOf n (s ∷ ss) ≡ heldOf n ss
+  unfolding heldOf
+  held-of-other-first d = rw (ne-eqb (s .number) n d)
+
+pub held-of-none : (n : ℕ) → heldOf n [] ≡ Nothing
+unfolding heldOf
+held-of-none n = refl
 
 -- ---- a set in two parts
 

@@ -81,7 +81,7 @@ copy-is-a-sector s Nothing e = everywhere-of-passing isSector s [] e ∙ everywh
 copy-is-a-sector s (One t) e = everywhere-of-none isSector
 copy-is-a-sector s Twice e = everywhere-of-none isSector
 
-held-is-sectors
+pub held-is-sectors
     : (n : ℕ) (ss : List Sector)
     → everywhere isSector ss ≡ true
     → everywhere isSector (asList (heldOf n ss)) ≡ true

@@ -2,7 +2,7 @@
 -- axiom.
 use Prim.Native.Nat.{ℕ, suc, _≤_, _<_}
 use mathlib.Core.Path.{_≡_, refl, sym, ap, _∙_}
-use mathlib.Core.Bool.{true, false}
+use mathlib.Core.Bool.{Bool, true, false}
 use mathlib.Core.List.{List}
 use mathlib.Core.Option.{Option, none, some}
 use native.Mathlib.Nat.{zero-add}
@@ -15,8 +15,9 @@ use Rattle.refusal.specs.Table.{numberOf, placeOf}
 use Rattle.refusal.specs.Answer.{Answer, accepted, refused, refuseIf}
 use Rattle.refusal.specs.declared.Refusal.{Refusal}
 use Rattle.refusal.proofs.AnswerLaws.{number-is-not-zero, refuse-if-accepts}
-use Rattle.merge.specs.Set.{Sector, setOf, isNone, orEmpty, isMisfitSet, sectorsIn}
-use Rattle.merge.specs.Merge.{numbers}
+use Rattle.merge.specs.Set.{Sector, setBytes, setOf, isNone, orEmpty, isMisfitSet, sectorsIn}
+use Rattle.merge.specs.Merge.{numbers, merged}
+use Rattle.merge.specs.Rule.{roomRule}
 use Rattle.merge.specs.Alone.{isTwiceIn, setRule}
 use Rattle.merge.specs.machine.Index.{countRule}
 use Rattle.merge.proofs.CountLaws.{set-is-short}
@@ -97,3 +98,24 @@ module _ (bs : List ℕ) where
     where
       ltb-few : ltb 32 (length (sectorsIn bs)) ≡ false → length (sectorsIn bs) ≤ 32
       ltb-few e = ltb-false 32 (length (sectorsIn bs)) e
+
+  -- ---- and enough for it
+
+  pub set-is-accepted
+      : Fits bs → anywhere (isTwiceIn (sectorsIn bs)) numbers ≡ false → setRule bs .number ≡ 0
+  unfolding setRule
+  set-is-accepted fits once = rw (fits .whole, le-ltb 32 (length (sectorsIn bs)) (fits .few), once)
+
+-- the last test of the merge gives 9 alone
+pub room-refuses-with-9
+    : (first second : List Sector) (room n : ℕ) → roomRule first second room .number ≡ n → (n ≡ 0 → ⊥) → n ≡ 9
+unfolding roomRule
+room-refuses-with-9 first second room n e there =
+    by (ltb room (length (setBytes (merged first second)))) e
+  where
+    by
+        : (t : Bool)
+        → refuseIf t 9 0 (accepted (length (merged first second))) .number ≡ n
+        → n ≡ 9
+    by true q = sym q
+    by false q = absurd (there (sym q))

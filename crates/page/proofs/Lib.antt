@@ -3,3 +3,8 @@ pub mod ColumnLaws
 pub mod PageLaws
 pub mod MakingLaws
 pub mod ReadingLaws
+pub mod EachPageLaws
+pub mod SameLaws
+pub mod BackLaws
+pub mod SectorLaws
+pub mod Claims

@@ -7,6 +7,7 @@ use lib.ListN.{length, set, take, drop, replicate, length-append, length-drop, l
 use lib.Seq.{length-take-le}
 use Rattle.lists.specs.Filled.{storedAt}
 use Rattle.merge.specs.Set.{Sector, sectorBytes, setBytes}
+use Rattle.merge.proofs.FormLaws.{bytes-of-first}
 use Rattle.page.specs.Page.{pageNumbers}
 use Rattle.page.specs.Making.{pageOf, sectorOfPage, madeSectors, madeSet}
 use Rattle.page.proofs.PageLaws.{pages-length, pages-from}
@@ -45,8 +46,8 @@ module _ (cells : List ℕ) (pages : ℕ) where
   all-bytes = refl
 
   pub bytes-here : (k : ℕ) → k < pages → bytesAfter k ≡ sectorBytes (madeSector (suc k)) ++ bytesAfter (suc k)
-  unfolding bytesAfter setBytes
-  bytes-here k h = rw (pages-from pages k h)
+  unfolding bytesAfter
+  bytes-here k h = rw (pages-from pages k h) (bytes-of-first _ _)
 
   pub bytes-at-end : (k : ℕ) → pages ≤ k → bytesAfter k ≡ []
   unfolding bytesAfter setBytes
