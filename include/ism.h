@@ -73,7 +73,8 @@ uint32_t ism_version(void);
 uint32_t ism_interface_9(void); /* gives 9 */
 
 /*
- * Why a call was refused. `place` counts from 0, except for ISM_UNSET and ISM_GARBLED; where no place is named it is 0.
+ * Why a call was refused. `place` counts from 0, except for ISM_UNSET, ISM_GARBLED and the two that count pages; where
+ * no place is named it is 0.
  */
 #define ISM_ACCEPTED 0u  /* not refused */
 #define ISM_UNSET 1u     /* profile number out of range; place: which of the eleven, 1 to 11, the lowest */
@@ -88,8 +89,9 @@ uint32_t ism_interface_9(void); /* gives 9 */
 #define ISM_FULL 9u      /* output shorter than the result */
 #define ISM_ADRIFT 10u   /* no lock */
 #define ISM_SHORT 11u    /* the list ends before n bytes */
-#define ISM_MISCOUNT 12u /* n outside 1 to 1,030 */
-#define ISM_MISFIT 13u   /* length code above 3, or data not that long; in the sector maker alone, code 0 too */
+#define ISM_MISCOUNT 12u /* n outside 1 to 1,030; in ism_page.h the page count outside 1 to 16 */
+#define ISM_MISFIT 13u   /* length code above 3, or data not that long; in the sector maker alone, code 0 too; in
+                            ism_page.h also cells that are not 1,000 for each page */
 #define ISM_GARBLED 14u  /* only from the strip program: garbled input; place: lowest faulty line, 0 if too long */
 #define ISM_CROWDED 15u  /* more than 32 sectors in a set or entries on a track */
 #define ISM_UNRULY 16u   /* a word that no item has after its previous bit; place: the lowest such word */

@@ -46,6 +46,7 @@ use Rattle.fifo.specs.Sides.{Processor, Chip}
 use Rattle.demands.proofs.ProgramLaws.{program-in-turn, program-refuses}
 use Rattle.demands.proofs.FifoLaws.{put-in-turn, takes-refuse-nothing}
 use Rattle.demands.proofs.RestLaws.{field-answer, field-rest, whole-list}
+use Rattle.demands.proofs.PageOrders.{pages-read-in-turn, pages-made-in-turn, cells-are-lent, set-is-lent}
 use Rattle.demands.proofs.OrderLaws.{turn-by-test, turn-before, profile-first, means-below, last-below, means-or}
 use Rattle.demands.proofs.OrderLaws.{means-either, means-at, answers-accepted, answers-here, answers-later}
 use Rattle.demands.proofs.OrderLaws.{NoCauseOf, not-answered, told-after, told-by-test}
@@ -114,6 +115,8 @@ demand-1 =
           turn-by-test (means-or (means-at _ _) (means-at _ _))
           (turn-by-test (means-or (means-either 32 _ 32 _) (means-below 32 _))
           (turn-by-test (means-at _ _) (last-below room _ _)));
+      page-reader = pages-read-in-turn;
+      page-maker = pages-made-in-turn;
       processor-put = put-in-turn Processor;
       chip-put = put-in-turn Chip;
       fifo-takes = takes-refuse-nothing;
@@ -158,6 +161,8 @@ demand-1 =
           (told-by-test (isMisfitSet first || isMisfitSet second) 12 _
           (told-by-test (isCrowded a b) 14 _
           (told-by-test (anywhere (atOddsAt a b) numbers) 16 _ (told-if-room _ (length old) _ (λ fits. fits))))));
+      page-cells = cells-are-lent;
+      page-set = set-is-lent;
     }
 
 -- 9 is answered for want of room alone

@@ -8,6 +8,7 @@ pub mod BestTurn
 pub mod LockOrder
 pub mod SpeedOrder
 pub mod TrackSetLaws
+pub mod PageOrders
 pub mod Demand1
 pub mod SettledCases
 pub mod ListLaws

@@ -25,6 +25,8 @@ use Rattle.merge.specs.Merge.{merged}
 use Rattle.merge.specs.Rule.{mergeRule, mergeAnswer, mergeOutput}
 use Rattle.track.specs.Index.{indexRule}
 use Rattle.track.specs.TrackSectors.{sectorsFound, trackRule, trackAnswer, trackOutput}
+use Rattle.page.specs.Reading.{pagesIn, readRule as readPagesRule, readAnswer, readOutput as readPagesOutput}
+use Rattle.page.specs.Making.{madeSet, makeRule as makePagesRule, makeAnswer, makeOutput as makePagesOutput}
 use Rattle.speed.specs.Speed.{correctedAt}
 use Rattle.speed.specs.Reading.{lockOf, correctedRule, correctedReading, correctedOutput}
 use Rattle.limits.specs.Limits.{limitsRule}
@@ -41,6 +43,7 @@ use Rattle.demands.specs.ReportCauses.{reportOrder, addOrder}
 use Rattle.demands.specs.ImageCauses.{imageMakerOrder, imageReaderOrder}
 use Rattle.demands.specs.IndexCauses.{indexOrder, trackSetOrder}
 use Rattle.demands.specs.MergeCauses.{mergeOrder, countedInBytes}
+use Rattle.demands.specs.PageCauses.{pageReaderOrder, pageMakerOrder, countedInCells}
 use Rattle.demands.specs.SpeedCauses.{correctedOrder}
 use Rattle.demands.specs.BestCauses.{bestOrder}
 use Rattle.demands.specs.FifoCauses.{PutsInTurn, TakesRefuseNothing}
@@ -70,6 +73,10 @@ pub record Demand1 : Type 0 where
   pub track-index : (p : Profile) (ds : List ℕ) → Answers (indexOrder p ds) (indexRule p ds)
   pub track-set : (p : Profile) (ds : List ℕ) (room : ℕ) → Answers (trackSetOrder p ds room) (trackRule p ds room)
   pub merge : (first second : List ℕ) (room : ℕ) → Answers (mergeOrder first second room) (mergeRule first second room)
+  pub page-reader
+      : (set : List ℕ) (pages room : ℕ) → Answers (pageReaderOrder set pages room) (readPagesRule set pages room)
+  pub page-maker
+      : (cells : List ℕ) (pages room : ℕ) → Answers (pageMakerOrder cells pages room) (makePagesRule cells pages room)
   pub processor-put : (n : ℕ) (s : State) → PutsInTurn Processor n s (ruleOf (Put n) s)
   pub chip-put : (n : ℕ) (s : State) → PutsInTurn Chip n s (ruleOf (ChipPut n) s)
   pub fifo-takes : TakesRefuseNothing
@@ -122,3 +129,11 @@ pub record Demand1 : Type 0 where
       : (first second old : List ℕ)
       → Lent (countedInBytes (mergeAnswer first second (length old)))
       (setBytes (merged (sectorsIn first) (sectorsIn second))) old (mergeOutput first second old)
+  pub page-cells
+      : (set : List ℕ) (pages : ℕ) (old : List ℕ)
+      → Lent (countedInCells (readAnswer set pages (length old))) (pagesIn (sectorsIn set) pages) old
+      (readPagesOutput set pages old)
+  pub page-set
+      : (cells : List ℕ) (pages : ℕ) (old : List ℕ)
+      → Lent (countedInBytes (makeAnswer cells pages (length old))) (madeSet cells pages) old
+      (makePagesOutput cells pages old)

@@ -4,6 +4,7 @@ pub mod ReportCauses
 pub mod ImageCauses
 pub mod IndexCauses
 pub mod MergeCauses
+pub mod PageCauses
 pub mod SpeedCauses
 pub mod BestCauses
 pub mod FifoCauses

@@ -25,7 +25,7 @@ page-laws =
           (refl, refl);
       read-from-sectors = λ set pages room k e h.
           let reads = read-says set pages room e in
-          sector-is set pages reads k h ∙ ap (λ (p : List ℕ). One (sectorOfPage (suc k) p)) (sym (page-read set pages reads k h));
+          sector-is set pages room reads k h ∙ ap (λ (p : List ℕ). One (sectorOfPage (suc k) p)) (sym (page-read set pages room reads k h));
       as-the-merge = turned-away-alike;
       merged-gives-the-same = λ set old pages room e. both-alike set room e old pages;
     }

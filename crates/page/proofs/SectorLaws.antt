@@ -5,8 +5,8 @@ use mathlib.Core.Path.{_≡_, refl, sym, ap, ap₂, _∙_}
 use mathlib.Core.Bool.{Bool, true, false, not, _&&_, true≢false}
 use mathlib.Core.List.{List, [], _∷_, _++_}
 use native.Mathlib.Omega.{arith}
-use borrow.Author.Tests.{eqb-true, leb-true, not-false}
-use lib.Dec.{eqb, leb}
+use borrow.Author.Tests.{eqb-true, ltb-false, not-false}
+use lib.Dec.{eqb, leb, ltb}
 use lib.ListN.{length, take, drop, replicate, length-drop, take-append-drop}
 use lib.Seq.{take-at, drop-at, drop-drop, length-take-le}
 use Rattle.lists.specs.Place.{anywhere, everywhere}
@@ -30,23 +30,25 @@ use Rattle.page.specs.Making.{pageOf, sectorOfPage}
 use Rattle.page.proofs.EachPageLaws.{in-range}
 use Rattle.page.proofs.PageLaws.{none-of-pages}
 use Rattle.page.proofs.MakingLaws.{page-here}
-use Rattle.page.proofs.ReadingLaws.{cellsAfter, all-cells, cells-here}
+use Rattle.page.proofs.ReadingLaws.{cellsAfter, all-cells, cells-here, pages-size}
 
 -- ---- what acceptance says
 
-pub record Reads (set : List ℕ) (pages : ℕ) : Type 0 where
+pub record Reads (set : List ℕ) (pages room : ℕ) : Type 0 where
   pub fits : setRule set .number ≡ 0
   pub found : anywhere (lostAt (sectorsIn set)) (pageNumbers pages) ≡ false
   pub clean : anywhere (soiledAt (sectorsIn set)) (pageNumbers pages) ≡ false
+  pub roomy : 1000 * pages ≤ room
 
-pub read-says : (set : List ℕ) (pages room : ℕ) → readRule set pages room .number ≡ 0 → Reads set pages
+pub read-says : (set : List ℕ) (pages room : ℕ) → readRule set pages room .number ≡ 0 → Reads set pages room
 unfolding readRule pagesRule
 read-says set pages room e =
     let range = refuse-if-accepts (outside 1 16 pages) 11 0 _ e in
     let parts = first-refusal-accepts (setRule set) _ (range .1) in
     let lost = refuse-if-accepts (anywhere (lostAt (sectorsIn set)) (pageNumbers pages)) 18 _ _ (parts .1) in
     let soil = refuse-if-accepts (anywhere (soiledAt (sectorsIn set)) (pageNumbers pages)) 19 _ _ (lost .1) in
-    record { fits = parts .0; found = lost .0; clean = soil .0 }
+    let full = refuse-if-accepts (ltb room (1000 * pages)) 8 0 _ (soil .1) in
+    record { fits = parts .0; found = lost .0; clean = soil .0; roomy = ltb-false room (1000 * pages) (full .0) }
 
 -- ---- a page that is not lost
 
@@ -75,7 +77,7 @@ blank-if-clean (b ∷ bs) e =
 abbrev sectorWith : ℕ → ℕ → Bool → List ℕ → Sector
 sectorWith n c h bs = record { number = n; code = c; holds = h; bytes = bs }
 
-module _ (set : List ℕ) (pages : ℕ) (reads : Reads set pages) where
+module _ (set : List ℕ) (pages : ℕ) (room : ℕ) (reads : Reads set pages room) where
   abbrev ss : List Sector
   ss = sectorsIn set
 
@@ -145,3 +147,12 @@ module _ (set : List ℕ) (pages : ℕ) (reads : Reads set pages) where
       page-here (pagesIn ss pages) pages k
       ∙ ap (take 1000) (after-first k (omega arith) ∙ cells-here ss pages k h)
       ∙ take-at (pageAt ss (suc k)) (cellsAfter ss pages (suc k)) 1000 (page-size k h)
+
+-- as many cells as the pages have, and room for them
+pub read-fills
+    : (set : List ℕ) (pages room : ℕ)
+    → readRule set pages room .number ≡ 0
+    → (length (pagesIn (sectorsIn set) pages) ≡ 1000 * pages) × (1000 * pages ≤ room)
+read-fills set pages room e =
+    let reads = read-says set pages room e in
+    (pages-size (sectorsIn set) pages (page-size set pages room reads), reads .roomy)

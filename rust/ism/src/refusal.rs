@@ -46,9 +46,10 @@ pub enum Refusal {
     NoLock,
     /// 11, short: the list ends before the bytes asked for
     EndsEarly,
-    /// 12, miscount: the byte count is outside 1 to 1,030
+    /// 12, miscount: the byte count is outside 1 to 1,030; in the crate `ism_page` the page count outside 1 to 16
     CountOutOfRange,
-    /// 13, misfit: length code above 3, or data not that long; in the sector maker alone, code 0 too
+    /// 13, misfit: length code above 3, or data not that long; in the sector maker alone, code 0 too; in the crate
+    /// `ism_page` also cells that are not 1,000 for each page
     SectorSizeMismatch,
     /// 15, crowded: more than 32 sectors in a set or entries on a track
     TooManySectors,
@@ -67,6 +68,17 @@ pub enum Refusal {
         /// 0 by the even intervals, 1 by the odd
         half: usize,
     },
+    /// 19, lost page: the lowest page whose sector is missing, not of length code 3, or whose sum fails; only from the
+    /// crate `ism_page`
+    PageLost {
+        /// which page, from 1
+        page: usize,
+    },
+    /// 20, soiled fill: the lowest page whose last 24 bytes are not all 00; only from the crate `ism_page`
+    FillSoiled {
+        /// which page, from 1
+        page: usize,
+    },
     /// A number that this version of the interface does not list: the linked library is of another version
     Unlisted {
         /// the refusal's number
@@ -78,7 +90,7 @@ pub enum Refusal {
 
 impl Refusal {
     /// The refusal that a C answer carries, if its number is not 0.
-    pub(crate) fn from_numbers(number: u32, place: u32) -> Option<Refusal> {
+    pub fn from_numbers(number: u32, place: u32) -> Option<Refusal> {
         let place = place as usize;
         Some(match number {
             0 => return None,
@@ -99,6 +111,8 @@ impl Refusal {
             16 => Refusal::UnrulyWord { place },
             17 => Refusal::SectorsAtOdds { sector: place as u8 },
             18 => Refusal::OffSpeed { half: place },
+            19 => Refusal::PageLost { page: place },
+            20 => Refusal::FillSoiled { page: place },
             _ => Refusal::Unlisted { number, place },
         })
     }
@@ -123,17 +137,20 @@ impl Refusal {
             Refusal::UnrulyWord { .. } => 16,
             Refusal::SectorsAtOdds { .. } => 17,
             Refusal::OffSpeed { .. } => 18,
+            Refusal::PageLost { .. } => 19,
+            Refusal::FillSoiled { .. } => 20,
             Refusal::Unlisted { number, .. } => *number,
         }
     }
 
-    /// The place: which profile number (from 1), which item, interval or word (from 0), which sector number, which half
-    /// of a pair; else 0.
+    /// The place: which profile number or page (from 1), which item, interval or word (from 0), which sector number,
+    /// which half of a pair; else 0.
     pub fn place(&self) -> usize {
         match self {
             Refusal::ProfileOutOfRange { field } => *field,
             Refusal::SectorsAtOdds { sector } => usize::from(*sector),
             Refusal::OffSpeed { half } => *half,
+            Refusal::PageLost { page } | Refusal::FillSoiled { page } => *page,
             Refusal::NotAnItem { place }
             | Refusal::IntervalTooShort { place }
             | Refusal::IntervalTooLong { place }
@@ -163,7 +180,7 @@ impl fmt::Display for Refusal {
             Refusal::OutputTooShort => write!(f, "the output is shorter than the result"),
             Refusal::NoLock => write!(f, "no lock: no sync field with the classes of a mark behind it"),
             Refusal::EndsEarly => write!(f, "the intervals end before the bytes asked for"),
-            Refusal::CountOutOfRange => write!(f, "the byte count is outside 1 to 1,030"),
+            Refusal::CountOutOfRange => write!(f, "the byte count is outside 1 to 1,030, or the page count 1 to 16"),
             Refusal::SectorSizeMismatch => {
                 write!(f, "the length code is above 3, or 0 in making a sector, or the data is not that long")
             }
@@ -176,6 +193,10 @@ impl fmt::Display for Refusal {
                 let which = if *half == 0 { "even" } else { "odd" };
                 write!(f, "the drive is more than a sixteenth off its speed, by the {which} intervals before the lock")
             }
+            Refusal::PageLost { page } => {
+                write!(f, "page {page} is lost: its sector is missing, not of length code 3, or its sum fails")
+            }
+            Refusal::FillSoiled { page } => write!(f, "the last 24 bytes of page {page} are not all 00"),
             Refusal::Unlisted { number, place } => write!(f, "unlisted refusal {number} at place {place}"),
         }
     }

@@ -41,6 +41,11 @@ impl<O, A: Reply> Expected<O, A> {
         result.unwrap_or_else(|refused| Expected::answer(A::refusal(refused)))
     }
 
+    /// An answer that stores this.
+    pub fn with_front(answer: A, front: Vec<O>) -> Self {
+        Expected { answer, front }
+    }
+
     /// An answer that stores nothing.
     pub fn answer(answer: A) -> Self {
         Expected::storing(answer, Vec::new())

@@ -14,6 +14,7 @@ pub mod long_lists;
 pub mod margins;
 pub mod merges;
 pub mod old_disks;
+pub mod pages;
 pub mod pairs;
 pub mod profiles;
 pub mod reports;

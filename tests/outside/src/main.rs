@@ -176,6 +176,13 @@ fn library() {
     compare.group("index: crowded before the order", 0x1A2, cases::indexes::order::crowded_before);
     compare.group("index: what does not decide the order", 0x1A3, cases::indexes::order::other_bytes);
     compare.group("old disks moved over", 0xD0, cases::old_disks::moved_over);
+    compare.group("pages: by hand", 0xE0, cases::pages::by_hand);
+    compare.group("pages: every cell", 0xE1, cases::pages::every_cell);
+    compare.group("pages: there and back", 0xE2, cases::pages::there_and_back);
+    compare.group("pages: limits", 0xE3, cases::pages::limits);
+    compare.group("pages: each page lost or soiled", 0xE4, cases::pages::each_page);
+    compare.group("pages: faults together", 0xE5, cases::pages::faults);
+    compare.group("pages: random sets", 0xE6, cases::pages::random_sets);
     check_coverage(&compare);
     println!("outside: {} cases agree", compare.total());
 }
@@ -201,6 +208,8 @@ fn check_coverage(compare: &Compare) {
         ("ism_index_track", &[0, 1, 2, 15]),
         ("ism_read_track", &[0, 1, 2, 15, 9]),
         ("ism_fifo", &[0, 3]),
+        ("ism_read_pages", &[0, 12, 13, 15, 17, 19, 20, 9]),
+        ("ism_make_pages", &[0, 12, 13, 9]),
     ];
     println!("answers seen, refusal number and times (0 is acceptance):");
     for (name, numbers) in orders.iter().copied() {

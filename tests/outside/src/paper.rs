@@ -11,6 +11,7 @@ pub mod image;
 pub mod index;
 mod items;
 pub mod merge;
+pub mod page;
 mod profile;
 mod reading;
 pub mod report;
