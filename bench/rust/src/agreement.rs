@@ -484,6 +484,41 @@ fn merge(r: &mut Random, all: &[Implementation]) -> Result<(), String> {
     same(all, || format!("merge {first:?} {second:?}"), with_output(all, 0, call))
 }
 
+/// Sets of pages, some of them with a fault, and pages to be made.
+fn pages(r: &mut Random, all: &[Implementation]) -> Result<(), String> {
+    let numbers = r.of(&[1, 2, 5, 16, 17, 33]);
+    let mut set = Vec::new();
+    for k in 0..numbers {
+        let number = if r.one_in(60) { r.below(20) as u8 } else { k + 1 };
+        let code = if r.one_in(60) { r.below(4) as u8 } else { 3 };
+        set.extend([number, code, u8::from(!r.one_in(60))]);
+        let at = set.len();
+        set.extend((0..128 << code).map(|_| r.next() as u8));
+        let end = set.len();
+        if !r.one_in(60) {
+            set[end - 24..].fill(0);
+        }
+        assert!(end > at, "a sector has data");
+    }
+    if r.one_in(30) {
+        set.truncate(r.below(set.len() as u64 + 1) as usize);
+    }
+    let count = r.of(&[numbers.into(), 1, 2, 16, 0, 17, u64::MAX]);
+    let room = room(r, 1_000 * u64::from(numbers));
+    let read = |who: &Implementation, _: &mut [u16]| {
+        let mut out = vec![0xBE; room];
+        ((who.read_pages)(&set, count, &mut out), out)
+    };
+    same(all, || format!("read_pages {count} {room} {set:?}"), with_output(all, 0, read))?;
+    let length = set.len() - if r.one_in(2) { set.len() % 1_000 } else { 0 };
+    let count = r.of(&[length as u64 / 1_000, 1, 0, 17]);
+    let make = |who: &Implementation, _: &mut [u16]| {
+        let mut out = vec![0xBE; room];
+        ((who.make_pages)(&set[..length], count, &mut out), out)
+    };
+    same(all, || format!("make_pages {count} {room} {length}"), with_output(all, 0, make))
+}
+
 fn of_profile(r: &mut Random, all: &[Implementation], p: Profile) -> Result<(), String> {
     let edge = if r.one_in(6) { 0 } else { r.of(&edges_of(p)) };
     let (interval, after_short) = (edge.wrapping_sub(r.below(2) as u16), r.of(&[0, 1, 2, u32::MAX]));
@@ -531,6 +566,7 @@ pub fn run(all: &[Implementation], calls: u64) -> Result<(), String> {
             16 => read_image(r, all)?,
             17 => drive_report(r, all, p)?,
             18 if r.one_in(4) => merge(r, all)?,
+            18 if r.one_in(8) => pages(r, all)?,
             18 => add_reports(r, all)?,
             _ => of_profile(r, all, p)?,
         }

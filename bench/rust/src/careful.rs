@@ -1,11 +1,13 @@
-//! Writer, readers, finder and index of `ism.h` in careful safe Rust, as `bench/c/ism_careful.c` is in C: no table but
+//! Writer, readers, finder and index of `ism.h`, and `ism_page.h`, in careful safe Rust, as `bench/c/ism_careful.c` is in C: no table but
 //! the lengths of cells, no jumps that depend on the data where they can be avoided.
 
 mod finder;
+mod pages;
 mod reader;
 mod writer;
 
 pub use finder::careful_rust_find;
+pub use pages::{careful_rust_make_pages, careful_rust_read_pages};
 pub use reader::{careful_rust_read, careful_rust_read_field};
 pub use writer::careful_rust_write;
 

@@ -4,6 +4,7 @@
 use bench::careful::*;
 use bench::plain::*;
 use ism::sys::{Answer, Corrected, Fifo, FifoAnswer, Index, Profile, Report};
+use ism_page::sys::{ism_make_pages, ism_read_pages, Pages};
 
 /// Track, side, sector, length code.
 pub type Id = [u8; 4];
@@ -19,7 +20,7 @@ pub enum Kind {
     Portable,
     /// C at its limit
     PlainC,
-    /// C without vector tricks and tables: writer, readers, finder and index alone
+    /// C without vector tricks and tables: writer, readers, finder, index and pages alone
     CarefulC,
     /// the same in Rust
     CarefulRust,
@@ -37,10 +38,6 @@ impl Kind {
             Kind::CarefulRust => "careful-rust",
             Kind::PlainRust => "plain-rust",
         }
-    }
-
-    pub fn is_careful(self) -> bool {
-        matches!(self, Kind::CarefulC | Kind::CarefulRust)
     }
 }
 
@@ -61,6 +58,8 @@ pub struct Implementation {
     pub merge: fn(&[u8], &[u8], &mut [u8]) -> Answer,
     pub index_track: fn(Profile, &[u16]) -> Index,
     pub read_track: fn(Profile, &[u16], &mut [u8]) -> Answer,
+    pub read_pages: fn(&[u8], u64, &mut [u8]) -> Pages,
+    pub make_pages: fn(&[u8], u64, &mut [u8]) -> Answer,
     pub drive_report: fn(Profile, &[u16]) -> Report,
     pub add_reports: fn(Report, Report) -> Report,
     /// A FIFO operation by its number, in the order of `ism.h`.
@@ -75,11 +74,12 @@ fn made(next: Fifo) -> FifoAnswer {
 }
 
 /// A module with the functions of `ism.h` under another prefix, and the implementation that they are. Each pointer
-/// comes with the length of its slice.
+/// comes with the length of its slice. Those of `ism_page.h` are the careful Rust's, and no task measures that.
 macro_rules! c_interface {
     ($module:ident, $prefix:literal) => {
         mod $module {
-            use super::{made, Answer, Fifo, FifoAnswer, Implementation, Index, Kind, Profile, Report};
+            use super::{careful_rust_make_pages, careful_rust_read_pages, made};
+            use super::{Answer, Fifo, FifoAnswer, Implementation, Index, Kind, Profile, Report};
 
             extern "C" {
                 #[link_name = concat!($prefix, "margin")]
@@ -165,6 +165,8 @@ macro_rules! c_interface {
                     read_track: |p, list, set| unsafe {
                         read_track(p, list.as_ptr(), list.len(), set.as_mut_ptr(), set.len())
                     },
+                    read_pages: careful_rust_read_pages,
+                    make_pages: careful_rust_make_pages,
                     drive_report: |p, list| unsafe { drive_report(p, list.as_ptr(), list.len()) },
                     add_reports: |a, b| unsafe { add_reports(a, b) },
                     fifo: |operation, fifo, item| unsafe {
@@ -225,6 +227,8 @@ const RUST: Implementation = Implementation {
     merge: plain_rust_merge,
     index_track: plain_rust_index_track,
     read_track: plain_rust_read_track,
+    read_pages: careful_rust_read_pages,
+    make_pages: careful_rust_make_pages,
     drive_report: plain_rust_drive_report,
     add_reports: |a, b| plain_rust_add_reports(&a, &b),
     fifo: rust_fifo,
@@ -234,7 +238,7 @@ const RUST: Implementation = Implementation {
 macro_rules! careful {
     ($module:ident, $prefix:literal, $name:literal) => {
         mod $module {
-            use super::{Answer, Corrected, Implementation, Index, Kind, Profile, RUST};
+            use super::{Answer, Corrected, Implementation, Index, Kind, Pages, Profile, RUST};
 
             extern "C" {
                 #[link_name = concat!($prefix, "margin")]
@@ -264,6 +268,10 @@ macro_rules! careful {
                 fn index_track(p: Profile, list: *const u16, n: usize) -> Index;
                 #[link_name = concat!($prefix, "read_track")]
                 fn read_track(p: Profile, list: *const u16, n: usize, set: *mut u8, room: usize) -> Answer;
+                #[link_name = concat!($prefix, "read_pages")]
+                fn read_pages(set: *const u8, n: usize, pages: u64, cells: *mut u8, room: usize) -> Pages;
+                #[link_name = concat!($prefix, "make_pages")]
+                fn make_pages(cells: *const u8, n: usize, pages: u64, set: *mut u8, room: usize) -> Answer;
             }
 
             /// Each pointer comes with the length of its slice.
@@ -284,6 +292,12 @@ macro_rules! careful {
                 index_track: |p, list| unsafe { index_track(p, list.as_ptr(), list.len()) },
                 read_track: |p, list, set| unsafe {
                     read_track(p, list.as_ptr(), list.len(), set.as_mut_ptr(), set.len())
+                },
+                read_pages: |set, pages, out| unsafe {
+                    read_pages(set.as_ptr(), set.len(), pages, out.as_mut_ptr(), out.len())
+                },
+                make_pages: |cells, pages, out| unsafe {
+                    make_pages(cells.as_ptr(), cells.len(), pages, out.as_mut_ptr(), out.len())
                 },
                 ..RUST
             };
@@ -313,11 +327,26 @@ fn library_read_corrected(p: Profile, list: &[u16], start: u64, bytes: u64, out:
     unsafe { ism::sys::ism_read_corrected(p, list.as_ptr(), list.len(), start, bytes, out.as_mut_ptr(), out.len()) }
 }
 
+fn library_read_pages(set: &[u8], pages: u64, out: &mut [u8]) -> Pages {
+    // SAFETY: each pointer comes with the length of its slice
+    unsafe { ism_read_pages(set.as_ptr(), set.len(), pages, out.as_mut_ptr(), out.len()) }
+}
+
+fn library_make_pages(cells: &[u8], pages: u64, out: &mut [u8]) -> Answer {
+    // SAFETY: each pointer comes with the length of its slice
+    unsafe { ism_make_pages(cells.as_ptr(), cells.len(), pages, out.as_mut_ptr(), out.len()) }
+}
+
 /// The library first.
 pub fn all() -> [Implementation; 15] {
     let library = library::implementation(Kind::Library, "library");
     [
-        Implementation { read_corrected: Some(library_read_corrected), ..library },
+        Implementation {
+            read_corrected: Some(library_read_corrected),
+            read_pages: library_read_pages,
+            make_pages: library_make_pages,
+            ..library
+        },
         portable_gcc_o2::implementation(Kind::Portable, "portable-gcc-O2"),
         portable_gcc_o3::implementation(Kind::Portable, "portable-gcc-O3"),
         portable_clang_o2::implementation(Kind::Portable, "portable-clang-O2"),

@@ -4,7 +4,7 @@ use bench::plain::{plain_rust_make_image, plain_rust_make_sector, plain_rust_wri
 use ism::sys::{Answer, Index, Profile, Report};
 use ism::{CHECK, MARK_A1, MARK_C2, MAX_BYTES, MAX_INTERVALS, MAX_SECTORS, SECTOR_OVERHEAD};
 
-use crate::implementations::Implementation;
+use crate::implementations::{Implementation, Kind};
 
 /// A profile of its numbers in the paper's order.
 pub const fn profile_of(numbers: [u16; 11]) -> Profile {
@@ -78,6 +78,8 @@ enum Entry {
     Plain,
     /// the corrected reader: the library and careful C
     Corrected,
+    /// pages: the library and the careful ones
+    Pages,
 }
 
 impl Plan {
@@ -87,6 +89,7 @@ impl Plan {
             Entry::Careful => true,
             Entry::Plain => !who.kind.is_careful(),
             Entry::Corrected => self.answers(who),
+            Entry::Pages => who.kind == Kind::Library || who.kind.is_careful(),
         }
     }
 
@@ -103,7 +106,19 @@ macro_rules! plans {
 }
 
 pub fn all() -> Vec<Plan> {
-    with_careful().into_iter().chain(with_pairs()).chain(at_own_speed()).chain(others()).collect()
+    let classes = with_careful().into_iter().chain(with_pairs()).chain(at_own_speed());
+    classes.chain(others()).chain(of_pages()).collect()
+}
+
+/// Pages, beside careful versions alone.
+fn of_pages() -> [Plan; 4] {
+    plans! {
+        Entry::Pages,
+        "read_pages-1", "1 page", read_pages(1);
+        "read_pages-16", "16 pages", read_pages(16);
+        "make_pages-1", "1 page", make_pages(1);
+        "make_pages-16", "16 pages", make_pages(16);
+    }
 }
 
 /// Writer, readers, finder and index.
@@ -500,4 +515,37 @@ fn merge(sectors: usize, size: usize) -> Task {
         (who.merge)(&first, &second, out)
     });
     Task::new(merged, "merged byte", merged.div_ceil(2), run)
+}
+
+const PAGE_CELLS: usize = 1_000;
+const PAGE_SET_BYTES: usize = 1_027;
+
+/// Sectors 1 to `pages` of code 3 in order, each a page and 24 bytes of 00.
+fn page_set(pages: usize) -> Vec<u8> {
+    let cells = bytes(PAGE_CELLS * pages);
+    let sector = |(page, number): (&[u8], u8)| [&[number, 3, 1], page, &[0; 24]].concat();
+    cells.chunks(PAGE_CELLS).zip(1..).flat_map(sector).collect()
+}
+
+/// The dots of all pages are added up, so that they count as an answer.
+fn read_pages(pages: usize) -> Task {
+    let set = page_set(pages);
+    let run: Run = Box::new(move |who, out| {
+        // SAFETY: any bytes are numbers of sixteen bits
+        let (_, out, _) = unsafe { out.align_to_mut::<u8>() };
+        let read = (who.read_pages)(&set, pages as u64, out);
+        let dots = read.dots.iter().sum();
+        Answer { number: read.number, place: read.place, count: read.count, used: read.used, holds: dots, clearance: 0 }
+    });
+    Task::new(PAGE_CELLS * pages, "cell", PAGE_CELLS * pages / 2, run)
+}
+
+fn make_pages(pages: usize) -> Task {
+    let cells = bytes(PAGE_CELLS * pages);
+    let run: Run = Box::new(move |who, out| {
+        // SAFETY: any bytes are numbers of sixteen bits
+        let (_, out, _) = unsafe { out.align_to_mut::<u8>() };
+        (who.make_pages)(&cells, pages as u64, out)
+    });
+    Task::new(PAGE_CELLS * pages, "cell", (PAGE_SET_BYTES * pages).div_ceil(2), run)
 }

@@ -6,13 +6,14 @@ use Rattle.page.proofs.CellLaws.{half-is-less, halves-are-small}
 use Rattle.page.proofs.dots.halves.Statement.{statement}
 use Rattle.page.proofs.dots.halves.Tie as tie
 
-add-result : tie.Need-add-result
-unfolding pairsOf halvesOf
-add-result c = omega (arith, halves-are-small (c .args .cell) (c .fits .cell .fits))
-
 returns : tie.Need-returns
 unfolding pairsOf halvesOf
 returns c = refl
 
+add-result : tie.Need-add-result
+unfolding pairsOf halvesOf
+add-result c = omega (arith, halves-are-small (c .args .cell) (c .fits .cell .fits))
+
 pub halves-spec : {M : Type 1} → statement M
-halves-spec = tie.close (tie.spec (λ c. omega (arith, half-is-less (c .args .cell) (c .fits .cell .fits))) add-result returns)
+halves-spec =
+    tie.close (tie.spec (λ c. omega (arith, half-is-less (c .args .cell) (c .fits .cell .fits))) add-result returns)

@@ -2,6 +2,7 @@
 -- axiom.
 use Prim.Native.Nat.{ℕ}
 use mathlib.Core.Path.{_≡_, refl, sym, ap, _∙_}
+use native.Mathlib.Omega.{arith}
 use borrow.Author.Needs.{needs}
 use borrow.Author.Tests.{lt-ltb, le-ltb}
 use lib.ListN.{length}
@@ -32,7 +33,7 @@ deliver-requires c κs =
     let ok = fits (c .before .before .before) in (
       c .before .before .before .before .before .index-alone .ensures .1 ok,
       accepted-set _ ok .1,
-      c .before .before .before .before .before .before .before .if2 .left,
+      omega (arith, c .before .before .before .before .before .before .before .if2 .left),
       c .before .before .before .before .before .before .before .before .before .before .before .pre,
     )
 
