@@ -40,14 +40,14 @@ module _ (g : ℕ → Sector) (own : (n : ℕ) → g n .number ≡ n) where
   abbrev from : ℕ → ℕ → List Sector
   from k m = map g (tabulated suc k m)
 
-  not-before : (n k m : ℕ) → n ≤ k → heldOf n (from k m) ≡ Nothing
+  pub not-before : (n k m : ℕ) → n ≤ k → heldOf n (from k m) ≡ Nothing
   unfolding tabulated
   not-before n k zero h = held-of-none n
   not-before n k (suc m) h =
       held-of-other-first n (g (suc k)) (from (suc k) m) (λ e. omega (arith, own (suc k), h, e))
       ∙ not-before n (suc k) m (omega arith)
 
-  once-each : (n k m : ℕ) → isTwice (heldOf n (from k m)) ≡ false
+  pub once-each : (n k m : ℕ) → isTwice (heldOf n (from k m)) ≡ false
   unfolding tabulated
   once-each n k zero = ap isTwice (held-of-none n)
   once-each n k (suc m) = by (eqb (suc k) n) refl (once-each n (suc k) m)
@@ -80,34 +80,36 @@ module _ (g : ℕ → Sector) (own : (n : ℕ) → g n .number ≡ n) where
 
 -- ---- the made set
 
-module _ (cells : List ℕ) (pages : ℕ) (few : pages ≤ 16) (size : length cells ≡ 1000 * pages) where
-  abbrev made : ℕ → Sector
+module _ (cells : List ℕ) where
+  abbrev pub made : ℕ → Sector
   made n = sectorOfPage n (pageOf cells n)
 
-  abbrev ss : List Sector
-  ss = sectorsIn (madeSet cells pages)
-
-  numbered : (n : ℕ) → made n .number ≡ n
+  pub numbered : (n : ℕ) → made n .number ≡ n
   unfolding sectorOfPage
   numbered n = refl
 
-  sector-is-whole : (n : ℕ) → length (pageOf cells n) ≡ 1000 → isSector (made n) ≡ true
+  pub sector-is-whole : (n : ℕ) → length (pageOf cells n) ≡ 1000 → isSector (made n) ≡ true
   unfolding isSector sectorOfPage sectorSize
   sector-is-whole n h =
       let all : length (pageOf cells n ++ replicate 24 0) ≡ 1024 = rw (length-append, length-replicate, h) in
       rw (eq-eqb _ 1024 all)
 
-  page-is-whole : (n : ℕ) → 1 ≤ n → n ≤ pages → length (pageOf cells n) ≡ 1000
-  page-is-whole n low high =
+  pub page-is-whole
+      : (pages : ℕ) → length cells ≡ 1000 * pages → (n : ℕ) → 1 ≤ n → n ≤ pages → length (pageOf cells n) ≡ 1000
+  page-is-whole pages size n low high =
       let same : suc (n - 1) ≡ n = omega arith in
       rw (← same) (page-size cells pages size (n - 1) (omega arith))
+
+module _ (cells : List ℕ) (pages : ℕ) (few : pages ≤ 16) (size : length cells ≡ 1000 * pages) where
+  abbrev ss : List Sector
+  ss = sectorsIn (madeSet cells pages)
 
   all-whole : everywhere isSector (madeSectors cells pages) ≡ true
   unfolding madeSectors
   all-whole =
-      each-page pages (λ ns. everywhere isSector (map made ns) ≡ true) (everywhere-of-none isSector)
+      each-page pages (λ ns. everywhere isSector (map (made cells) ns) ≡ true) (everywhere-of-none isSector)
       (λ n ns low high r.
-      everywhere-of-passing isSector (made n) (map made ns) (sector-is-whole n (page-is-whole n low high)) ∙ r)
+      everywhere-of-passing isSector (made cells n) (map (made cells) ns) (sector-is-whole cells n (page-is-whole cells pages size n low high)) ∙ r)
 
   reads-back : setOf (madeSet cells pages) ≡ some (madeSectors cells pages)
   unfolding madeSet
@@ -118,12 +120,12 @@ module _ (cells : List ℕ) (pages : ℕ) (few : pages ≤ 16) (size : length ce
 
   sector-count : length ss ≡ pages
   unfolding madeSectors
-  sector-count = ap length sectors-read ∙ length-map (pageNumbers pages) made ∙ pages-length pages
+  sector-count = ap length sectors-read ∙ length-map (pageNumbers pages) (made cells) ∙ pages-length pages
 
   none-twice : (n : ℕ) → isTwiceIn ss n ≡ false
   unfolding isTwiceIn madeSectors pageNumbers
   none-twice n =
-      ap (λ (ts : List Sector). isTwice (heldOf n ts)) sectors-read ∙ once-each made numbered n 0 pages
+      ap (λ (ts : List Sector). isTwice (heldOf n ts)) sectors-read ∙ once-each (made cells) (numbered cells) n 0 pages
 
   pub set-accepted : setRule (madeSet cells pages) .number ≡ 0
   set-accepted =
@@ -137,12 +139,12 @@ module _ (cells : List ℕ) (pages : ℕ) (few : pages ≤ 16) (size : length ce
   -- ---- its pages
 
   module _ (n : ℕ) (low : 1 ≤ n) (high : n ≤ pages) where
-    held : heldOf n ss ≡ One (made n)
+    held : heldOf n ss ≡ One (made cells n)
     unfolding madeSectors pageNumbers
     held =
         let same : suc (0 + (n - 1)) ≡ n = omega arith in
         ap (heldOf n) sectors-read
-        ∙ rw same at (own-held made numbered (n - 1) 0 pages (omega arith))
+        ∙ rw same at (own-held (made cells) (numbered cells) (n - 1) 0 pages (omega arith))
 
     pub page-found : lostAt ss n ≡ false
     unfolding lostAt isLost sectorOfPage
@@ -152,13 +154,13 @@ module _ (cells : List ℕ) (pages : ℕ) (few : pages ≤ 16) (size : length ce
     unfolding pageAt cellsIn sectorOfPage
     page-kept =
         ap (λ h. cellsIn (dataIn h)) held
-        ∙ take-at (pageOf cells n) (replicate 24 0) 1000 (page-is-whole n low high)
+        ∙ take-at (pageOf cells n) (replicate 24 0) 1000 (page-is-whole cells pages size n low high)
 
     pub page-clean : soiledAt ss n ≡ false
     unfolding soiledAt isSoiled fillIn sectorOfPage anywhere isDirt
     page-clean =
         ap (λ h. isSoiled (dataIn h)) held
-        ∙ ap (anywhere isDirt) (drop-at (pageOf cells n) (replicate 24 0) 1000 (page-is-whole n low high))
+        ∙ ap (anywhere isDirt) (drop-at (pageOf cells n) (replicate 24 0) 1000 (page-is-whole cells pages size n low high))
 
   -- ---- all of them together
 

@@ -7,4 +7,6 @@ pub mod EachPageLaws
 pub mod SameLaws
 pub mod BackLaws
 pub mod SectorLaws
+pub mod StretchLaws
+pub mod ShareLaws
 pub mod Claims

@@ -26,7 +26,7 @@ use Rattle.page.specs.Reading.{isLost, dataIn, lostAt, soiledAt, pageAt}
 
 -- ---- the numbers of the pages
 
-length-from : (rule : ℕ → ℕ) (k n : ℕ) → length (tabulated rule k n) ≡ n
+pub length-from : (rule : ℕ → ℕ) (k n : ℕ) → length (tabulated rule k n) ≡ n
 unfolding tabulated
 length-from rule k zero = refl
 length-from rule k (suc n) = ap suc (length-from rule (suc k) n)

@@ -1,9 +1,10 @@
 -- Document 02 (xiv): pages into sectors: 12, 13, 9. No lemmas here.
-use Prim.Native.Nat.{ℕ, _-_, _*_}
+use Prim.Native.Nat.{ℕ, suc, _-_, _*_}
 use mathlib.Core.Bool.{true, not}
 use mathlib.Core.List.{List, _++_, map}
 use lib.Dec.{eqb, ltb}
 use lib.ListN.{length, take, drop, replicate}
+use Rattle.lists.specs.Table.{tabulated}
 use Rattle.refusal.specs.Table.{numberOf, placeOf}
 use Rattle.refusal.specs.Answer.{Answer, accepted, refused, refuseIf, settled}
 use Rattle.timing.specs.Profile.{outside}
@@ -28,6 +29,10 @@ madeSectors cells pages = map (λ n. sectorOfPage n (pageOf cells n)) (pageNumbe
 -- as a set
 unfoldable pub madeSet : List ℕ → ℕ → List ℕ
 madeSet cells pages = setBytes (madeSectors cells pages)
+
+-- a stretch of them: so many behind the first k
+unfoldable pub stretchSet : List ℕ → ℕ → ℕ → List ℕ
+stretchSet cells k pages = setBytes (map (λ n. sectorOfPage n (pageOf cells n)) (tabulated suc k pages))
 
 -- 12 for a page count outside 1 to 16, then 13 for another length, then 9; else the number of sectors
 unfoldable pub makeRule : List ℕ → ℕ → ℕ → Answer
