@@ -3,8 +3,8 @@
  *
  * A library of its own, libism_page.a, for one product. Its types and numbers are ism.h's, and what ism.h says of all
  * its functions holds of these too: no state, no heap, every argument value answered, a refusal in `number` and `place`
- * that changes no buffer and leaves all else 0. A program that uses these functions alone links with libism_page.a and
- * needs no libism.a; one that reads tracks as well links with both, in any order.
+ * that changes no buffer and leaves all else 0. They take less than 1 KB of stack. A program that uses these functions
+ * alone links with libism_page.a and needs no libism.a; one that reads tracks as well links with both, in any order.
  *
  * A page is the data of a sector of length code 3, 1,024 bytes: 25 lines of 40 cells, line after line, one byte a cell,
  * and then 24 bytes of 00. In a cell bit 0 is dot 1, and so on up to bit 7 for dot 8; a one is a raised dot. Page n
