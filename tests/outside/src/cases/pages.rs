@@ -50,7 +50,10 @@ pub fn by_hand(compare: &mut Compare, _: &mut Random) {
             let mut set = vec![0; SECTOR];
             let made = library_make(&one, 1, &mut set);
             let dots = library_read(&set, 1, &mut cells).dots;
-            compare.claim("one dot is one dot", made.used == 1_027 && dots[0] == 1 && dots[1..] == [0; 15] && cells == one);
+            compare.claim(
+                "one dot is one dot",
+                made.used == 1_027 && dots[0] == 1 && dots[1..] == [0; 15] && cells == one,
+            );
         }
     }
     for place in CELLS..CELLS + 24 {

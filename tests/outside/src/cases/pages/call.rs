@@ -40,12 +40,9 @@ fn sixteen(dots: &[u32]) -> [u32; 16] {
 
 fn wrapped_read(set: &[u8], pages: u64, cells: &mut [u8]) -> Pages {
     match ism_page::read_pages(set, pages, cells) {
-        Ok(read) => Pages {
-            count: read.dots().len() as u64,
-            used: read.cells as u64,
-            dots: sixteen(read.dots()),
-            ..NO_PAGES
-        },
+        Ok(read) => {
+            Pages { count: read.dots().len() as u64, used: read.cells as u64, dots: sixteen(read.dots()), ..NO_PAGES }
+        }
         Err(refusal) => Pages { number: refusal.number(), place: refusal.place(), ..NO_PAGES },
     }
 }
@@ -57,10 +54,12 @@ impl Compare {
             arguments: format!("{pages} pages"),
             room,
             paper: &|set: &[u8]| {
-                let given = |(cells, dots): page::Read| Expected::with_front(
-                    Pages { count: pages, used: cells.len() as u64, dots: sixteen(&dots), ..NO_PAGES },
-                    cells,
-                );
+                let given = |(cells, dots): page::Read| {
+                    Expected::with_front(
+                        Pages { count: pages, used: cells.len() as u64, dots: sixteen(&dots), ..NO_PAGES },
+                        cells,
+                    )
+                };
                 Expected::new(page::read(set, pages, room).map(given))
             },
             interface: &|set, cells| library_read(set, pages, cells),
