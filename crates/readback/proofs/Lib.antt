@@ -27,3 +27,4 @@ pub mod SectorClears
 pub mod SlowReads
 -- Old disks
 pub mod OldDisks
+pub mod Masters

@@ -5,3 +5,4 @@ pub mod TrackRead
 pub mod SectorClears
 pub mod OldDisks
 pub mod SlowReads
+pub mod MastersReadBack
