@@ -28,3 +28,4 @@ pub mod SlowReads
 -- Old disks
 pub mod OldDisks
 pub mod Masters
+pub mod MastersReadBack
