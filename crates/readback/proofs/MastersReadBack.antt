@@ -5,7 +5,7 @@ use mathlib.Core.Path.{_≡_, refl, sym, ap, ap₂, _∙_}
 use mathlib.Core.Bool.{true, false, not}
 use mathlib.Core.List.{List, [], _∷_, _++_, map, flatMap}
 use native.Mathlib.Omega.{arith}
-use borrow.Author.Tests.{ne-eqb}
+use borrow.Author.Tests.{ne-eqb, le-ltb}
 use lib.Dec.{eqb}
 use lib.ListN.{length, replicate, length-replicate}
 use Rattle.lists.specs.Place.{everywhere}
@@ -14,7 +14,7 @@ use Rattle.lists.specs.Table.{tabulated}
 use Rattle.lists.proofs.PlaceLaws.{everywhere-of-none, everywhere-of-passing}
 use Rattle.refusal.specs.Answer.{accepted}
 use Rattle.timing.specs.declared.Profile.{Profile}
-use Rattle.merge.specs.Set.{Sector as SetSector, setBytes}
+use Rattle.merge.specs.Set.{setBytes}
 use Rattle.merge.specs.Claims.{Takes}
 use Rattle.track.specs.TrackSectors.{sectorsFound, trackRule}
 use Rattle.page.specs.Making.{pageOf, sectorOfPage, madeSet, stretchSet, makeRule}
@@ -26,12 +26,14 @@ use Rattle.page.proofs.StretchLaws.{in-order}
 use Rattle.demands.specs.Streams.{AcceptedProfile, Moved}
 use Rattle.readback.specs.TrackIndexed.{Sector}
 use Rattle.readback.specs.TrackRead.{otherNumber, DifferentNumbers, isDataByte, AllData, asRead, byNumber}
-use Rattle.readback.specs.TrackRead.{TrackReads, MadeTracksAreRead}
 use Rattle.readback.specs.MastersReadBack.{isCell, masterSector, masters, MasterTrack, shareOf, StandOn, setRead}
 use Rattle.readback.specs.MastersReadBack.{AllRead, ReadAsPages, MastersReadBack}
+use Rattle.readback.proofs.TrackFound.{track-found}
+use Rattle.readback.proofs.TrackIndexed.{made-tracks-are-indexed}
+use Rattle.readback.proofs.TrackSet.{set-is-by-number, set-has-all}
 use Rattle.readback.proofs.Masters.{data-is-cells, masters-are-made, masters-count}
 
-module _ (tracks-read : MadeTracksAreRead) (p : Profile) (accepts : AcceptedProfile p) where
+module _ (p : Profile) (accepts : AcceptedProfile p) where
   module _
       (cells : List ℕ) (pages : ℕ) (few : pages ≤ 16) (size : length cells ≡ 1000 * pages)
       (bytes : everywhere isCell cells ≡ true)
@@ -68,15 +70,11 @@ module _ (tracks-read : MadeTracksAreRead) (p : Profile) (accepts : AcceptedProf
         as-made k zero = refl
         as-made k (suc m) = ap₂ _∷_ refl (as-made (suc k) m)
 
-        module _ (k : ℕ) (inside : k + t .share ≤ pages) (reads : TrackReads p (t .intervals) (these k)) where
-          by-number-is : byNumber (these k) ≡ map (made cells) (tabulated suc k (t .share))
-          unfolding byNumber
-          by-number-is =
-              rw (as-made k (t .share)) (in-order (made cells) (numbered cells) k (t .share) (omega (arith, few)))
-
-          set-is : setRead p t ≡ stretchSet cells k (t .share)
-          unfolding setRead stretchSet
-          set-is = ap setBytes (reads .found ∙ by-number-is)
+        by-number-is
+            : (k : ℕ) → k + t .share ≤ pages → byNumber (these k) ≡ map (made cells) (tabulated suc k (t .share))
+        unfolding byNumber
+        by-number-is k inside =
+            rw (as-made k (t .share)) (in-order (made cells) (numbered cells) k (t .share) (omega (arith, few)))
 
       track-read
           : (t : MasterTrack) (k : ℕ)
@@ -84,24 +82,24 @@ module _ (tracks-read : MadeTracksAreRead) (p : Profile) (accepts : AcceptedProf
           → StandOn p cells k (t ∷ [])
           → (setRead p t ≡ stretchSet cells k (t .share))
           × ((room : ℕ) → length (setRead p t) ≤ room → trackRule p (t .intervals) room ≡ accepted (t .share))
-      unfolding setRead
+      unfolding setRead stretchSet trackRule
       track-read t k inside stands =
           let low-track = stands .0 in
           let low-side = stands .1 in
           let ss = masters (t .number) (t .side) cells k (t .share) in
           let count = masters-count cells pages few size bytes (t .number) (t .side) low-track low-side k (t .share) in
-          let reads =
-          tracks-read ss (omega (arith, count, few, inside))
-          (masters-are-made cells pages few size bytes (t .number) (t .side) low-track low-side k (t .share) inside)
-          (all-data t low-track low-side k (t .share)) (different (t .number) (t .side) k (t .share)) p accepts
-          (t .intervals) (stands .2) in
-          let same = set-is t low-track low-side k inside reads in
-          let numbered-set = ap (λ (sectors : List SetSector). length (setBytes sectors)) (reads .found) in (
-            same,
-            λ room h.
-                let old : List ℕ = replicate room 0 in
-                let long : length old ≡ room = length-replicate {A = ℕ} room 0 in
-                rw (long, count) at (reads .set-read old (omega (arith, h, long, numbered-set)) .0),
+          let all-made =
+          masters-are-made cells pages few size bytes (t .number) (t .side) low-track low-side k (t .share) inside in
+          let datas = all-data t low-track low-side k (t .share) in
+          let others = different (t .number) (t .side) k (t .share) in
+          let (entries, given) = track-found ss all-made p accepts (t .intervals) (stands .2) in
+          let found = set-is-by-number p (t .intervals) ss all-made datas others entries given in
+          let as-many = ap length found ∙ set-has-all p (t .intervals) ss all-made datas others entries given ∙ count in
+          let indexed =
+          made-tracks-are-indexed ss (omega (arith, count, few, inside)) all-made p accepts (t .intervals) (stands .2)
+          .answer in (
+            ap setBytes (found ∙ by-number-is t low-track low-side k inside),
+            λ room h. rw (indexed, le-ltb room (length (setBytes (sectorsFound p (t .intervals)))) h, as-many),
           )
 
       -- ---- several
@@ -133,18 +131,18 @@ made-reads cells pages room e =
       output = λ old h. page-laws .there-and-back cells old pages room e h .1;
     }
 
-pub masters-read-back-if : MadeTracksAreRead → MastersReadBack
-masters-read-back-if tracks-read =
+pub masters-read-back : MastersReadBack
+masters-read-back =
     record {
       on-one-track = λ cells pages room e bytes p accepts t all stands.
           let says = made-says cells pages room e in
-          let read = track-read tracks-read p accepts cells pages (says .1) (says .2) bytes t 0 (omega (arith, all)) stands in
+          let read = track-read p accepts cells pages (says .1) (says .2) bytes t 0 (omega (arith, all)) stands in
           let same = read .0 ∙ ap (stretchSet cells 0) all ∙ all-of-them cells pages (says .1) (says .2) in
           ((read .1, tt), rw same (made-reads cells pages room e));
       on-several-tracks = λ cells pages room e bytes p accepts ts sum stands.
           let says = made-says cells pages room e in
           let read =
-          tracks-are tracks-read p accepts cells pages (says .1) (says .2) bytes ts 0 (omega (arith, sum)) stands in
+          tracks-are p accepts cells pages (says .1) (says .2) bytes ts 0 (omega (arith, sum)) stands in
           let shared = page-laws .over-several-sets cells (map shareOf ts) pages room e sum in (
             read .1,
             rw (read .0) (shared .0),
