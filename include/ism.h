@@ -65,7 +65,7 @@ extern "C" {
  * as another language may, compares ism_version() first.
  */
 #define ISM_VERSION_MAJOR 0u
-#define ISM_VERSION_MINOR 14u
+#define ISM_VERSION_MINOR 15u
 #define ISM_VERSION_PATCH 0u
 #define ISM_VERSION (ISM_VERSION_MAJOR * 10000u + ISM_VERSION_MINOR * 100u + ISM_VERSION_PATCH)
 

@@ -36,13 +36,15 @@ static inline const char *ism_refusal_text(uint32_t number) {
     case ISM_FULL: return "the output is shorter than the result";
     case ISM_ADRIFT: return "no lock: no sync field with the classes of a mark behind it";
     case ISM_SHORT: return "the intervals end before the bytes asked for";
-    case ISM_MISCOUNT: return "the byte count is not 1 to 1,030";
-    case ISM_MISFIT: return "a length code that is not taken here, or data that is not that long";
+    case ISM_MISCOUNT: return "the byte count is not 1 to 1,030, or the page count not 1 to 16";
+    case ISM_MISFIT: return "a length code that is not taken here, data that is not that long, or no whole pages";
     case ISM_GARBLED: return "the input of the strip program is not as described";
     case ISM_CROWDED: return "more than 32 sectors";
     case ISM_UNRULY: return "a word of the image is that of no item after the bit before it";
     case ISM_AT_ODDS: return "a sector number is twice in one set, or its two good copies differ";
     case ISM_OFF_SPEED: return "the drive is more than a sixteenth off its speed";
+    case ISM_LOST_PAGE: return "a page is lost: its sector is missing, not of length code 3, or its sum fails";
+    case ISM_SOILED_FILL: return "the last 24 bytes of a page's sector are not all 00";
     default: return "a refusal that this header does not know";
     }
     /* clang-format on */

@@ -9,7 +9,7 @@
 #include "ism_page.h"
 
 #define FILL 24
-#define DATA 3 /* number, code and whether the sum holds stand before a sector's data */
+#define HEAD 3 /* number, code and whether the sum holds stand before a sector's data */
 
 static ism_pages turned_away(uint32_t number, uint32_t place) {
     ism_pages answer = {.number = number, .place = place};
@@ -52,14 +52,14 @@ ism_pages NAME(read_pages)(const uint8_t *set, size_t n, uint64_t pages, uint8_t
     size_t sectors = 0;
     for (size_t at = 0; at < n; sectors++) {
         size_t left = n - at;
-        if (left < DATA || set[at + 1] > 3 || left - DATA < (size_t)128 << set[at + 1])
+        if (left < HEAD || set[at + 1] > 3 || left - HEAD < (size_t)128 << set[at + 1])
             return turned_away(ISM_MISFIT, 0);
         unsigned number = set[at];
         uint64_t bit = (uint64_t)1 << number % 64;
         twice[number / 64] |= seen[number / 64] & bit;
         seen[number / 64] |= bit;
         found[number] = set + at;
-        at += DATA + ((size_t)128 << set[at + 1]);
+        at += HEAD + ((size_t)128 << set[at + 1]);
     }
     if (sectors > ISM_MAX_SECTORS) return turned_away(ISM_CROWDED, 0);
     for (unsigned k = 0; k < 4; k++)
@@ -68,12 +68,12 @@ ism_pages NAME(read_pages)(const uint8_t *set, size_t n, uint64_t pages, uint8_t
         if (!(seen[0] >> page & 1) || found[page][1] != 3 || found[page][2] == 0)
             return turned_away(ISM_LOST_PAGE, page);
     for (unsigned page = 1; page <= pages; page++)
-        if (is_soiled(found[page] + DATA + ISM_PAGE_CELLS)) return turned_away(ISM_SOILED_FILL, page);
+        if (is_soiled(found[page] + HEAD + ISM_PAGE_CELLS)) return turned_away(ISM_SOILED_FILL, page);
     if (room < ISM_PAGE_CELLS * pages) return turned_away(ISM_FULL, 0);
     ism_pages answer = {.count = pages, .used = ISM_PAGE_CELLS * pages};
     for (unsigned page = 0; page < pages; page++) {
-        memcpy(cells + ISM_PAGE_CELLS * page, found[page + 1] + DATA, ISM_PAGE_CELLS);
-        answer.dots[page] = dots_of(found[page + 1] + DATA);
+        memcpy(cells + ISM_PAGE_CELLS * page, found[page + 1] + HEAD, ISM_PAGE_CELLS);
+        answer.dots[page] = dots_of(found[page + 1] + HEAD);
     }
     return answer;
 }
@@ -86,8 +86,8 @@ ism_answer NAME(make_pages)(const uint8_t *cells, size_t n, uint64_t pages, uint
         set[0] = (uint8_t)page;
         set[1] = 3;
         set[2] = 1;
-        memcpy(set + DATA, cells, ISM_PAGE_CELLS);
-        memset(set + DATA + ISM_PAGE_CELLS, 0, FILL);
+        memcpy(set + HEAD, cells, ISM_PAGE_CELLS);
+        memset(set + HEAD + ISM_PAGE_CELLS, 0, FILL);
     }
     ism_answer answer = counted(pages);
     answer.used = ISM_PAGE_SET_BYTES * pages;
