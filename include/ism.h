@@ -97,7 +97,6 @@ uint32_t ism_interface_9(void); /* gives 9 */
 #define ISM_UNRULY 16u   /* a word that no item has after its previous bit; place: the lowest such word */
 #define ISM_AT_ODDS 17u  /* a sector number twice in a set, or two good copies unlike; place: the lowest such number */
 #define ISM_OFF_SPEED 18u /* the drive is a sixteenth off its speed; place: 0 by the even intervals, 1 by the odd */
-
 /* Only from the functions of ism_page.h; their places count pages from 1. */
 #define ISM_LOST_PAGE 19u   /* missing, not of length code 3, or its sum fails; place: the lowest such page */
 #define ISM_SOILED_FILL 20u /* the last 24 bytes of a page's sector are not all 00; place: the lowest such page */

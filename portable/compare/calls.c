@@ -35,6 +35,16 @@ void add_bytes(const uint8_t *bytes, size_t n) {
     for (size_t k = 0; k < n; k++) add_byte(bytes[k]);
 }
 
+uint32_t add_answer(ism_answer answer) {
+    add(answer.number);
+    add(answer.place);
+    add(answer.count);
+    add(answer.used);
+    add(answer.holds);
+    add(answer.clearance);
+    return answer.number;
+}
+
 static void print_digest(void) {
     printf(" %08lx%08lx\n", (unsigned long)(digest >> 32), (unsigned long)(digest & 0xFFFFFFFFu));
 }

@@ -16,9 +16,14 @@ extern const entry entries[];
 
 #define BIT(number) ((uint32_t)1 << (number))
 
+/* With a length of 0 a pointer may be null, and is. */
+#define LIST(list, n) ((n) ? (list) : NULL), (n)
+
 /* Into the digest. */
 void add(uint64_t number);
 void add_numbers(const uint16_t *numbers, size_t n);
 void add_bytes(const uint8_t *bytes, size_t n);
+/* Every field; the number is given back. */
+uint32_t add_answer(ism_answer answer);
 
 #endif

@@ -6,16 +6,6 @@
 static uint16_t items[MOST_ITEMS], intervals[MOST_INTERVALS], out[MOST_INTERVALS + 8];
 static uint8_t first_set[MOST_SET_BYTES], second_set[MOST_SET_BYTES], merged[2 * MOST_SET_BYTES], data[1100];
 
-static uint32_t add_answer(ism_answer answer) {
-    add(answer.number);
-    add(answer.place);
-    add(answer.count);
-    add(answer.used);
-    add(answer.holds);
-    add(answer.clearance);
-    return answer.number;
-}
-
 static uint32_t add_report(ism_report report) {
     add(report.number);
     add(report.place);
@@ -88,9 +78,6 @@ static void spoil(uint16_t *numbers, size_t n) {
 }
 
 static size_t no_more(size_t n, size_t most) { return n < most ? n : most; }
-
-/* With a length of 0 a pointer may be null, and is. */
-#define LIST(list, n) ((n) ? (list) : NULL), (n)
 
 /* One call of an entry each: arguments from the source, then the call; the answer's number is returned. */
 

@@ -1,79 +1,8 @@
-//! Links libism.a. Where ISM_LIB_DIR names a folder, it is the one there. Else, on x86-64 Linux, it is the one that
-//! `rt staticlib ism` leaves in target/staticlib, two folders above the crate. Where that is not there, and for every
-//! other processor, portable/ism.c is compiled: by CC, or CC_ and the target's name, by default `cc`; AR likewise.
+//! Links libism.a.
 
-use std::env;
-use std::path::{Path, PathBuf};
-use std::process::Command;
+#[path = "../library.rs"]
+mod library;
 
 fn main() {
-    println!("cargo:rerun-if-env-changed=ISM_LIB_DIR");
-    let root = Path::new(&word("CARGO_MANIFEST_DIR")).join("../..");
-    let folder = match env::var_os("ISM_LIB_DIR").map(PathBuf::from).or_else(|| proved(&root)) {
-        Some(folder) => given(folder),
-        None => compiled(&root),
-    };
-    println!("cargo:rustc-link-search=native={}", folder.display());
-    println!("cargo:rustc-link-lib=static=ism");
-}
-
-/// A variable that cargo sets.
-fn word(name: &str) -> String {
-    env::var(name).unwrap_or_else(|_| panic!("cargo sets {name}"))
-}
-
-/// A folder that has the library.
-fn given(folder: PathBuf) -> PathBuf {
-    let library = folder.join("libism.a");
-    if !library.is_file() {
-        eprintln!("libism.a is not in {}: build it with `rt staticlib ism`, or unset ISM_LIB_DIR", folder.display());
-        std::process::exit(1);
-    }
-    println!("cargo:rerun-if-changed={}", library.display());
-    folder
-}
-
-/// The folder of the library that was proved and built here, if it is for the target.
-fn proved(root: &Path) -> Option<PathBuf> {
-    let folder = root.join("target/staticlib");
-    let fits = word("CARGO_CFG_TARGET_ARCH") == "x86_64" && word("CARGO_CFG_TARGET_OS") == "linux";
-    (fits && folder.join("libism.a").is_file()).then_some(folder)
-}
-
-/// The folder of the library that is compiled from portable/ism.c for the target.
-fn compiled(root: &Path) -> PathBuf {
-    let (source, include) = (root.join("portable/ism.c"), root.join("include"));
-    let folder = PathBuf::from(word("OUT_DIR"));
-    let (object, library) = (folder.join("ism.o"), folder.join("libism.a"));
-    println!("cargo:rerun-if-changed={}", source.display());
-    println!("cargo:rerun-if-changed={}", include.join("ism.h").display());
-    let _ = std::fs::remove_file(&library);
-    let mut compile = tool("CC", "cc");
-    compile.args(["-std=c99", "-O2", "-fPIC", "-I"]).arg(include);
-    run(compile.arg("-c").arg(source).arg("-o").arg(&object));
-    run(tool("AR", "ar").arg("rcs").arg(&library).arg(&object));
-    folder
-}
-
-/// A tool by its variable for the target, by its variable, or by its common name. A variable may also hold the tool's
-/// first words.
-fn tool(variable: &str, common: &str) -> Command {
-    let for_target = format!("{variable}_{}", word("TARGET").replace('-', "_"));
-    let named = [for_target.as_str(), variable].map(|name| {
-        println!("cargo:rerun-if-env-changed={name}");
-        env::var(name).ok()
-    });
-    let words = named.into_iter().flatten().next().unwrap_or_else(|| common.to_string());
-    let mut words = words.split_whitespace();
-    let mut command = Command::new(words.next().unwrap_or(common));
-    command.args(words);
-    command
-}
-
-fn run(command: &mut Command) {
-    match command.status() {
-        Ok(status) if status.success() => {}
-        Ok(status) => panic!("{command:?} ended with {status}"),
-        Err(error) => panic!("{command:?} could not be run: {error}; set CC and AR to a C compiler and archiver"),
-    }
+    library::link("ism");
 }

@@ -32,7 +32,7 @@ fn every_refusal_keeps_its_number_and_place() {
 
 #[test]
 fn refusals_are_errors_with_a_line_of_text_each() {
-    let texts: Vec<_> = (1..=17).map(|n| Refusal::from_numbers(n, 3).expect("a refusal").to_string()).collect();
+    let texts: Vec<_> = (1..=20).map(|n| Refusal::from_numbers(n, 3).expect("a refusal").to_string()).collect();
     for (k, text) in texts.iter().enumerate() {
         assert!(text.len() > 10 && !text.contains('\n') && !text.ends_with('.'), "{text}");
         assert!(!texts[..k].contains(text), "{text}");

@@ -14,7 +14,15 @@
 //! # Ok::<(), ism::Refusal>(())
 //! ```
 
+#![no_std]
+#![deny(missing_docs)]
+
+#[cfg(test)]
+extern crate std;
+
 pub mod sys;
+#[cfg(test)]
+mod tests;
 
 use ism::Refusal;
 
@@ -49,9 +57,9 @@ impl Pages {
 ///
 /// Refusals in order: count out of range (not 1 to [`MAX_PAGES`]), sector size mismatch, too many sectors and sectors at
 /// odds as [`ism::merge`] of the set with the empty set gives them, page lost, fill soiled, output too short.
-pub fn read_pages(set: &[u8], pages: u64, cells: &mut [u8]) -> Result<Pages, Refusal> {
+pub fn read_pages(set: &[u8], pages: usize, cells: &mut [u8]) -> Result<Pages, Refusal> {
     // SAFETY: each pointer comes with the length of its slice, and slices do not overlap
-    let read = unsafe { sys::ism_read_pages(set.as_ptr(), set.len(), pages, cells.as_mut_ptr(), cells.len()) };
+    let read = unsafe { sys::ism_read_pages(set.as_ptr(), set.len(), pages as u64, cells.as_mut_ptr(), cells.len()) };
     match Refusal::from_numbers(read.number, read.place) {
         Some(refusal) => Err(refusal),
         None => Ok(Pages { cells: read.used as usize, count: read.count as usize, dots: read.dots }),
@@ -62,9 +70,9 @@ pub fn read_pages(set: &[u8], pages: u64, cells: &mut [u8]) -> Result<Pages, Ref
 ///
 /// Refusals in order: count out of range (not 1 to [`MAX_PAGES`]), sector size mismatch (not [`PAGE_CELLS`] cells for
 /// each page), output too short.
-pub fn make_pages(cells: &[u8], pages: u64, set: &mut [u8]) -> Result<usize, Refusal> {
+pub fn make_pages(cells: &[u8], pages: usize, set: &mut [u8]) -> Result<usize, Refusal> {
     // SAFETY: each pointer comes with the length of its slice, and slices do not overlap
-    let made = unsafe { sys::ism_make_pages(cells.as_ptr(), cells.len(), pages, set.as_mut_ptr(), set.len()) };
+    let made = unsafe { sys::ism_make_pages(cells.as_ptr(), cells.len(), pages as u64, set.as_mut_ptr(), set.len()) };
     match Refusal::from_numbers(made.number, made.place) {
         Some(refusal) => Err(refusal),
         None => Ok(made.used as usize),

@@ -1,6 +1,8 @@
 //! The C interface as `include/ism_page.h` declares it. The header says what each function gives; prefer the safe
 //! functions of this crate.
 
+#![allow(missing_docs)]
+
 use ism::sys::Answer;
 
 /// `ism_pages`

@@ -39,11 +39,11 @@ fn sixteen(dots: &[u32]) -> [u32; 16] {
 }
 
 fn wrapped_read(set: &[u8], pages: u64, cells: &mut [u8]) -> Pages {
-    match ism_page::read_pages(set, pages, cells) {
+    match ism_page::read_pages(set, pages as usize, cells) {
         Ok(read) => {
             Pages { count: read.dots().len() as u64, used: read.cells as u64, dots: sixteen(read.dots()), ..NO_PAGES }
         }
-        Err(refusal) => Pages { number: refusal.number(), place: refusal.place(), ..NO_PAGES },
+        Err(refusal) => Pages { number: refusal.number(), place: refusal.place() as u32, ..NO_PAGES },
     }
 }
 
@@ -79,7 +79,7 @@ impl Compare {
                 Expected::new(page::make(cells, pages, room).map(given))
             },
             interface: &|cells, set| library_make(cells, pages, set),
-            wrapper: Some(&|cells, set| from_wrapper(ism_page::make_pages(cells, pages, set), answer)),
+            wrapper: Some(&|cells, set| from_wrapper(ism_page::make_pages(cells, pages as usize, set), answer)),
         };
         self.run(cells, call);
     }
