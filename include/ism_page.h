@@ -102,7 +102,7 @@ uint32_t ism_page_interface_9(void); /* gives 9 */
  */
 #if !defined(ISM_PAGE_WITHOUT_LIBRARY) && !defined(ISM_PAGE_INTERFACE_ASKED) && defined(__GNUC__)
 #define ISM_PAGE_INTERFACE_ASKED
-#if defined(__has_attribute)
+#if defined(__has_attribute) && defined(__linux__)
 #if __has_attribute(retain)
 __attribute__((retain))
 #endif
