@@ -56,7 +56,7 @@ fn track(geometry: &Geometry, place: Place, tracks: &[&ReadTrack], out: &mut [u8
 }
 
 /// Why a sector of which there is no ID was not read.
-fn nothing_read(tracks: &[&ReadTrack]) -> String {
+pub fn nothing_read(tracks: &[&ReadTrack]) -> String {
     if let Some(refusal) = tracks.iter().find_map(|track| track.sectors.as_ref().err()) {
         return refused(*refusal);
     }
@@ -69,12 +69,18 @@ fn nothing_read(tracks: &[&ReadTrack]) -> String {
 
 /// The sector if it belongs here and has its data, else why it has not.
 fn copy_of<'a>(found: &'a Found, geometry: &Geometry, place: Place) -> Result<Sector<'a>, String> {
+    let (code, here) = (found.id.code, usize::from(found.id.track) == place.track);
+    if here && code != geometry.code {
+        return Err(format!("it has length code {code}, not {}", geometry.code));
+    }
+    sector_of(found, place)
+}
+
+/// The sector if its ID names the track where it stands and has its data, else why not.
+pub fn sector_of(found: &Found, place: Place) -> Result<Sector<'_>, String> {
     let id = found.id;
     if usize::from(id.track) != place.track {
         return Err(format!("its ID names track {}", id.track));
-    }
-    if id.code != geometry.code {
-        return Err(format!("it has length code {}, not {}", id.code, geometry.code));
     }
     match &found.data {
         Data::Missing { refusal: Some(refusal) } => Err(format!("no data: {}", refused(*refusal))),

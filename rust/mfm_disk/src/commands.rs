@@ -45,7 +45,8 @@ pub fn tell(text: &str) {
     let _ = writeln!(std::io::stderr(), "mfm_disk: {text}");
 }
 
-fn print(text: &str) -> Result<(), Failure> {
+/// Text on the output.
+pub fn print(text: &str) -> Result<(), Failure> {
     match stdout().write_all(text.as_bytes()).and_then(|()| stdout().flush()) {
         // a reader that has seen enough is no failure
         Err(error) if error.kind() != ErrorKind::BrokenPipe => Err(Failure::Unread(format!("output: {error}"))),
@@ -53,7 +54,8 @@ fn print(text: &str) -> Result<(), Failure> {
     }
 }
 
-fn format_of(path: &Path) -> Result<Format, Failure> {
+/// The container that a file's name asks for.
+pub fn format_of(path: &Path) -> Result<Format, Failure> {
     let told = || Failure::Usage(format!("{}: a disk has the ending .hfe, .mfm or .dmk", path.display()));
     Format::of(path).ok_or_else(told)
 }
@@ -68,13 +70,15 @@ fn raw_target(path: &Path, force: bool) -> Result<Target, Failure> {
     }
 }
 
-fn load(path: &Path) -> Result<Disk, Failure> {
+/// The disk of a file.
+pub fn load(path: &Path) -> Result<Disk, Failure> {
     let format = format_of(path)?;
     let file = files::read(path)?;
     format.parse(&file).map_err(|text| Failure::Unread(format!("{}: {text}", path.display())))
 }
 
-fn build(disk: &Disk, format: Format, profile: Profile, to: &Path) -> Result<Vec<u8>, Failure> {
+/// The file of a disk.
+pub fn build(disk: &Disk, format: Format, profile: Profile, to: &Path) -> Result<Vec<u8>, Failure> {
     format.build(disk, profile).map_err(|text| Failure::Unread(format!("{}: {text}", to.display())))
 }
 

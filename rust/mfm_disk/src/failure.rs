@@ -51,6 +51,9 @@ pub fn word_of(refusal: ism::Refusal) -> String {
         15 => "crowded",
         16 => "unruly",
         17 => "at odds",
+        18 => "off speed",
+        19 => "lost page",
+        20 => "soiled fill",
         _ => "unlisted",
     };
     word.to_string()

@@ -21,7 +21,7 @@ pub mod hfe;
 pub mod list;
 pub mod make;
 pub mod mfm;
-mod progress;
+pub mod progress;
 pub mod read;
 pub mod timing;
 pub mod track;
