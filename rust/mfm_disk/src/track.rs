@@ -102,6 +102,30 @@ impl Window {
         ism::read_field(self.profile, &self.intervals[lock..], bytes, &mut items).map(|_| ())
     }
 
+    /// How many locks of an A1 mark are neither an ID's nor its data's among these sectors.
+    pub fn strays(&self, sectors: &[Found]) -> usize {
+        let turn = self.transitions.len();
+        let data = |sector: &Found| match sector.data {
+            Data::Own { at, .. } | Data::NotItsOwn { at } => Some(at % turn),
+            Data::Missing { .. } => None,
+        };
+        let known: Vec<usize> =
+            sectors.iter().flat_map(|sector| [Some(sector.at % turn), data(sector)]).flatten().collect();
+        let mut strays: Vec<usize> = locks(self.profile, &self.intervals).filter(|place| self.is_a1(*place)).collect();
+        strays.iter_mut().for_each(|place| *place %= turn);
+        strays.retain(|place| !known.contains(place));
+        strays.sort_unstable();
+        strays.dedup();
+        strays.len()
+    }
+
+    /// Whether the mark of a lock is no C2, which begins no sector.
+    fn is_a1(&self, place: usize) -> bool {
+        let mut items = [0; 1];
+        let mark = ism::read_field(self.profile, &self.intervals[place..], 1, &mut items);
+        mark.is_err() || items[0] != ism::MARK_C2
+    }
+
     /// The least clearance of the intervals that the ID and its own data used.
     pub fn clearance(&self, sector: &Found) -> Result<u32, Refusal> {
         let id = self.field_clearance(sector.at, ID_BYTES)?;

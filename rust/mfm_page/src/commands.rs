@@ -4,15 +4,16 @@ use std::io::Write;
 use std::path::Path;
 
 use mfm_disk::commands::{build, format_of, load, print};
+use mfm_disk::disk::Disk;
 use mfm_disk::failure::Failure;
 use mfm_disk::files::{self, Target};
-use mfm_disk::read::{profile_of, read_disk};
+use mfm_disk::read::profile_of;
 
 use crate::arguments::Asked;
 use crate::book::Book;
 use crate::layout::{disk_of, Density};
 use crate::list::List;
-use crate::master::Master;
+use crate::master::{Master, Pass};
 use crate::page::Page;
 
 const HELP: &str = include_str!("help.txt");
@@ -52,10 +53,9 @@ fn pack(from: &Path, to: &Path, density: Density, force: bool) -> Result<(), Fai
     let unread = |text: String| Failure::Unread(format!("{}: {text}", from.display()));
     let pages = book.parse(&file).map_err(unread)?;
     let disk = disk_of(&pages, density).map_err(unread)?;
-    let profile = profile_of(&disk, None);
-    let file = build(&disk, format, profile, to)?;
-    let made = format.parse(&file).and_then(|disk| Master::of(vec![read_disk(&disk, profile, "pack")]));
-    let back = made.map_err(|text| vec![text]).and_then(|master| master.pages(pages.len() as u64));
+    let file = build(&disk, format, profile_of(&disk, None), to)?;
+    let made = format.parse(&file).and_then(|disk| Master::of(vec![pass(&disk, "pack")]));
+    let back = made.map_err(|text| vec![text]).and_then(|master| master.all_pages());
     match back {
         Ok(back) if back.iter().map(|read| read.page).eq(pages) => target.write(&file),
         _ => Err(Failure::Unread(format!("{}: what was made reads otherwise; nothing is written", to.display()))),
@@ -68,10 +68,14 @@ fn unpack(from: &Path, second: Option<&Path>, to: &Path, count: Option<u64>, for
     let target = Target::new(to, force)?;
     let paths: Vec<&Path> = [from].into_iter().chain(second).collect();
     let (name, master) = (named(&paths), read(&paths, "unpack")?);
-    let count = count.unwrap_or(master.highest() as u64);
-    let pages = master.pages(count).map_err(|lines| {
+    let pages = match count {
+        Some(count) => master.pages(count),
+        None => master.all_pages(),
+    };
+    let pages = pages.map_err(|lines| {
         lines.iter().for_each(|line| tell(&format!("{name}: {line}")));
-        Failure::Unread(format!("{name}: {} of {count} page(s) were not read; nothing is written", lines.len()))
+        let other = if count.is_none() { " (--pages gives as many as it says)" } else { "" };
+        Failure::Unread(format!("{name}: nothing is written{other}"))
     })?;
     let pages: Vec<Page> = pages.iter().map(|read| read.page).collect();
     let unwritten = |text: String| Failure::Unread(format!("{}: {text}; nothing is written", to.display()));
@@ -89,12 +93,15 @@ fn list(path: &Path) -> Result<(), Failure> {
     }
 }
 
+fn pass(disk: &Disk, what: &str) -> Pass {
+    Pass::of(disk, profile_of(disk, None), what, |_, _, _| {})
+}
+
 /// The master of all passes.
 fn read(paths: &[&Path], what: &str) -> Result<Master, Failure> {
     let mut passes = Vec::with_capacity(paths.len());
     for path in paths {
-        let disk = load(path)?;
-        passes.push(read_disk(&disk, profile_of(&disk, None), what));
+        passes.push(pass(&load(path)?, what));
     }
     Master::of(passes).map_err(|text| Failure::Unread(format!("{}: {text}", named(paths))))
 }

@@ -5,10 +5,9 @@ use std::fmt::Write;
 use ism::Profile;
 use mfm_disk::assemble::sector_of;
 use mfm_disk::disk::{Disk, Place};
-use mfm_disk::read::{each_window, ReadDisk, ReadTrack};
 use mfm_disk::track::Found;
 
-use crate::master::Master;
+use crate::master::{Master, Pass};
 use crate::page::MOST_PAGES;
 use crate::pages;
 
@@ -22,26 +21,19 @@ impl List {
     /// Reads all tracks of a master.
     pub fn of(disk: &Disk, profile: Profile) -> List {
         let mut text = String::from(" page track sector sum    dots clearance\n");
-        let mut read = ReadDisk { tracks: Vec::with_capacity(disk.turns.len()) };
-        each_window(disk, profile, "list", |place, single_density, window| {
-            let sectors = window.sectors();
-            for found in sectors.iter().flatten() {
-                row(&mut text, place, found, window.clearance(found).unwrap_or(0));
-            }
-            read.tracks.push(ReadTrack { place, sectors, single_density });
+        let pass = Pass::of(disk, profile, "list", |place, window, found| {
+            row(&mut text, place, found, window.clearance(found).unwrap_or(0));
         });
-        let (count, complaints) = match Master::of(vec![read]) {
-            Err(refusal) => (None, vec![refusal]),
+        let (read, complaints) = match Master::of(vec![pass]) {
+            Err(refusal) => (0, vec![refusal]),
             Ok(master) => {
-                let count = master.highest();
-                (Some(count), master.pages(count as u64).err().unwrap_or_default())
+                let all = 1..=master.highest() as u8;
+                let read = all.filter(|page| master.page(*page).is_ok()).count();
+                (read, master.all_pages().err().unwrap_or_default())
             }
         };
         let margin = ism::margin(profile).unwrap_or(0);
-        let _ = match count {
-            Some(count) => writeln!(text, "{count} page(s), {} not read; margin {margin}", complaints.len()),
-            None => writeln!(text, "no set of pages; margin {margin}"),
-        };
+        let _ = writeln!(text, "{read} page(s) read; margin {margin}");
         List { text, complaints }
     }
 }

@@ -24,8 +24,10 @@ pub struct Reader<'a> {
 impl<'a> Reader<'a> {
     /// A reader of a whole file, which has to be UTF-8.
     pub fn new(file: &'a [u8]) -> Result<Reader<'a>, String> {
-        let text = std::str::from_utf8(file)
-            .map_err(|error| format!("it is not UTF-8 from byte {} on; a PEF file is", error.valid_up_to()))?;
+        let text = std::str::from_utf8(file).map_err(|error| match error.error_len() {
+            None => format!("the file stops in the character at byte {}", error.valid_up_to()),
+            Some(_) => format!("it is not UTF-8 from byte {} on; a PEF file is", error.valid_up_to()),
+        })?;
         let text = text.strip_prefix('\u{FEFF}').unwrap_or(text);
         Ok(Reader { file: text, rest: text, open: Vec::new(), ends: None, root_seen: false, plain: false })
     }
@@ -232,5 +234,6 @@ mod tests {
         assert!(told("<!DOCTYPE a [<!ENTITY b 'c'>]><a/>").contains("declarations of its own"));
         assert!(told("<?xml version='1.0' encoding='UTF-16'?><a/>").contains("names the encoding UTF-16"));
         assert!(Reader::new(b"<a>\xFF").err().unwrap().contains("not UTF-8 from byte 3 on"));
+        assert!(Reader::new(b"<a>\xE2\xA3").err().unwrap().contains("stops in the character at byte 3"));
     }
 }

@@ -53,6 +53,23 @@ fn a_harmed_page_is_told_and_the_others_are_shown() {
 }
 
 #[test]
+fn a_last_page_that_is_lost_with_its_id_is_missed() {
+    let (pages, disk) = sixteen(8);
+    for count in 1..=16 {
+        let mut disk = disk_of(&pages[..count], Density::Double).unwrap();
+        let id = data_at(count) - 2 * 40;
+        disk.turns[(count - 1) / 5].cells[id..id + 2].fill(0xAA);
+        let lines = back(&disk).unwrap_err();
+        assert!(lines[0].contains("2 field(s) that belong to no page read") || count == 1, "{lines:?}");
+        let master = Master::of(vec![pass(&disk)]).unwrap();
+        assert!(count == 1 || pages_of(&master, count as u64 - 1).unwrap() == pages[..count - 1]);
+        assert!(pages_of(&master, count as u64).unwrap_err()[0].ends_with("no ID of it was read"));
+    }
+    let both = Master::of(vec![pass(&disk), pass(&harmed(&disk, &[1]))]).unwrap();
+    assert!(both.all_pages().is_ok(), "one good pass is certain");
+}
+
+#[test]
 fn two_passes_give_what_one_lost() {
     let (pages, disk) = sixteen(2);
     let one = harmed(&disk, &[1, 7, 16]);
@@ -186,7 +203,7 @@ fn harmed_masters_break_nothing() {
             let Ok(disk) = format.parse(&file) else { continue };
             assert!(List::of(&disk, profile_of(&disk, None)).text.lines().count() >= 2);
             match back(&disk) {
-                Ok(read) => assert_eq!(read, pages[..read.len()], "{format:?}"),
+                Ok(read) => assert_eq!(read, pages, "{format:?}"),
                 Err(_) => told += 1,
             }
         }

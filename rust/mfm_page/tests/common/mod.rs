@@ -3,8 +3,8 @@
 
 use mfm_disk::disk::Disk;
 use mfm_disk::format::Format;
-use mfm_disk::read::{profile_of, read_disk, ReadDisk};
-use mfm_page::master::Master;
+use mfm_disk::read::profile_of;
+use mfm_page::master::{Master, Pass};
 use mfm_page::page::Page;
 
 pub const FORMATS: [Format; 3] = [Format::Hfe, Format::Mfm, Format::Dmk];
@@ -52,8 +52,8 @@ impl Random {
 }
 
 /// One pass over a disk.
-pub fn pass(disk: &Disk) -> ReadDisk {
-    read_disk(disk, profile_of(disk, None), "")
+pub fn pass(disk: &Disk) -> Pass {
+    Pass::of(disk, profile_of(disk, None), "", |_, _, _| {})
 }
 
 /// All pages of a master, or what is said of them.
@@ -64,5 +64,5 @@ pub fn pages_of(master: &Master, count: u64) -> Result<Vec<Page>, Vec<String>> {
 /// The pages that a disk gives by itself.
 pub fn back(disk: &Disk) -> Result<Vec<Page>, Vec<String>> {
     let master = Master::of(vec![pass(disk)]).map_err(|text| vec![text])?;
-    pages_of(&master, master.highest() as u64)
+    Ok(master.all_pages()?.iter().map(|read| read.page).collect())
 }
