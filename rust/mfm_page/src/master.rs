@@ -63,8 +63,8 @@ impl Master {
         numbers.filter(|number| *number <= MOST_PAGES).max().unwrap_or(1).max(1)
     }
 
-    /// All pages, where it is certain how many they are. A last page that is lost with its ID leaves a field behind that
-    /// belongs to no sector; where every pass has such fields, it is not certain.
+    /// All pages, where it is certain how many they are. A last page that is lost with its ID leaves a field behind
+    /// that belongs to no sector; where every pass has such fields, it is not certain.
     pub fn all_pages(&self) -> Result<Vec<Read>, Vec<String>> {
         let count = self.highest();
         let pages = self.pages(count as u64)?;
