@@ -144,7 +144,8 @@ enum { refusal_Refusal_ProfileOutOfRange, refusal_Refusal_ProfileInconsistent, r
         refusal_Refusal_NotWholeBytes, refusal_Refusal_MisplacedMark, refusal_Refusal_OutputTooShort,
         refusal_Refusal_NoLock, refusal_Refusal_EndsEarly, refusal_Refusal_CountOutOfRange,
         refusal_Refusal_SectorSizeMismatch, refusal_Refusal_MalformedInput, refusal_Refusal_TooManySectors,
-        refusal_Refusal_UnrulyWord, refusal_Refusal_SectorsAtOdds, refusal_Refusal_OffSpeed };
+        refusal_Refusal_UnrulyWord, refusal_Refusal_SectorsAtOdds, refusal_Refusal_OffSpeed, refusal_Refusal_PageLost,
+        refusal_Refusal_FillSoiled };
 struct refusal_Refusal {
     uint8_t tag;
     union {
@@ -157,6 +158,8 @@ struct refusal_Refusal {
         uint32_t UnrulyWord;
         uint32_t SectorsAtOdds;
         uint32_t OffSpeed;
+        uint32_t PageLost;
+        uint32_t FillSoiled;
     } u;
 };
 
@@ -317,61 +320,6 @@ struct array_u8_64 {
     uint8_t a[64];
 };
 
-struct slice_u64 {
-    const uint64_t *at;
-    uint64_t len;
-};
-
-/* fields::reader::FieldRead, crates/fields/src/reader.rt */
-enum { fields_reader_FieldRead_Field, fields_reader_FieldRead_Refused };
-struct fields_reader_FieldRead {
-    uint8_t tag;
-    union {
-        struct {
-            uint64_t count;
-            uint64_t used;
-            bool holds;
-        } Field;
-        struct refusal_Refusal Refused;
-    } u;
-};
-
-struct array_u64_5 {
-    uint64_t a[5];
-};
-
-struct array_u64_10 {
-    uint64_t a[10];
-};
-
-/* fields::gather::Summed, crates/fields/src/gather.rt */
-struct fields_gather_Summed {
-    struct intervals_Pass pass;
-    struct items_Check check;
-};
-
-struct array_u16_65 {
-    uint16_t a[65];
-};
-
-/* fields::gather::Gathered, crates/fields/src/gather.rt */
-struct fields_gather_Gathered {
-    struct refusal_Counted end;
-    bool holds;
-};
-
-struct array_u16_16 {
-    uint16_t a[16];
-};
-
-struct array_u16_1030 {
-    uint16_t a[1030];
-};
-
-struct array_u64_15 {
-    uint64_t a[15];
-};
-
 struct array_u16_10 {
     uint16_t a[10];
 };
@@ -400,6 +348,61 @@ struct best_windows_Shifts {
 struct best_Best {
     struct refusal_Counted answer;
     struct timing_Profile profile;
+};
+
+struct slice_u64 {
+    const uint64_t *at;
+    uint64_t len;
+};
+
+struct array_u64_5 {
+    uint64_t a[5];
+};
+
+struct array_u64_10 {
+    uint64_t a[10];
+};
+
+struct array_u64_15 {
+    uint64_t a[15];
+};
+
+/* fields::reader::FieldRead, crates/fields/src/reader.rt */
+enum { fields_reader_FieldRead_Field, fields_reader_FieldRead_Refused };
+struct fields_reader_FieldRead {
+    uint8_t tag;
+    union {
+        struct {
+            uint64_t count;
+            uint64_t used;
+            bool holds;
+        } Field;
+        struct refusal_Refusal Refused;
+    } u;
+};
+
+struct array_u16_65 {
+    uint16_t a[65];
+};
+
+/* fields::gather::Summed, crates/fields/src/gather.rt */
+struct fields_gather_Summed {
+    struct intervals_Pass pass;
+    struct items_Check check;
+};
+
+/* fields::gather::Gathered, crates/fields/src/gather.rt */
+struct fields_gather_Gathered {
+    struct refusal_Counted end;
+    bool holds;
+};
+
+struct array_u16_16 {
+    uint16_t a[16];
+};
+
+struct array_u16_1030 {
+    uint16_t a[1030];
 };
 
 struct array_u64_4 {
@@ -486,6 +489,14 @@ struct track_Step {
 
 struct array_track_index_IndexEntry_32 {
     ism_index_entry a[32];
+};
+
+/* track::set::TrackSet, crates/track/src/set.rt */
+struct track_set_TrackSet {
+    uint32_t number;
+    uint32_t place;
+    uint64_t count;
+    uint64_t bytes;
 };
 
 struct array_u16_512 {
@@ -871,7 +882,9 @@ static uint32_t refusal_Refusal_number(struct refusal_Refusal self) {
     case refusal_Refusal_TooManySectors: return 15;
     case refusal_Refusal_UnrulyWord: return 16;
     case refusal_Refusal_SectorsAtOdds: return 17;
-    default: return 18; /* refusal_Refusal_OffSpeed */
+    case refusal_Refusal_OffSpeed: return 18;
+    case refusal_Refusal_PageLost: return 19;
+    default: return 20; /* refusal_Refusal_FillSoiled */
     }
 }
 
@@ -904,7 +917,9 @@ static uint32_t refusal_Refusal_place(struct refusal_Refusal self) {
     case refusal_Refusal_TooManySectors: return 0;
     case refusal_Refusal_UnrulyWord: return self.u.UnrulyWord;
     case refusal_Refusal_SectorsAtOdds: return self.u.SectorsAtOdds;
-    default: return self.u.OffSpeed; /* refusal_Refusal_OffSpeed */
+    case refusal_Refusal_OffSpeed: return self.u.OffSpeed;
+    case refusal_Refusal_PageLost: return self.u.PageLost;
+    default: return self.u.FillSoiled; /* refusal_Refusal_FillSoiled */
     }
 }
 
@@ -1377,16 +1392,20 @@ static uint64_t merge_index_count_numbers(const struct array_u16_256 *a, const s
 
 /*
  * merge::index::index_set, crates/merge/src/index.rt
- * 32 sectors have at most 32,864 bytes, so a place fits 16 bits and is not 65,535.
+ * Whether a number is there twice. 32 sectors have at most 32,864 bytes, so a place fits 16 bits and is not 65,535.
  */
-static void merge_index_index_set(struct slice_u8 set, struct array_u16_256 *index) {
+static bool merge_index_index_set(struct slice_u8 set, struct array_u16_256 *index) {
+    bool twice = false;
     uint64_t start = 0;
     while (start < set.len) {
         uint64_t code = start + 1;
         uint64_t number = (uint64_t)set.at[start];
-        index->a[number] = merge_index_entry(index->a[number], (uint16_t)code);
+        uint16_t old = index->a[number];
+        twice = twice | (old != 0);
+        index->a[number] = merge_index_entry(old, (uint16_t)code);
         start = code + 2 + sectors_sector_size(set.at[code]);
     }
+    return twice;
 }
 
 /*
@@ -2353,353 +2372,6 @@ static struct intervals_Pass intervals_pass_over(struct timing_Profile p, struct
     return at.pass;
 }
 
-/* The crate fields */
-
-/*
- * fields::runs::all_follow, crates/fields/src/runs.rt
- * Whether each interval of a stretch is of class 2 if the one before it is: with no jump for any, so that it is told
- * in vector instructions.
- */
-static bool fields_runs_all_follow(struct timing_cursor_Cursor short_, struct slice_u16 intervals, uint64_t from) {
-    uint64_t end = from + 32;
-    bool all = true;
-    uint64_t k = from;
-    while (k < end) {
-        all = all & timing_cursor_Cursor_meets_two(short_, intervals.at[k]);
-        k++;
-    }
-    return all;
-}
-
-/*
- * fields::finder::begins_with, crates/fields/src/finder.rt
- * Whether the intervals from a place on have the classes of a pattern at their front.
- */
-static bool fields_finder_begins_with(struct timing_cursor_Cursor start, struct slice_u16 intervals, uint64_t at,
-        struct slice_u64 pattern) {
-    if (intervals.len - at < pattern.len) return false;
-    struct timing_cursor_Cursor cursor = start;
-    uint64_t i = 0;
-    while (i < pattern.len) {
-        struct timing_cursor_Classed classed = timing_cursor_Cursor_step(cursor, intervals.at[at + i]);
-        struct timing_Class class = classed.class;
-        uint64_t t13 = timing_Class_number(class);
-        if (t13 == pattern.at[i]) {
-            cursor = classed.next;
-            i++;
-        } else {
-            return false;
-        }
-    }
-    return true;
-}
-
-/*
- * fields::gather::conclude, crates/fields/src/gather.rt
- * How the pass over a field ends, with so many intervals used: 11, 8, or how many they are.
- */
-static struct refusal_Counted fields_gather_conclude(struct symbols_Reading m, uint64_t used, uint32_t n) {
-    if (m.words < n) {
-        return (struct refusal_Counted){.tag = refusal_Counted_Refused,
-                .u.Refused = {.tag = refusal_Refusal_EndsEarly}};
-    }
-    if (symbols_Reading_is_stray(m)) {
-        return (struct refusal_Counted){.tag = refusal_Counted_Refused,
-                .u.Refused = {.tag = refusal_Refusal_MisplacedMark,
-                .u.MisplacedMark = symbols_Reading_stray_place(m, intervals_last_place(used))}};
-    }
-    return (struct refusal_Counted){.tag = refusal_Counted_Count, .u.Count = used};
-}
-
-/*
- * fields::reader::deliver, crates/fields/src/reader.rt
- * What was gathered, handed over where the output has room for it.
- */
-static struct fields_reader_FieldRead fields_reader_deliver(struct slice_u16 items, uint64_t used, bool holds,
-        struct slice_u16_mut out) {
-    if (out.len < items.len) {
-        return (struct fields_reader_FieldRead){.tag = fields_reader_FieldRead_Refused,
-                .u.Refused = {.tag = refusal_Refusal_OutputTooShort}};
-    }
-    lists_store(items, 0, out);
-    return (struct fields_reader_FieldRead){.tag = fields_reader_FieldRead_Field,
-            .u.Field = {.count = items.len, .used = used, .holds = holds}};
-}
-
-/*
- * fields::runs::last_sure, crates/fields/src/runs.rt
- * The last place up to `from` whose interval is of class 2, or is not, after either kind; 0 if there is none.
- */
-static uint64_t fields_runs_last_sure(struct timing_cursor_Cursor short_, struct timing_cursor_Cursor long_,
-        struct slice_u16 intervals, uint64_t from) {
-    uint64_t i = from;
-    while (0 < i) {
-        uint16_t interval = intervals.at[i];
-        bool t7 = timing_cursor_Cursor_meets_two(short_, interval);
-        if (t7 == timing_cursor_Cursor_meets_two(long_, interval)) return i;
-        i--;
-    }
-    return i;
-}
-
-/* fields::finder::later, crates/fields/src/finder.rt: The later of two places. */
-static uint64_t fields_finder_later(uint64_t a, uint64_t b) {
-    if (a < b) return b;
-    return a;
-}
-
-/* fields::finder::mark_ahead, crates/fields/src/finder.rt: Whether a lock's mark stands at a place. */
-static bool fields_finder_mark_ahead(struct timing_cursor_Cursor cursor, struct slice_u16 intervals, uint64_t at) {
-    struct array_u64_5 a1 = {{3, 4, 3, 4, 3}};
-    if (fields_finder_begins_with(cursor, intervals, at, slice_u64(a1.a, 5))) return true;
-    struct array_u64_10 c2 = {{3, 2, 3, 4, 3, 4, 2, 3, 4, 3}};
-    return fields_finder_begins_with(cursor, intervals, at, slice_u64(c2.a, 10));
-}
-
-/*
- * fields::runs::next_two, crates/fields/src/runs.rt
- * The first place from `from` on whose interval is of class 2; the length of the list where there is none. The
- * classing goes from the last sure place on, and so from the start of the list only where no place before is sure.
- */
-static uint64_t fields_runs_next_two(struct timing_Profile p, struct slice_u16 intervals, uint64_t from) {
-    struct timing_cursor_Cursor short_ = timing_cursor_Cursor_after(p, true);
-    struct timing_cursor_Cursor long_ = timing_cursor_Cursor_after(p, false);
-    struct timing_cursor_Cursor cursor = short_;
-    uint64_t i = fields_runs_last_sure(short_, long_, intervals, from);
-    while (i < from) {
-        cursor = timing_cursor_Cursor_past(cursor, intervals.at[i]);
-        i++;
-    }
-    if (timing_cursor_Cursor_meets_two(cursor, intervals.at[from])) return from;
-    i = from + 1;
-    while (i < intervals.len) {
-        if (timing_cursor_Cursor_meets_two(long_, intervals.at[i])) return i;
-        i++;
-    }
-    return i;
-}
-
-/* fields::runs::pass_stretches, crates/fields/src/runs.rt: Passes over whole stretches of a run. */
-static uint64_t fields_runs_pass_stretches(struct timing_cursor_Cursor short_, struct slice_u16 intervals,
-        uint64_t from) {
-    uint64_t k = from;
-    while (32 <= intervals.len - k) {
-        if (fields_runs_all_follow(short_, intervals, k)) {
-            k += 32;
-        } else {
-            return k;
-        }
-    }
-    return k;
-}
-
-/* fields::runs::pass_run, crates/fields/src/runs.rt: Passes over a run up to its end. */
-static uint64_t fields_runs_pass_run(struct timing_cursor_Cursor short_, struct slice_u16 intervals, uint64_t from) {
-    uint64_t k = fields_runs_pass_stretches(short_, intervals, from);
-    while (k < intervals.len) {
-        if (timing_cursor_Cursor_meets_two(short_, intervals.at[k])) {
-            k++;
-        } else {
-            return k;
-        }
-    }
-    return k;
-}
-
-/*
- * fields::finder::scan, crates/fields/src/finder.rt
- * Invariant: no lock stands before k, and those after `first` up to `seen` are of class 2 if the one before them is.
- * The 64 before k are looked at from the last one back, but for the first of them; `seen` only grows, so that none is
- * looked at twice. One that is not of class 2 after class 2 can only be the first of a run, and rules out every place
- * that has it and the one before it among its 64. Where none is ruled out, the 64 are a run if their first is of class
- * 2. Then the mark is looked for at the run's end, since no mark begins with class 2.
- */
-static struct refusal_Counted fields_finder_scan(struct timing_Profile p, struct slice_u16 intervals) {
-    struct timing_cursor_Cursor short_ = timing_cursor_Cursor_after(p, true);
-    uint64_t first = 0;
-    uint64_t seen = 1;
-    struct refusal_Counted place;
-    for (;;) {
-        uint64_t k = first + 64;
-        if (intervals.len <= k) {
-            place = (struct refusal_Counted){.tag = refusal_Counted_Refused,
-                    .u.Refused = {.tag = refusal_Refusal_NoLock}};
-            break;
-        }
-        uint64_t i = k;
-        while (seen < i) {
-            i--;
-            if (timing_cursor_Cursor_meets_two(short_, intervals.at[i])) continue;
-            first = i;
-            seen = k;
-            goto next_1;
-        }
-        uint64_t begin = fields_runs_next_two(p, intervals, first);
-        if (first < begin) {
-            first = begin;
-            seen = fields_finder_later(k, begin + 1);
-            continue;
-        }
-        uint64_t end = fields_runs_pass_run(short_, intervals, k);
-        if (fields_finder_mark_ahead(short_, intervals, end)) {
-            place = (struct refusal_Counted){.tag = refusal_Counted_Count, .u.Count = end};
-            break;
-        }
-        first = end + 1;
-        seen = end + 2;
-        next_1:;
-    }
-    return place;
-}
-
-/*
- * fields::finder::search, crates/fields/src/finder.rt
- * Under an accepted profile. The intervals from `start` on are searched, and the place is counted from there.
- */
-static struct refusal_Counted fields_finder_search(struct timing_Profile p, struct slice_u16 intervals,
-        uint64_t start) {
-    if (intervals.len <= start) {
-        return (struct refusal_Counted){.tag = refusal_Counted_Refused, .u.Refused = {.tag = refusal_Refusal_NoLock}};
-    }
-    struct refusal_Counted t9 = fields_finder_scan(p, slice_u16(intervals.at + start, intervals.len - start));
-    if (t9.tag == refusal_Counted_Refused) {
-        return (struct refusal_Counted){.tag = refusal_Counted_Refused, .u.Refused = t9.u.Refused};
-    }
-    return (struct refusal_Counted){.tag = refusal_Counted_Count, .u.Count = start + t9.u.Count};
-}
-
-/*
- * fields::finder::find_lock, crates/fields/src/finder.rt
- * 1, 2, 10; else the smallest place at which a lock stands with all 64 at or after `start`.
- */
-static struct refusal_Counted fields_finder_find_lock(struct timing_Profile p, struct slice_u16 intervals,
-        uint64_t start) {
-    struct refusal_Verdict t5 = timing_rule_check(p);
-    if (t5.tag == refusal_Verdict_Refused) {
-        return (struct refusal_Counted){.tag = refusal_Counted_Refused, .u.Refused = t5.u.Refused};
-    }
-    return fields_finder_search(p, intervals, start);
-}
-
-/*
- * fields::gather::sum_up, crates/fields/src/gather.rt
- * The code words of a part, turned into items: through the register, and to their places.
- */
-static struct items_Check fields_gather_sum_up(struct items_Check check, struct slice_u16_mut words, uint64_t at,
-        struct slice_u16_mut out) {
-    half_cells_words_to_bytes(words);
-    lists_store(slice_u16(words.at, words.len), at, out);
-    return items_Check_after_bytes(check, slice_u16(words.at, words.len));
-}
-
-/*
- * fields::gather::pass_items, crates/fields/src/gather.rt
- * One pass over the intervals of n bytes, each taken as a cell.
- */
-static struct fields_gather_Summed fields_gather_pass_items(struct timing_Profile p, struct slice_u16 intervals,
-        uint32_t n, struct slice_u16_mut out) {
-    struct array_u16_65 words = {0};
-    struct intervals_block_Progress at = intervals_block_Progress_start(p);
-    struct items_Check check = items_Check_fresh();
-    while (intervals_block_Progress_goes_on(at, n, intervals.len)) {
-        uint32_t done = at.pass.reading.words;
-        at = intervals_block_Progress_pass_on(at, intervals, 256, n, slice_u16_mut(words.a, 65));
-        uint64_t count = (uint64_t)(at.pass.reading.words - done);
-        check = fields_gather_sum_up(check, slice_u16_mut(words.a, count), (uint64_t)done, out);
-    }
-    struct intervals_Pass pass = at.pass;
-    return (struct fields_gather_Summed){.pass = pass, .check = check};
-}
-
-/*
- * fields::gather::gather, crates/fields/src/gather.rt
- * A field of n bytes. An interval among the used ones that is no cell comes before all else.
- */
-static struct fields_gather_Gathered fields_gather_gather(struct timing_Profile p, struct slice_u16 intervals,
-        uint32_t n, struct slice_u16_mut out) {
-    struct fields_gather_Summed read = fields_gather_pass_items(p, intervals, n, out);
-    struct intervals_Pass pass = read.pass;
-    uint64_t used = pass.used;
-    bool holds = read.check.register_ == 0;
-    struct refusal_Verdict t12 = intervals_edges_check_edges(p, slice_u16(intervals.at, used));
-    if (t12.tag == refusal_Verdict_Refused) {
-        return (struct fields_gather_Gathered){.end = {.tag = refusal_Counted_Refused, .u.Refused = t12.u.Refused},
-                .holds = holds};
-    }
-    return (struct fields_gather_Gathered){.end = fields_gather_conclude(pass.reading, used, n), .holds = holds};
-}
-
-/*
- * fields::reader::read_in_place, crates/fields/src/reader.rt
- * Reads alike, and stores as many items as there is room for, without a buffer between: after a refusal other numbers
- * may stand there. Who reads field after field has checked the profile once.
- */
-static struct fields_reader_FieldRead fields_reader_read_in_place(struct timing_Profile p, struct slice_u16 intervals,
-        uint64_t n, struct slice_u16_mut items) {
-    struct fields_gather_Gathered gathered = fields_gather_gather(p, intervals, (uint32_t)n, items);
-    struct refusal_Counted end = gathered.end;
-    if (end.tag == refusal_Counted_Refused) {
-        return (struct fields_reader_FieldRead){.tag = fields_reader_FieldRead_Refused, .u.Refused = end.u.Refused};
-    }
-    return (struct fields_reader_FieldRead){.tag = fields_reader_FieldRead_Field,
-            .u.Field = {.count = n, .used = end.u.Count, .holds = gathered.holds}};
-}
-
-/*
- * fields::reader::read_into, crates/fields/src/reader.rt
- * The items wait in a buffer, as a refusal changes nothing that was lent.
- */
-static struct fields_reader_FieldRead fields_reader_read_into(struct timing_Profile p, struct slice_u16 intervals,
-        uint64_t n, struct slice_u16_mut buffer, struct slice_u16_mut out) {
-    struct fields_gather_Gathered gathered = fields_gather_gather(p, intervals, (uint32_t)n, buffer);
-    struct refusal_Counted end = gathered.end;
-    if (end.tag == refusal_Counted_Refused) {
-        return (struct fields_reader_FieldRead){.tag = fields_reader_FieldRead_Refused, .u.Refused = end.u.Refused};
-    }
-    return fields_reader_deliver(slice_u16(buffer.at, n), end.u.Count, gathered.holds, out);
-}
-
-/*
- * fields::reader::read_checked, crates/fields/src/reader.rt
- * A short field has a short buffer: to clear the long one costs more than to read ten bytes.
- */
-static struct fields_reader_FieldRead fields_reader_read_checked(struct timing_Profile p, struct slice_u16 intervals,
-        uint64_t n, struct slice_u16_mut out) {
-    if (n <= 16) {
-        struct array_u16_16 buffer = {0};
-        return fields_reader_read_into(p, intervals, n, slice_u16_mut(buffer.a, 16), out);
-    }
-    struct array_u16_1030 buffer_2 = {0};
-    return fields_reader_read_into(p, intervals, n, slice_u16_mut(buffer_2.a, 1030), out);
-}
-
-/*
- * fields::reader::read_field, crates/fields/src/reader.rt
- * 1, 2, 12, then 5, 6 or 11 as first met, 8, 9. On acceptance the items fill the front of the output.
- */
-static struct fields_reader_FieldRead fields_reader_read_field(struct timing_Profile p, struct slice_u16 intervals,
-        uint64_t n, struct slice_u16_mut out) {
-    struct refusal_Verdict t6 = timing_rule_check(p);
-    if (t6.tag == refusal_Verdict_Refused) {
-        return (struct fields_reader_FieldRead){.tag = fields_reader_FieldRead_Refused, .u.Refused = t6.u.Refused};
-    }
-    if ((n < 1) | (1030 < n)) {
-        return (struct fields_reader_FieldRead){.tag = fields_reader_FieldRead_Refused,
-                .u.Refused = {.tag = refusal_Refusal_CountOutOfRange}};
-    }
-    return fields_reader_read_checked(p, intervals, n, out);
-}
-
-/*
- * fields::finder::three_marks_ahead, crates/fields/src/finder.rt
- * Whether the intervals begin as those of three A1 marks at a lock do. A field that does not is none of a sector, and
- * need not be read.
- */
-static bool fields_finder_three_marks_ahead(struct timing_Profile p, struct slice_u16 intervals) {
-    struct array_u64_15 marks = {{3, 4, 3, 4, 3, 2, 4, 3, 4, 3, 2, 4, 3, 4, 3}};
-    return fields_finder_begins_with(timing_cursor_Cursor_start(p), intervals, 0, slice_u64(marks.a, 15));
-}
-
 /* The crate lengths */
 
 /* lengths::table::either, crates/lengths/src/table.rt */
@@ -2929,6 +2601,408 @@ static struct best_Best best_best_windows(struct best_Writing w) {
     return result;
 }
 
+/* The crate locks */
+
+/*
+ * locks::runs::all_follow, crates/locks/src/runs.rt
+ * Whether each interval of a stretch is of class 2 if the one before it is: with no jump for any, so that it is told
+ * in vector instructions.
+ */
+static bool locks_runs_all_follow(struct timing_cursor_Cursor short_, struct slice_u16 intervals, uint64_t from) {
+    uint64_t end = from + 32;
+    bool all = true;
+    uint64_t k = from;
+    while (k < end) {
+        all = all & timing_cursor_Cursor_meets_two(short_, intervals.at[k]);
+        k++;
+    }
+    return all;
+}
+
+/*
+ * locks::finder::begins_with, crates/locks/src/finder.rt
+ * Whether the intervals from a place on have the classes of a pattern at their front.
+ */
+static bool locks_finder_begins_with(struct timing_cursor_Cursor start, struct slice_u16 intervals, uint64_t at,
+        struct slice_u64 pattern) {
+    if (intervals.len - at < pattern.len) return false;
+    struct timing_cursor_Cursor cursor = start;
+    uint64_t i = 0;
+    while (i < pattern.len) {
+        struct timing_cursor_Classed classed = timing_cursor_Cursor_step(cursor, intervals.at[at + i]);
+        struct timing_Class class = classed.class;
+        uint64_t t13 = timing_Class_number(class);
+        if (t13 == pattern.at[i]) {
+            cursor = classed.next;
+            i++;
+        } else {
+            return false;
+        }
+    }
+    return true;
+}
+
+/*
+ * locks::runs::last_sure, crates/locks/src/runs.rt
+ * The last place up to `from` whose interval is of class 2, or is not, after either kind; 0 if there is none.
+ */
+static uint64_t locks_runs_last_sure(struct timing_cursor_Cursor short_, struct timing_cursor_Cursor long_,
+        struct slice_u16 intervals, uint64_t from) {
+    uint64_t i = from;
+    while (0 < i) {
+        uint16_t interval = intervals.at[i];
+        bool t7 = timing_cursor_Cursor_meets_two(short_, interval);
+        if (t7 == timing_cursor_Cursor_meets_two(long_, interval)) return i;
+        i--;
+    }
+    return i;
+}
+
+/* locks::finder::later, crates/locks/src/finder.rt: The later of two places. */
+static uint64_t locks_finder_later(uint64_t a, uint64_t b) {
+    if (a < b) return b;
+    return a;
+}
+
+/* locks::finder::mark_ahead, crates/locks/src/finder.rt: Whether a lock's mark stands at a place. */
+static bool locks_finder_mark_ahead(struct timing_cursor_Cursor cursor, struct slice_u16 intervals, uint64_t at) {
+    struct array_u64_5 a1 = {{3, 4, 3, 4, 3}};
+    if (locks_finder_begins_with(cursor, intervals, at, slice_u64(a1.a, 5))) return true;
+    struct array_u64_10 c2 = {{3, 2, 3, 4, 3, 4, 2, 3, 4, 3}};
+    return locks_finder_begins_with(cursor, intervals, at, slice_u64(c2.a, 10));
+}
+
+/*
+ * locks::runs::next_two, crates/locks/src/runs.rt
+ * The first place from `from` on whose interval is of class 2; the length of the list where there is none. The
+ * classing goes from the last sure place on, and so from the start of the list only where no place before is sure.
+ */
+static uint64_t locks_runs_next_two(struct timing_Profile p, struct slice_u16 intervals, uint64_t from) {
+    struct timing_cursor_Cursor short_ = timing_cursor_Cursor_after(p, true);
+    struct timing_cursor_Cursor long_ = timing_cursor_Cursor_after(p, false);
+    struct timing_cursor_Cursor cursor = short_;
+    uint64_t i = locks_runs_last_sure(short_, long_, intervals, from);
+    while (i < from) {
+        cursor = timing_cursor_Cursor_past(cursor, intervals.at[i]);
+        i++;
+    }
+    if (timing_cursor_Cursor_meets_two(cursor, intervals.at[from])) return from;
+    i = from + 1;
+    while (i < intervals.len) {
+        if (timing_cursor_Cursor_meets_two(long_, intervals.at[i])) return i;
+        i++;
+    }
+    return i;
+}
+
+/* locks::runs::pass_stretches, crates/locks/src/runs.rt: Passes over whole stretches of a run. */
+static uint64_t locks_runs_pass_stretches(struct timing_cursor_Cursor short_, struct slice_u16 intervals,
+        uint64_t from) {
+    uint64_t k = from;
+    while (32 <= intervals.len - k) {
+        if (locks_runs_all_follow(short_, intervals, k)) {
+            k += 32;
+        } else {
+            return k;
+        }
+    }
+    return k;
+}
+
+/* locks::runs::pass_run, crates/locks/src/runs.rt: Passes over a run up to its end. */
+static uint64_t locks_runs_pass_run(struct timing_cursor_Cursor short_, struct slice_u16 intervals, uint64_t from) {
+    uint64_t k = locks_runs_pass_stretches(short_, intervals, from);
+    while (k < intervals.len) {
+        if (timing_cursor_Cursor_meets_two(short_, intervals.at[k])) {
+            k++;
+        } else {
+            return k;
+        }
+    }
+    return k;
+}
+
+/*
+ * locks::finder::scan, crates/locks/src/finder.rt
+ * Invariant: no lock stands before k, and those after `first` up to `seen` are of class 2 if the one before them is.
+ * The 64 before k are looked at from the last one back, but for the first of them; `seen` only grows, so that none is
+ * looked at twice. One that is not of class 2 after class 2 can only be the first of a run, and rules out every place
+ * that has it and the one before it among its 64. Where none is ruled out, the 64 are a run if their first is of class
+ * 2. Then the mark is looked for at the run's end, since no mark begins with class 2.
+ */
+static struct refusal_Counted locks_finder_scan(struct timing_Profile p, struct slice_u16 intervals) {
+    struct timing_cursor_Cursor short_ = timing_cursor_Cursor_after(p, true);
+    uint64_t first = 0;
+    uint64_t seen = 1;
+    struct refusal_Counted place;
+    for (;;) {
+        uint64_t k = first + 64;
+        if (intervals.len <= k) {
+            place = (struct refusal_Counted){.tag = refusal_Counted_Refused,
+                    .u.Refused = {.tag = refusal_Refusal_NoLock}};
+            break;
+        }
+        uint64_t i = k;
+        while (seen < i) {
+            i--;
+            if (timing_cursor_Cursor_meets_two(short_, intervals.at[i])) continue;
+            first = i;
+            seen = k;
+            goto next_1;
+        }
+        uint64_t begin = locks_runs_next_two(p, intervals, first);
+        if (first < begin) {
+            first = begin;
+            seen = locks_finder_later(k, begin + 1);
+            continue;
+        }
+        uint64_t end = locks_runs_pass_run(short_, intervals, k);
+        if (locks_finder_mark_ahead(short_, intervals, end)) {
+            place = (struct refusal_Counted){.tag = refusal_Counted_Count, .u.Count = end};
+            break;
+        }
+        first = end + 1;
+        seen = end + 2;
+        next_1:;
+    }
+    return place;
+}
+
+/*
+ * locks::finder::search, crates/locks/src/finder.rt
+ * Under an accepted profile. The intervals from `start` on are searched, and the place is counted from there.
+ */
+static struct refusal_Counted locks_finder_search(struct timing_Profile p, struct slice_u16 intervals, uint64_t start) {
+    if (intervals.len <= start) {
+        return (struct refusal_Counted){.tag = refusal_Counted_Refused, .u.Refused = {.tag = refusal_Refusal_NoLock}};
+    }
+    struct refusal_Counted t9 = locks_finder_scan(p, slice_u16(intervals.at + start, intervals.len - start));
+    if (t9.tag == refusal_Counted_Refused) {
+        return (struct refusal_Counted){.tag = refusal_Counted_Refused, .u.Refused = t9.u.Refused};
+    }
+    return (struct refusal_Counted){.tag = refusal_Counted_Count, .u.Count = start + t9.u.Count};
+}
+
+/*
+ * locks::finder::find_lock, crates/locks/src/finder.rt
+ * 1, 2, 10; else the smallest place at which a lock stands with all 64 at or after `start`.
+ */
+static struct refusal_Counted locks_finder_find_lock(struct timing_Profile p, struct slice_u16 intervals,
+        uint64_t start) {
+    struct refusal_Verdict t5 = timing_rule_check(p);
+    if (t5.tag == refusal_Verdict_Refused) {
+        return (struct refusal_Counted){.tag = refusal_Counted_Refused, .u.Refused = t5.u.Refused};
+    }
+    return locks_finder_search(p, intervals, start);
+}
+
+/*
+ * locks::finder::three_marks_ahead, crates/locks/src/finder.rt
+ * Whether the intervals begin as those of three A1 marks at a lock do. A field that does not is none of a sector, and
+ * need not be read.
+ */
+static bool locks_finder_three_marks_ahead(struct timing_Profile p, struct slice_u16 intervals) {
+    struct array_u64_15 marks = {{3, 4, 3, 4, 3, 2, 4, 3, 4, 3, 2, 4, 3, 4, 3}};
+    return locks_finder_begins_with(timing_cursor_Cursor_start(p), intervals, 0, slice_u64(marks.a, 15));
+}
+
+/* The crate fields */
+
+/*
+ * fields::gather::conclude, crates/fields/src/gather.rt
+ * How the pass over a field ends, with so many intervals used: 11, 8, or how many they are.
+ */
+static struct refusal_Counted fields_gather_conclude(struct symbols_Reading m, uint64_t used, uint32_t n) {
+    if (m.words < n) {
+        return (struct refusal_Counted){.tag = refusal_Counted_Refused,
+                .u.Refused = {.tag = refusal_Refusal_EndsEarly}};
+    }
+    if (symbols_Reading_is_stray(m)) {
+        return (struct refusal_Counted){.tag = refusal_Counted_Refused,
+                .u.Refused = {.tag = refusal_Refusal_MisplacedMark,
+                .u.MisplacedMark = symbols_Reading_stray_place(m, intervals_last_place(used))}};
+    }
+    return (struct refusal_Counted){.tag = refusal_Counted_Count, .u.Count = used};
+}
+
+/*
+ * fields::reader::deliver, crates/fields/src/reader.rt
+ * What was gathered, handed over where the output has room for it.
+ */
+static struct fields_reader_FieldRead fields_reader_deliver(struct slice_u16 items, uint64_t used, bool holds,
+        struct slice_u16_mut out) {
+    if (out.len < items.len) {
+        return (struct fields_reader_FieldRead){.tag = fields_reader_FieldRead_Refused,
+                .u.Refused = {.tag = refusal_Refusal_OutputTooShort}};
+    }
+    lists_store(items, 0, out);
+    return (struct fields_reader_FieldRead){.tag = fields_reader_FieldRead_Field,
+            .u.Field = {.count = items.len, .used = used, .holds = holds}};
+}
+
+/*
+ * fields::data::store_bytes, crates/fields/src/data.rt
+ * Items from a place on as bytes, as many as there is room for.
+ */
+static void fields_data_store_bytes(struct slice_u16 items, uint64_t at, struct slice_u8_mut out) {
+    if (out.len <= at) return;
+    uint64_t count = lists_at_most(out.len - at, items.len);
+    uint64_t k = 0;
+    while (k < count) {
+        out.at[at + k] = (uint8_t)(items.at[k] % 256);
+        k++;
+    }
+}
+
+/*
+ * fields::data::put_part, crates/fields/src/data.rt
+ * The code words of a part, the first of them the item of this number: the items before `skip` are passed over, the
+ * others go to their places.
+ */
+static void fields_data_put_part(struct slice_u16_mut words, uint64_t number, uint64_t skip, struct slice_u8_mut out) {
+    half_cells_words_to_bytes(words);
+    if (skip <= number) {
+        fields_data_store_bytes(slice_u16(words.at, words.len), number - skip, out);
+        return;
+    }
+    uint64_t first = lists_at_most(skip - number, words.len);
+    fields_data_store_bytes(slice_u16(words.at + first, words.len - first), 0, out);
+}
+
+/*
+ * fields::data::pass_bytes, crates/fields/src/data.rt
+ * One pass over the intervals of n bytes, each taken as a cell.
+ */
+static void fields_data_pass_bytes(struct timing_Profile p, struct slice_u16 intervals, uint32_t n, uint64_t skip,
+        struct slice_u8_mut out) {
+    struct array_u16_65 words = {0};
+    struct intervals_block_Progress at = intervals_block_Progress_start(p);
+    while (intervals_block_Progress_goes_on(at, n, intervals.len)) {
+        uint32_t done = at.pass.reading.words;
+        at = intervals_block_Progress_pass_on(at, intervals, 256, n, slice_u16_mut(words.a, 65));
+        uint64_t count = (uint64_t)(at.pass.reading.words - done);
+        fields_data_put_part(slice_u16_mut(words.a, count), (uint64_t)done, skip, out);
+    }
+}
+
+/*
+ * fields::data::read_bytes, crates/fields/src/data.rt
+ * From the item numbered `skip` on, as many as there is room for.
+ */
+static void fields_data_read_bytes(struct timing_Profile p, struct slice_u16 intervals, uint64_t n, uint64_t skip,
+        struct slice_u8_mut out) {
+    fields_data_pass_bytes(p, intervals, (uint32_t)n, skip, out);
+}
+
+/*
+ * fields::gather::sum_up, crates/fields/src/gather.rt
+ * The code words of a part, turned into items: through the register, and to their places.
+ */
+static struct items_Check fields_gather_sum_up(struct items_Check check, struct slice_u16_mut words, uint64_t at,
+        struct slice_u16_mut out) {
+    half_cells_words_to_bytes(words);
+    lists_store(slice_u16(words.at, words.len), at, out);
+    return items_Check_after_bytes(check, slice_u16(words.at, words.len));
+}
+
+/*
+ * fields::gather::pass_items, crates/fields/src/gather.rt
+ * One pass over the intervals of n bytes, each taken as a cell.
+ */
+static struct fields_gather_Summed fields_gather_pass_items(struct timing_Profile p, struct slice_u16 intervals,
+        uint32_t n, struct slice_u16_mut out) {
+    struct array_u16_65 words = {0};
+    struct intervals_block_Progress at = intervals_block_Progress_start(p);
+    struct items_Check check = items_Check_fresh();
+    while (intervals_block_Progress_goes_on(at, n, intervals.len)) {
+        uint32_t done = at.pass.reading.words;
+        at = intervals_block_Progress_pass_on(at, intervals, 256, n, slice_u16_mut(words.a, 65));
+        uint64_t count = (uint64_t)(at.pass.reading.words - done);
+        check = fields_gather_sum_up(check, slice_u16_mut(words.a, count), (uint64_t)done, out);
+    }
+    struct intervals_Pass pass = at.pass;
+    return (struct fields_gather_Summed){.pass = pass, .check = check};
+}
+
+/*
+ * fields::gather::gather, crates/fields/src/gather.rt
+ * A field of n bytes. An interval among the used ones that is no cell comes before all else.
+ */
+static struct fields_gather_Gathered fields_gather_gather(struct timing_Profile p, struct slice_u16 intervals,
+        uint32_t n, struct slice_u16_mut out) {
+    struct fields_gather_Summed read = fields_gather_pass_items(p, intervals, n, out);
+    struct intervals_Pass pass = read.pass;
+    uint64_t used = pass.used;
+    bool holds = read.check.register_ == 0;
+    struct refusal_Verdict t12 = intervals_edges_check_edges(p, slice_u16(intervals.at, used));
+    if (t12.tag == refusal_Verdict_Refused) {
+        return (struct fields_gather_Gathered){.end = {.tag = refusal_Counted_Refused, .u.Refused = t12.u.Refused},
+                .holds = holds};
+    }
+    return (struct fields_gather_Gathered){.end = fields_gather_conclude(pass.reading, used, n), .holds = holds};
+}
+
+/*
+ * fields::reader::read_in_place, crates/fields/src/reader.rt
+ * Reads alike, and stores as many items as there is room for, without a buffer between: after a refusal other numbers
+ * may stand there. Who reads field after field has checked the profile once.
+ */
+static struct fields_reader_FieldRead fields_reader_read_in_place(struct timing_Profile p, struct slice_u16 intervals,
+        uint64_t n, struct slice_u16_mut items) {
+    struct fields_gather_Gathered gathered = fields_gather_gather(p, intervals, (uint32_t)n, items);
+    struct refusal_Counted end = gathered.end;
+    if (end.tag == refusal_Counted_Refused) {
+        return (struct fields_reader_FieldRead){.tag = fields_reader_FieldRead_Refused, .u.Refused = end.u.Refused};
+    }
+    return (struct fields_reader_FieldRead){.tag = fields_reader_FieldRead_Field,
+            .u.Field = {.count = n, .used = end.u.Count, .holds = gathered.holds}};
+}
+
+/*
+ * fields::reader::read_into, crates/fields/src/reader.rt
+ * The items wait in a buffer, as a refusal changes nothing that was lent.
+ */
+static struct fields_reader_FieldRead fields_reader_read_into(struct timing_Profile p, struct slice_u16 intervals,
+        uint64_t n, struct slice_u16_mut buffer, struct slice_u16_mut out) {
+    struct fields_gather_Gathered gathered = fields_gather_gather(p, intervals, (uint32_t)n, buffer);
+    struct refusal_Counted end = gathered.end;
+    if (end.tag == refusal_Counted_Refused) {
+        return (struct fields_reader_FieldRead){.tag = fields_reader_FieldRead_Refused, .u.Refused = end.u.Refused};
+    }
+    return fields_reader_deliver(slice_u16(buffer.at, n), end.u.Count, gathered.holds, out);
+}
+
+/*
+ * fields::reader::read_checked, crates/fields/src/reader.rt
+ * A short field has a short buffer: to clear the long one costs more than to read ten bytes.
+ */
+static struct fields_reader_FieldRead fields_reader_read_checked(struct timing_Profile p, struct slice_u16 intervals,
+        uint64_t n, struct slice_u16_mut out) {
+    if (n <= 16) {
+        struct array_u16_16 buffer = {0};
+        return fields_reader_read_into(p, intervals, n, slice_u16_mut(buffer.a, 16), out);
+    }
+    struct array_u16_1030 buffer_2 = {0};
+    return fields_reader_read_into(p, intervals, n, slice_u16_mut(buffer_2.a, 1030), out);
+}
+
+/*
+ * fields::reader::read_field, crates/fields/src/reader.rt
+ * 1, 2, 12, then 5, 6 or 11 as first met, 8, 9. On acceptance the items fill the front of the output.
+ */
+static struct fields_reader_FieldRead fields_reader_read_field(struct timing_Profile p, struct slice_u16 intervals,
+        uint64_t n, struct slice_u16_mut out) {
+    struct refusal_Verdict t6 = timing_rule_check(p);
+    if (t6.tag == refusal_Verdict_Refused) {
+        return (struct fields_reader_FieldRead){.tag = fields_reader_FieldRead_Refused, .u.Refused = t6.u.Refused};
+    }
+    if ((n < 1) | (1030 < n)) {
+        return (struct fields_reader_FieldRead){.tag = fields_reader_FieldRead_Refused,
+                .u.Refused = {.tag = refusal_Refusal_CountOutOfRange}};
+    }
+    return fields_reader_read_checked(p, intervals, n, out);
+}
+
 /* The crate report */
 
 /* report::check_list, crates/report/src/lib.rt: Whether a list of intervals has a report: 1, 2, 4. */
@@ -3098,6 +3172,12 @@ static ism_index_entry track_index_converted(struct track_Entry entry) {
             .sector = entry.sector, .code = entry.code, .found = 0, .holds = 0};
 }
 
+/* track::set::entry_size, crates/track/src/set.rt */
+static uint64_t track_set_entry_size(ism_index_entry entry) {
+    if (entry.found == 0) return 0;
+    return 3 + sectors_sector_size(entry.code);
+}
+
 /* track::id::four_bytes, crates/track/src/id.rt: The four bytes fit a byte each, since they are data bytes. */
 static struct track_id_IdRead track_id_four_bytes(struct slice_u16 items, uint64_t used) {
     return (struct track_id_IdRead){.tag = track_id_IdRead_Id,
@@ -3153,7 +3233,7 @@ static struct track_opening_Opened track_opening_read_marked(struct timing_Profi
  */
 static struct track_opening_Opened track_opening_read_opened(struct timing_Profile p, struct slice_u16 intervals,
         uint64_t n, uint16_t kind, struct slice_u16_mut items) {
-    if (fields_finder_three_marks_ahead(p, intervals)) {
+    if (locks_finder_three_marks_ahead(p, intervals)) {
         return track_opening_read_marked(p, intervals, n, kind, items);
     }
     return (struct track_opening_Opened){.tag = track_opening_Opened_NoField};
@@ -3176,7 +3256,7 @@ static struct track_opening_Opened track_content_read_data(struct timing_Profile
  */
 static struct track_content_Sought track_content_find_data(struct timing_Profile p, struct slice_u16 intervals,
         uint64_t start, uint8_t code) {
-    struct refusal_Counted t8 = fields_finder_search(p, intervals, start);
+    struct refusal_Counted t8 = locks_finder_search(p, intervals, start);
     if (t8.tag == refusal_Counted_Refused) {
         return (struct track_content_Sought){.field = {.tag = track_DataField_Missing}, .end = start};
     }
@@ -3224,7 +3304,7 @@ static struct track_Step track_look_at(struct timing_Profile p, struct slice_u16
  * One search, from `start` on. The next starts at least 64 intervals after this one, so that they come to an end.
  */
 static struct track_Step track_find_entry(struct timing_Profile p, struct slice_u16 intervals, uint64_t start) {
-    struct refusal_Counted t5 = fields_finder_search(p, intervals, start);
+    struct refusal_Counted t5 = locks_finder_search(p, intervals, start);
     if (t5.tag == refusal_Counted_Refused) return (struct track_Step){.tag = track_Step_End};
     return track_look_at(p, intervals, t5.u.Count);
 }
@@ -3294,6 +3374,61 @@ static ism_index track_index_index_track(struct timing_Profile p, struct slice_u
         result.entries[each] = entries.a[each];
     }
     return result;
+}
+
+/*
+ * track::set::store_entry, crates/track/src/set.rt
+ * Number, code, whether its sum holds, and the data: read once more, since the index has kept none of it.
+ */
+static void track_set_store_entry(struct timing_Profile p, struct slice_u16 intervals, ism_index_entry entry,
+        uint64_t at, struct slice_u8_mut out) {
+    if (entry.found == 0) return;
+    uint64_t place = entry.data_place;
+    uint8_t code = entry.code;
+    uint64_t size = sectors_sector_size(code);
+    uint64_t data = at + 3;
+    uint64_t end = data + size;
+    out.at[at] = entry.sector;
+    out.at[at + 1] = code;
+    out.at[at + 2] = entry.holds;
+    struct slice_u8_mut t25 = slice_u8_mut(out.at + data, end - data);
+    fields_data_read_bytes(p, slice_u16(intervals.at + place, intervals.len - place), size + 6, 4, t25);
+}
+
+/*
+ * track::set::read_track, crates/track/src/set.rt
+ * 1, 2, 15, 9. On acceptance the set fills the front of the output, in the index's order.
+ */
+static struct track_set_TrackSet track_set_read_track(struct timing_Profile p, struct slice_u16 intervals,
+        struct slice_u8_mut out) {
+    ism_index index = track_index_index_track(p, intervals);
+    if (index.number != 0) {
+        return (struct track_set_TrackSet){.number = index.number, .place = index.place, .count = index.count,
+                .bytes = 0};
+    }
+    uint64_t count = 0;
+    uint64_t bytes = 0;
+    uint64_t k = 0;
+    while (k < 32) {
+        ism_index_entry entry = index.entries[k];
+        count += (uint64_t)entry.found;
+        bytes += track_set_entry_size(entry);
+        k++;
+    }
+    if (out.len < bytes) {
+        struct refusal_Refusal full = {.tag = refusal_Refusal_OutputTooShort};
+        uint32_t t26 = refusal_Refusal_number(full);
+        return (struct track_set_TrackSet){.number = t26, .place = refusal_Refusal_place(full), .count = 0, .bytes = 0};
+    }
+    uint64_t at = 0;
+    uint64_t j = 0;
+    while (j < 32) {
+        ism_index_entry entry_2 = index.entries[j];
+        track_set_store_entry(p, intervals, entry_2, at, out);
+        at += track_set_entry_size(entry_2);
+        j++;
+    }
+    return (struct track_set_TrackSet){.number = 0, .place = 0, .count = count, .bytes = bytes};
 }
 
 /* The crate words */
@@ -4541,7 +4676,7 @@ static struct speed_reader_Corrected speed_reader_read_at(struct timing_Profile 
  */
 static struct speed_reader_Corrected speed_reader_read_corrected(struct timing_Profile p, struct slice_u16 intervals,
         uint64_t start, uint64_t n, struct slice_u16_mut out) {
-    struct refusal_Counted t8 = fields_finder_find_lock(p, intervals, start);
+    struct refusal_Counted t8 = locks_finder_find_lock(p, intervals, start);
     if (t8.tag == refusal_Counted_Refused) return speed_reader_turn_away(t8.u.Refused);
     return speed_reader_read_at(p, intervals, t8.u.Count, n, out);
 }
@@ -4668,7 +4803,7 @@ static ism_answer ism_image_ism_read_image(struct slice_u16 words, struct slice_
 
 /* ism::version::ism_version, crates/ism/src/version.rt */
 static uint32_t ism_version_ism_version(void) {
-    return 1300;
+    return 1500;
 }
 
 /* ism::card::kind_number, crates/ism/src/card.rt */
@@ -4760,7 +4895,7 @@ static ism_answer ism_ism_class(ism_profile p, uint16_t interval, uint32_t two) 
 
 /* ism::disk::ism_find, crates/ism/src/disk.rt */
 static ism_answer ism_disk_ism_find(ism_profile p, struct slice_u16 intervals, uint64_t start) {
-    return ism_answer_(fields_finder_find_lock(ism_profile_(p), intervals, start));
+    return ism_answer_(locks_finder_find_lock(ism_profile_(p), intervals, start));
 }
 
 /* ism::index::ism_index_track, crates/ism/src/index.rt */
@@ -4809,6 +4944,13 @@ static ism_answer ism_disk_ism_read_field(ism_profile p, struct slice_u16 interv
         struct slice_u16_mut out) {
     struct clearance_ClearFieldRead field = clearance_read_field(ism_profile_(p), intervals, bytes, out);
     return ism_disk_field_answer(field);
+}
+
+/* ism::index::ism_read_track, crates/ism/src/index.rt: The set of a track's sectors, for the merge. */
+static ism_answer ism_index_ism_read_track(ism_profile p, struct slice_u16 intervals, struct slice_u8_mut set) {
+    struct track_set_TrackSet read = track_set_read_track(ism_profile_(p), intervals, set);
+    return (ism_answer){.number = read.number, .place = read.place, .count = read.count, .used = read.bytes, .holds = 0,
+            .clearance = 0};
 }
 
 /* ism::ism_write, crates/ism/src/lib.rt */
@@ -4962,6 +5104,13 @@ ism_answer ism_merge(const uint8_t *first, size_t n, const uint8_t *second, size
     uint8_t none_u8 = 0;
     return ism_passes_ism_merge(slice_u8(n == 0 ? &none_u8 : first, n), slice_u8(m == 0 ? &none_u8 : second, m),
             slice_u8_mut(room == 0 ? &none_u8 : out, room));
+}
+
+ism_answer ism_read_track(ism_profile profile, const uint16_t *intervals, size_t n, uint8_t *set, size_t room) {
+    uint16_t none_u16 = 0;
+    uint8_t none_u8 = 0;
+    return ism_index_ism_read_track(profile, slice_u16(n == 0 ? &none_u16 : intervals, n),
+            slice_u8_mut(room == 0 ? &none_u8 : set, room));
 }
 
 ism_report ism_drive_report(ism_profile profile, const uint16_t *intervals, size_t n) {

@@ -26,10 +26,10 @@ use Rattle.lengths.specs.Margin.{marginRule}
 use Rattle.intervals.specs.Cells.{edgeRule, cellsRead}
 use Rattle.codec.specs.Writer.{streamRule, writeRule, writeOutput}
 use Rattle.codec.specs.Reader.{itemsOfStream, readRule, readOutput}
-use Rattle.fields.specs.Lock.{lockAt, firstLock, lockFrom, countedFrom, searchRule, findRule}
+use Rattle.locks.specs.Lock.{lockAt, firstLock, lockFrom, countedFrom, searchRule, findRule}
 use Rattle.fields.specs.Field.{fieldStop, fieldStray}
 use Rattle.fields.specs.FieldRule.{fieldRule, fieldOutput}
-use Rattle.fields.proofs.FirstLockLaws.{lock-from-found, adrift-has-no-lock}
+use Rattle.locks.proofs.FirstLockLaws.{lock-from-found, adrift-has-no-lock}
 use Rattle.fields.proofs.FieldLaws.{field-items-count}
 use Rattle.sectors.specs.Sector.{isMisfitInMaker, sectorRule, sectorOutput}
 use Rattle.merge.specs.Merge.{isCrowded, numbers, atOddsAt}

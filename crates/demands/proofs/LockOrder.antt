@@ -9,8 +9,8 @@ use native.Mathlib.Omega.{arith}
 use lib.ListN.{length}
 use Rattle.refusal.specs.Answer.{Answer, accepted, refused, firstRefusal}
 use Rattle.timing.specs.declared.Class.{Class}
-use Rattle.fields.specs.Lock.{lockAt, firstLock, lockFrom, countedFrom}
-use Rattle.fields.proofs.FirstLockLaws.{lock-from-found, adrift-has-no-lock}
+use Rattle.locks.specs.Lock.{lockAt, firstLock, lockFrom, countedFrom}
+use Rattle.locks.proofs.FirstLockLaws.{lock-from-found, adrift-has-no-lock}
 use Rattle.demands.specs.Order.{Order, accept, turn, at0, Answers}
 use Rattle.demands.specs.Causes.{Adrift}
 use Rattle.demands.proofs.OrderLaws.{answers-accepted, answers-here, answers-later}

@@ -10,7 +10,7 @@ use Rattle.refusal.specs.Answer.{Answer, accepted, refuseIf, firstRefusal}
 use Rattle.timing.specs.Profile.{outside, profileRule}
 use Rattle.timing.specs.Class.{classesOf}
 use Rattle.timing.specs.declared.Profile.{Profile}
-use Rattle.fields.specs.Lock.{searchRule, findRule}
+use Rattle.locks.specs.Lock.{searchRule, findRule}
 use Rattle.fields.specs.Field.{fieldStop, fieldItems, fieldStray, fieldStrayPlace}
 use Rattle.fields.specs.FieldRule.{fieldRule}
 use Rattle.fields.proofs.FieldLaws.{field-items-count}

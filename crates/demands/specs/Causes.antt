@@ -18,7 +18,7 @@ use Rattle.symbols.specs.Strip.{isRagged, bytesRead, isStray, strayPlace}
 use Rattle.lengths.specs.Stream.{streamOf}
 use Rattle.intervals.specs.Cells.{cellsOfClasses, cellsRead}
 use Rattle.codec.specs.Reader.{itemsOfStream}
-use Rattle.fields.specs.Lock.{lockAt}
+use Rattle.locks.specs.Lock.{lockAt}
 use Rattle.fields.specs.Field.{bitsWanted, fieldStray, fieldStrayPlace}
 use Rattle.sectors.specs.Sector.{isMisfit, sectorItems}
 use Rattle.demands.specs.Order.{Order, accept, turn, at0}

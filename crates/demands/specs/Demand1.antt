@@ -13,7 +13,7 @@ use Rattle.lengths.specs.Stream.{streamOf}
 use Rattle.lengths.specs.Margin.{marginRule}
 use Rattle.codec.specs.Writer.{writeRule, writeOutput}
 use Rattle.codec.specs.Reader.{itemsOfStream, readRule, readOutput}
-use Rattle.fields.specs.Lock.{findRule}
+use Rattle.locks.specs.Lock.{findRule}
 use Rattle.fields.specs.Field.{fieldUsed, fieldItems}
 use Rattle.fields.specs.FieldRule.{fieldRule, fieldReading, fieldOutput, fieldRest, restPlace}
 use Rattle.sectors.specs.Sector.{sectorItems, sectorRule, sectorOutput}

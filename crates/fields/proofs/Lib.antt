@@ -1,7 +1,3 @@
-pub mod LockLaws
-pub mod FinderLaws
-pub mod MarkLaws
-pub mod RunLaws
 pub mod TakenLaws
 pub mod EnoughLaws
 pub mod FieldLaws
@@ -11,10 +7,7 @@ pub mod TakenFieldLaws
 pub mod RuleLaws
 pub mod ReaderLaws
 pub mod MarksLaws
-pub mod FirstLockLaws
-pub mod FillerLaws
 pub mod WrittenFieldLaws
-pub mod StartLaws
 pub mod EndLaws
 pub mod PartLaws
 pub mod BytesLaws

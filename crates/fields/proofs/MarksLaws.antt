@@ -28,12 +28,12 @@ use Rattle.symbols.proofs.RowLaws.{written-of-row}
 use Rattle.symbols.proofs.ReadingLaws.{cells-of-read}
 use Rattle.fields.specs.Field.{bitsWanted, cellsTaken, fieldCells, fieldItems}
 use Rattle.fields.specs.FieldRule.{fieldRule}
-use Rattle.fields.specs.Lock.{beginsWith}
-use Rattle.fields.specs.machine.Marks.{threeMarks}
+use Rattle.locks.specs.Lock.{beginsWith}
+use Rattle.locks.specs.machine.Marks.{threeMarks}
 use Rattle.fields.proofs.TakenLaws.{taken-one-more, by-taking}
 use Rattle.fields.proofs.FieldLaws.{field-items-of-cells, field-stray-of-cells}
 use Rattle.fields.proofs.RuleLaws.{gather-stops-nowhere, gather-meets-no-stray, gather-accepts}
-use Rattle.fields.proofs.MarkLaws.{number-of-read}
+use Rattle.locks.proofs.MarkLaws.{number-of-read}
 
 -- ---- bits without a gap out of place are those of the bytes that they read as, and what is left over
 

@@ -1,12 +1,11 @@
 -- Document 01, "Finding and reading a field": two lists that agree in the used intervals get equal answers from the
--- first entry, under the same profile and n, where one of them is accepted and the outputs are equally long. And
--- document 02, (ix): before the first interval of a search the previous counts as class 2. No lemmas here.
+-- first entry, under the same profile and n, where one of them is accepted and the outputs are equally long. No lemmas
+-- here.
 use Prim.Native.Nat.{ℕ}
 use mathlib.Core.Path.{_≡_}
 use mathlib.Core.List.{List}
-use lib.ListN.{length, take, drop}
+use lib.ListN.{length, take}
 use Rattle.timing.specs.declared.Profile.{Profile}
-use Rattle.fields.specs.Lock.{countedFrom, findRule}
 use Rattle.fields.specs.FieldRule.{fieldRule, fieldReading, fieldOutput}
 
 abbrev pub UsedIntervalsDecide : Type 0
@@ -16,9 +15,3 @@ UsedIntervalsDecide =
     → take (fieldReading p ds n (length old) .used) es ≡ take (fieldReading p ds n (length old) .used) ds
     → (fieldReading p es n (length old) ≡ fieldReading p ds n (length old))
     × (fieldOutput p es n old ≡ fieldOutput p ds n old)
-
--- the first interval of a search is the one at its start: the finder from a start is the finder over the rest
-abbrev pub SearchesStartAnew : Type 0
-SearchesStartAnew =
-    (p : Profile) (ds : List ℕ) (start : ℕ)
-    → findRule p ds start ≡ countedFrom start (findRule p (drop start ds) 0)

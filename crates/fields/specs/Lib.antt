@@ -1,4 +1,3 @@
-pub mod Lock
 pub mod Field
 pub mod FieldRule
 pub mod Bytes

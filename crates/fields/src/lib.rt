@@ -1,6 +1,4 @@
-// Document 01, "Finding and reading a field".
+// Document 01, "Finding and reading a field": the field at a lock.
 pub mod data;
-pub mod finder;
 pub mod gather;
 pub mod reader;
-mod runs;

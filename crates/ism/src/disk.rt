@@ -1,7 +1,7 @@
 // Finder, field reader and sector maker.
 ghost use mathlib.Core.Path.{_≡_};
 ghost use lib.ListN.{length};
-ghost use Rattle.fields.specs.Lock.{findRule};
+ghost use Rattle.locks.specs.Lock.{findRule};
 ghost use Rattle.fields.specs.FieldRule.{fieldOutput};
 ghost use Rattle.sectors.specs.Sector.{sectorRule, sectorOutput};
 ghost use Rattle.clearance.specs.Answers.{clearFieldAnswer, fieldWithClearance};
@@ -17,7 +17,7 @@ use fields::reader::FieldRead;
 pub extern "C" fn ism_find(p: IsmProfile, intervals: &[u16], start: u64) -> IsmAnswer
     ensures { λ r. ⌜ r ≡ answerOf (findRule (profileOf p) (now (intervals .entry)) start) ⌝ }
 {
-    answer(fields::finder::find_lock(profile(p), intervals, start as usize))
+    answer(locks::finder::find_lock(profile(p), intervals, start as usize))
 }
 
 fn field_answer(field: ClearFieldRead) -> IsmAnswer

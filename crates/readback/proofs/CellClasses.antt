@@ -25,7 +25,7 @@ use Rattle.symbols.proofs.MiddleLaws.{cellsBefore, cells-after-byte}
 use Rattle.symbols.proofs.FormatLaws.{cells-of-zero-bytes, cells-of-mark-A1, fillerCells, fillerAfter, filler-is-read}
 use Rattle.lengths.specs.Units.{classOfUnits}
 use Rattle.intervals.proofs.CellLaws.{classOfCell}
-use Rattle.fields.proofs.FillerLaws.{markA1, passes}
+use Rattle.locks.proofs.FillerLaws.{markA1, passes}
 use Rattle.demands.proofs.ClassCells.{classes-of-cells}
 use Rattle.readback.specs.SectorReads.{placeAfter}
 use Rattle.readback.proofs.WrittenSector.{A1}

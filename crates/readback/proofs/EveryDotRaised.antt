@@ -8,7 +8,7 @@ use Rattle.symbols.specs.Bits.{byteBits, withGaps, markBits, writtenBits, allBi
 use Rattle.symbols.specs.Cells.{pairSymbols, symbolsFrom, symbolsOf, writtenSymbols}
 use Rattle.lengths.specs.Lengths.{point, symbolAfter, cellLength, lengthsFrom, lengthsOf}
 use Rattle.lengths.specs.Stream.{byteStream, streamOf}
-use Rattle.fields.specs.Lock.{beginsWith, lockPatterns, markAhead, lockAt}
+use Rattle.locks.specs.Lock.{beginsWith, lockPatterns, markAhead, lockAt}
 use Rattle.readback.specs.NoLockInData.{EveryDotRaised}
 
 pub every-dot-raised : EveryDotRaised

@@ -24,11 +24,11 @@ use Rattle.symbols.specs.Bytes.{isGap}
 use Rattle.symbols.specs.declared.Cell.{Cell}
 use Rattle.symbols.proofs.ReadingLaws.{last-is-no-gap}
 use Rattle.intervals.proofs.CellLaws.{classOfCell}
-use Rattle.fields.specs.Lock.{lockFrom, findRule}
+use Rattle.locks.specs.Lock.{lockFrom, findRule}
 use Rattle.fields.specs.Field.{fieldCells, fieldUsed}
 use Rattle.fields.specs.FieldRule.{FieldAnswer}
-use Rattle.fields.proofs.FillerLaws.{passes, lock-after-filler}
-use Rattle.fields.proofs.FirstLockLaws.{first-lock-is-found}
+use Rattle.locks.proofs.FillerLaws.{passes, lock-after-filler}
+use Rattle.locks.proofs.FirstLockLaws.{first-lock-is-found}
 use Rattle.fields.proofs.WrittenFieldLaws.{restOfCells, used-and-rest, rest-of-field-is-read}
 use Rattle.demands.specs.Streams.{AcceptedProfile}
 use Rattle.demands.proofs.UsedLaws.{field-has-intervals}

@@ -23,9 +23,9 @@ use Rattle.symbols.specs.Bits.{O, I, byteBits, writtenBits, allBits}
 use Rattle.symbols.specs.Bytes.{isGap}
 use Rattle.symbols.specs.Reading.{readBits}
 use Rattle.lengths.specs.Stream.{streamOf}
-use Rattle.fields.specs.Lock.{lockAt}
-use Rattle.fields.proofs.MarkLaws.{no-lock-behind}
-use Rattle.fields.proofs.FirstLockLaws.{none-is-found}
+use Rattle.locks.specs.Lock.{lockAt}
+use Rattle.locks.proofs.MarkLaws.{no-lock-behind}
+use Rattle.locks.proofs.FirstLockLaws.{none-is-found}
 use Rattle.demands.specs.Streams.{AcceptedProfile, Moved}
 use Rattle.demands.specs.Demand3.{stated}
 use Rattle.demands.proofs.Demand3.{moved-has-classes, moved-is-behind}

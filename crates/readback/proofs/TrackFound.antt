@@ -17,10 +17,10 @@ use Rattle.items.proofs.WrittenLaws.{written-from-none}
 use Rattle.symbols.specs.Bits.{O, byteBits, writtenBits, allBits}
 use Rattle.symbols.specs.Bytes.{isGap}
 use Rattle.lengths.specs.Stream.{streamOf}
-use Rattle.fields.specs.Lock.{lockAt}
+use Rattle.locks.specs.Lock.{lockAt}
 use Rattle.fields.specs.Bytes.{byteOf}
-use Rattle.fields.proofs.MarkLaws.{no-lock-behind}
-use Rattle.fields.proofs.FirstLockLaws.{none-is-found}
+use Rattle.locks.proofs.MarkLaws.{no-lock-behind}
+use Rattle.locks.proofs.FirstLockLaws.{none-is-found}
 use Rattle.track.specs.Index.{entriesFrom, entriesOf}
 use Rattle.track.specs.HandedBack.{dataPlaceOf}
 use Rattle.track.specs.TrackSectors.{dataAt}

@@ -13,7 +13,7 @@ use Rattle.timing.specs.declared.Class.{Class}
 use Rattle.items.specs.Item.{isMark}
 use Rattle.items.specs.Rule.{listRule}
 use Rattle.lengths.specs.Stream.{streamOf}
-use Rattle.fields.specs.Lock.{beginsWith, lockAt, findRule}
+use Rattle.locks.specs.Lock.{beginsWith, lockAt, findRule}
 use Rattle.demands.specs.Streams.{AcceptedProfile, Moved}
 use Rattle.demands.specs.Demand3.{stated}
 use Rattle.demands.specs.Settled.{worked}

@@ -16,7 +16,7 @@ use Rattle.items.specs.Rule.{listRule}
 use Rattle.symbols.specs.Bits.{O, allBits}
 use Rattle.symbols.specs.Cells.{symbolsOf, cellsOf}
 use Rattle.lengths.specs.Stream.{streamOf}
-use Rattle.fields.specs.Lock.{findRule}
+use Rattle.locks.specs.Lock.{findRule}
 use Rattle.fields.specs.Field.{fieldUsed}
 use Rattle.fields.specs.FieldRule.{fieldReading, fieldOutput}
 use Rattle.sectors.specs.Sector.{sectorSize, sectorItems, isMisfit}

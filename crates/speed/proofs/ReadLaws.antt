@@ -19,13 +19,13 @@ use Rattle.timing.specs.declared.Profile.{Profile}
 use Rattle.timing.specs.declared.Class.{Class}
 use Rattle.timing.proofs.ClassLaws.{classes-length}
 use Rattle.timing.proofs.ProfileLaws.{kept}
-use Rattle.fields.specs.Lock.{lockAt, lockFrom, searchRule, findRule}
+use Rattle.locks.specs.Lock.{lockAt, lockFrom, searchRule, findRule}
 use Rattle.fields.specs.Field.{fieldUsed, fieldHolds}
 use Rattle.fields.specs.FieldRule.{FieldAnswer, fieldAnswer, fieldTurnedAway, answerWith, fieldRule, fieldReading, fieldOutput}
 use Rattle.fields.specs.machine.Gather.{gatherRule, checkedRule, checkedReading, checkedOutput}
 use Rattle.fields.specs.declared.reader.FieldRead.the-variants.{Field}
-use Rattle.fields.proofs.FinderLaws.{lock-is-within}
-use Rattle.fields.proofs.FirstLockLaws.{lock-from-found}
+use Rattle.locks.proofs.FinderLaws.{lock-is-within}
+use Rattle.locks.proofs.FirstLockLaws.{lock-from-found}
 use Rattle.fields.proofs.ReaderLaws.{answer-is-its-rule, count-refuses, checked-settles}
 use Rattle.fields.proofs.RuleLaws.{gather-refuses}
 use Rattle.clearance.specs.Clearance.{leastClearance}

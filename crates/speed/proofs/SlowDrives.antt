@@ -13,7 +13,7 @@ use Rattle.refusal.proofs.AnswerLaws.{first-refusal-accepts, first-refusal-pass
 use Rattle.timing.specs.Profile.{profileRule}
 use Rattle.timing.specs.declared.Profile.{Profile}
 use Rattle.timing.proofs.ProfileLaws.{kept}
-use Rattle.fields.specs.Lock.{findRule}
+use Rattle.locks.specs.Lock.{findRule}
 use Rattle.fields.specs.FieldRule.{fieldRule, fieldReading, fieldOutput}
 use Rattle.clearance.specs.Answers.{ClearFieldAnswer, fieldWithClearance}
 use Rattle.speed.specs.Speed.{s0, s1, nominal, offSpeed, paceRule, speedRule, corrected, correctedFrom, correctedAt}

@@ -7,7 +7,7 @@ use lib.ListN.{length, drop}
 use Rattle.refusal.specs.Answer.{accepted}
 use Rattle.timing.specs.Profile.{profileRule}
 use Rattle.timing.specs.declared.Profile.{Profile}
-use Rattle.fields.specs.Lock.{findRule}
+use Rattle.locks.specs.Lock.{findRule}
 use Rattle.fields.specs.FieldRule.{fieldOutput}
 use Rattle.clearance.specs.Answers.{fieldWithClearance}
 use Rattle.speed.specs.Speed.{s0, s1, nominal, offSpeed, speedRule, corrected, correctedAt}

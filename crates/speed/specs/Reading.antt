@@ -9,7 +9,7 @@ use lib.ListN.{length}
 use Rattle.refusal.specs.Answer.{Answer, firstRefusal, settled}
 use Rattle.timing.specs.Class.{classesOf}
 use Rattle.timing.specs.declared.Profile.{Profile}
-use Rattle.fields.specs.Lock.{findRule}
+use Rattle.locks.specs.Lock.{findRule}
 use Rattle.fields.specs.Field.{fieldItems}
 use Rattle.fields.specs.FieldRule.{fieldAnswer, fieldTurnedAway, fieldRule}
 use Rattle.clearance.specs.Answers.{ClearFieldAnswer, fieldWithClearance}

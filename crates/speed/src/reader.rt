@@ -193,7 +193,7 @@ pub fn read_corrected(
     ensures output { λ _. ⌜
         now (out .exit) ≡ correctedOutput p (now (intervals .entry)) start n (now (out .entry)) ⌝ }
 {
-    match fields::finder::find_lock(p, intervals, start) {
+    match locks::finder::find_lock(p, intervals, start) {
         Counted::Refused(refusal) => turn_away(refusal),
         Counted::Count(lock) => read_at(p, intervals, lock, n, out),
     }

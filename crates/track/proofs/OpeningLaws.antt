@@ -19,8 +19,8 @@ use Rattle.timing.specs.declared.Profile.{Profile}
 use Rattle.fields.specs.Field.{fieldItems}
 use Rattle.fields.specs.FieldRule.{fieldTurnedAway, fieldRule, fieldReading}
 use Rattle.fields.specs.machine.Gather.{GathersItems}
-use Rattle.fields.specs.Lock.{beginsWith}
-use Rattle.fields.specs.machine.Marks.{threeMarks}
+use Rattle.locks.specs.Lock.{beginsWith}
+use Rattle.locks.specs.machine.Marks.{threeMarks}
 use Rattle.fields.proofs.FieldLaws.{field-items-count}
 use Rattle.fields.proofs.RuleLaws.{gather-stops-nowhere, gather-accepts}
 use Rattle.fields.proofs.ReaderLaws.{output-is-items}

@@ -22,9 +22,9 @@ use Rattle.timing.specs.Class.{classesOf}
 use Rattle.timing.specs.declared.Profile.{Profile}
 use Rattle.timing.specs.declared.Class.{Class}
 use Rattle.timing.proofs.ClassLaws.{classes-length}
-use Rattle.fields.specs.Lock.{lockAt, lockFrom, searchRule, findRule}
-use Rattle.fields.proofs.FinderLaws.{lock-is-within}
-use Rattle.fields.proofs.FirstLockLaws.{lock-from-found, search-finds}
+use Rattle.locks.specs.Lock.{lockAt, lockFrom, searchRule, findRule}
+use Rattle.locks.proofs.FinderLaws.{lock-is-within}
+use Rattle.locks.proofs.FirstLockLaws.{lock-from-found, search-finds}
 use Rattle.track.specs.FieldKinds.{isId, dataBytes}
 use Rattle.track.specs.Index.{hasLock, lockPlace, fieldEnd, hasData, idByte, entryEnd, nextStart, entriesAt}
 use Rattle.track.specs.Index.{entriesBy, entriesFrom}

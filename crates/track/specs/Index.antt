@@ -8,7 +8,7 @@ use lib.ListN.{length, getD, drop, replicate}
 use Rattle.refusal.specs.Answer.{Answer, accepted, refuseIf, firstRefusal}
 use Rattle.timing.specs.Profile.{profileRule}
 use Rattle.timing.specs.declared.Profile.{Profile}
-use Rattle.fields.specs.Lock.{findRule}
+use Rattle.locks.specs.Lock.{findRule}
 use Rattle.track.specs.FieldKinds.{fieldOf, itemsOf, isId, dataBytes, isData}
 use Rattle.track.specs.Order.{inOrder}
 use Rattle.track.specs.declared.DataField.{DataField}

@@ -5,7 +5,7 @@ ghost use Rattle.track.specs.machine.Steps.{dataRead, sought};
 use crate::DataField;
 use crate::opening::Opened;
 use crate::opening::read_opened;
-use fields::finder::search;
+use locks::finder::search;
 use refusal::Counted;
 use timing::Profile;
 

@@ -5,9 +5,9 @@ ghost use lib.ListN.{length};
 ghost use Rattle.timing.specs.Profile.{profileRule};
 ghost use Rattle.track.specs.FieldKinds.{opensWith};
 ghost use Rattle.track.specs.machine.Steps.{openedOf, GivesItems};
-use fields::finder::three_marks_ahead;
 use fields::reader::FieldRead;
 use fields::reader::read_in_place;
+use locks::finder::three_marks_ahead;
 use timing::Profile;
 
 // The mark byte A1.

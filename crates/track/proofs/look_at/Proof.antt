@@ -2,7 +2,7 @@
 use mathlib.Core.Path.{_≡_, sym, ap, _∙_}
 use native.Mathlib.Omega.{arith}
 use lib.ListN.{drop}
-use Rattle.fields.proofs.LockLaws.{part-to-end}
+use Rattle.locks.proofs.LockLaws.{part-to-end}
 use Rattle.track.specs.machine.Steps.{idRead}
 use Rattle.track.proofs.StepLaws.{no-id-no-entry, id-ends-within, entry-begins}
 use borrow.Author.Needs.{needs}

@@ -7,7 +7,7 @@ use native.Mathlib.Omega.{arith}
 use borrow.Author.Needs.{needs}
 use Rattle.lists.specs.Filled.{storedAt}
 use Rattle.fields.specs.Bytes.{byteOf}
-use Rattle.fields.proofs.LockLaws.{part-to-end}
+use Rattle.locks.proofs.LockLaws.{part-to-end}
 use Rattle.fields.proofs.BytesLaws.{all-stored, rest-stored}
 use Rattle.fields.proofs.data.put_part.Statement.{statement}
 use Rattle.fields.proofs.data.put_part.Tie as tie

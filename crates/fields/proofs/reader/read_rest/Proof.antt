@@ -9,7 +9,7 @@ use borrow.Author.Needs.{needs}
 use Rattle.timing.specs.declared.Profile.{Profile}
 use Rattle.fields.specs.FieldRule.{FieldAnswer, fieldAnswer, fieldReading, fieldRest, restPlace}
 use Rattle.fields.specs.declared.reader.FieldRead.{FieldRead}
-use Rattle.fields.proofs.LockLaws.{part-to-end}
+use Rattle.locks.proofs.LockLaws.{part-to-end}
 use Rattle.fields.proofs.ReaderLaws.{used-is-within}
 use Rattle.fields.proofs.reader.read_rest.Statement.{statement}
 use Rattle.fields.proofs.reader.read_rest.Tie as tie

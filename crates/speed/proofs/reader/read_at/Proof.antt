@@ -9,7 +9,7 @@ use borrow.Author.Needs.{needs}
 use Rattle.refusal.specs.Answer.{verdictAnswer}
 use Rattle.refusal.proofs.AnswerLaws.{verdict-accepts}
 use Rattle.timing.proofs.ProfileLaws.{kept}
-use Rattle.fields.proofs.LockLaws.{part-to-end}
+use Rattle.locks.proofs.LockLaws.{part-to-end}
 use Rattle.speed.specs.Speed.{runBefore, speedRule}
 use Rattle.speed.specs.machine.Cut.{Measured}
 use Rattle.speed.specs.machine.Read.{toldBy}

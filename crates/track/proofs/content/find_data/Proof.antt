@@ -4,7 +4,7 @@ use mathlib.Core.Path.{_≡_, sym, ap, _∙_}
 use native.Mathlib.Omega.{arith}
 use lib.ListN.{drop}
 use borrow.Author.Needs.{needs}
-use Rattle.fields.proofs.LockLaws.{part-to-end}
+use Rattle.locks.proofs.LockLaws.{part-to-end}
 use Rattle.track.specs.machine.Steps.{dataRead}
 use Rattle.track.proofs.SearchLaws.{Lock, search-means}
 use Rattle.track.proofs.StepLaws.{no-lock-no-data, other-lock-no-data, data-ends-within, data-is-sought}

@@ -7,7 +7,7 @@ use lib.ListN.{length, set, length-set}
 use borrow.Author.Needs.{needs}
 use Rattle.sectors.proofs.SectorCounts.{size-at-most-1024}
 use Rattle.lists.proofs.StoreLaws.{stored-length}
-use Rattle.fields.proofs.LockLaws.{part-to-end}
+use Rattle.locks.proofs.LockLaws.{part-to-end}
 use Rattle.track.specs.FieldKinds.{dataBytes}
 use Rattle.track.proofs.HandedLaws.{bytes-count, size-with-data}
 use Rattle.track.proofs.StoredLaws.{data-gathers, as-long, nothing-stored, entry-stored}

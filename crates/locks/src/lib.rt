@@ -1,0 +1,3 @@
+// Document 01, "Finding and reading a field": where a lock stands.
+pub mod finder;
+mod runs;
