@@ -15,7 +15,7 @@ pub enum Asked {
     Help,
     Version,
     Pack { from: PathBuf, to: PathBuf, density: Density, force: bool },
-    Unpack { from: PathBuf, second: Option<PathBuf>, to: PathBuf, pages: Option<u64>, force: bool },
+    Unpack { from: PathBuf, second: Option<PathBuf>, to: PathBuf, pages: Option<usize>, force: bool },
     List { master: PathBuf },
     Show { master: PathBuf, page: u8 },
 }
@@ -124,7 +124,7 @@ fn asked(name: &str, words: Vec<OsString>, options: Options) -> Result<Asked, Fa
 }
 
 /// A number of pages, or of a page, that the library takes.
-fn number(name: &str, value: &OsStr) -> Result<u64, Failure> {
+fn number(name: &str, value: &OsStr) -> Result<usize, Failure> {
     let shown = value.to_string_lossy();
     let number = shown.parse().map_err(|_| usage(&format!("{name} is a number, not {shown}")))?;
     match count_refused(number) {

@@ -63,7 +63,7 @@ fn pack(from: &Path, to: &Path, density: Density, force: bool) -> Result<(), Fai
 }
 
 /// The braille file of a master, or of two passes over it.
-fn unpack(from: &Path, second: Option<&Path>, to: &Path, count: Option<u64>, force: bool) -> Result<(), Failure> {
+fn unpack(from: &Path, second: Option<&Path>, to: &Path, count: Option<usize>, force: bool) -> Result<(), Failure> {
     let book = Book::of(to)?;
     let target = Target::new(to, force)?;
     let paths: Vec<&Path> = [from].into_iter().chain(second).collect();

@@ -67,7 +67,7 @@ impl Master {
     /// that belongs to no sector; where every pass has such fields, it is not certain.
     pub fn all_pages(&self) -> Result<Vec<Read>, Vec<String>> {
         let count = self.highest();
-        let pages = self.pages(count as u64)?;
+        let pages = self.pages(count)?;
         if self.passes.iter().any(|pass| pass.strays.is_empty()) {
             return Ok(pages);
         }
@@ -79,12 +79,12 @@ impl Master {
     }
 
     /// Pages 1 to `count`, or a line for each that was not read, or one for the whole set.
-    pub fn pages(&self, count: u64) -> Result<Vec<Read>, Vec<String>> {
+    pub fn pages(&self, count: usize) -> Result<Vec<Read>, Vec<String>> {
         let refusal = match pages::pages_of(&self.set, count) {
             Ok(pages) => return Ok(pages),
             Err(refusal) => refusal,
         };
-        let single = |number: u64| self.page(number as u8).err();
+        let single = |number: usize| self.page(number as u8).err();
         match refusal.number() {
             19 | 20 => Err((1..=count).filter_map(single).collect()),
             _ => Err(vec![page_refused(refusal)]),

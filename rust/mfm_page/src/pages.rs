@@ -16,14 +16,14 @@ pub struct Read {
 pub fn set_of(pages: &[Page]) -> Result<Vec<u8>, Refusal> {
     let cells: Vec<u8> = pages.iter().flat_map(|page| page.0).collect();
     let mut set = vec![0; pages.len() * SET_BYTES];
-    let used = ism_page::make_pages(&cells, pages.len() as u64, &mut set)?;
+    let used = ism_page::make_pages(&cells, pages.len(), &mut set)?;
     set.truncate(used);
     Ok(set)
 }
 
 /// Pages 1 to `count` of a set.
-pub fn pages_of(set: &[u8], count: u64) -> Result<Vec<Read>, Refusal> {
-    let pages = count.min(MOST_PAGES as u64) as usize;
+pub fn pages_of(set: &[u8], count: usize) -> Result<Vec<Read>, Refusal> {
+    let pages = count.min(MOST_PAGES);
     let mut cells = vec![0; pages * CELLS];
     let answer = ism_page::read_pages(set, count, &mut cells)?;
     let read = |(cells, dots): (&[u8], &u32)| {
@@ -44,7 +44,7 @@ pub fn page_of(sector: &ism::Sector<'_>) -> Result<Read, Refusal> {
 }
 
 /// The library's refusal of a page count or number, if it is one that no master has.
-pub fn count_refused(count: u64) -> Option<Refusal> {
+pub fn count_refused(count: usize) -> Option<Refusal> {
     // an empty set has no page, so that every count is refused: one out of range for that
     pages_of(&[], count).err().filter(|refusal| refusal.number() == 12)
 }
@@ -71,7 +71,7 @@ mod tests {
         let mut set = set_of(&[Page::BLANK; 2]).unwrap();
         assert_eq!(refused(&set, 3), Err((19, 3)));
         assert_eq!(refused(&set, 0), Err((12, 0)));
-        assert_eq!(refused(&set, u64::MAX), Err((12, 0)));
+        assert_eq!(refused(&set, usize::MAX), Err((12, 0)));
         set[SET_BYTES + 3 + 1_023] = 1;
         assert_eq!(refused(&set, 2), Err((20, 2)));
         set[2] = 0;
@@ -82,7 +82,7 @@ mod tests {
 
     #[test]
     fn counts_are_1_to_16() {
-        let taken: Vec<u64> = (0..100).filter(|count| count_refused(*count).is_none()).collect();
-        assert_eq!(taken, (1..=16).collect::<Vec<u64>>());
+        let taken: Vec<usize> = (0..100).filter(|count| count_refused(*count).is_none()).collect();
+        assert_eq!(taken, (1..=16).collect::<Vec<usize>>());
     }
 }

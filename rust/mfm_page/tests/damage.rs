@@ -45,7 +45,7 @@ fn a_harmed_page_is_told_and_the_others_are_shown() {
         for other in (1..=16).filter(|other| *other != page) {
             assert_eq!(master.page(other as u8).unwrap().page, pages[other - 1]);
         }
-        let before = (page > 1).then(|| pages_of(&master, page as u64 - 1).unwrap());
+        let before = (page > 1).then(|| pages_of(&master, page - 1).unwrap());
         assert!(before.is_none_or(|before| before == pages[..page - 1]), "pages before it are given");
     }
 }
@@ -60,8 +60,8 @@ fn a_last_page_that_is_lost_with_its_id_is_missed() {
         let lines = back(&disk).unwrap_err();
         assert!(lines[0].contains("2 field(s) that belong to no page read") || count == 1, "{lines:?}");
         let master = Master::of(vec![pass(&disk)]).unwrap();
-        assert!(count == 1 || pages_of(&master, count as u64 - 1).unwrap() == pages[..count - 1]);
-        assert!(pages_of(&master, count as u64).unwrap_err()[0].ends_with("no ID of it was read"));
+        assert!(count == 1 || pages_of(&master, count - 1).unwrap() == pages[..count - 1]);
+        assert!(pages_of(&master, count).unwrap_err()[0].ends_with("no ID of it was read"));
     }
     let both = Master::of(vec![pass(&disk), pass(&harmed(&disk, &[1]))]).unwrap();
     assert!(both.all_pages().is_ok(), "one good pass is certain");
