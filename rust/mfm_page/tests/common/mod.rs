@@ -57,7 +57,7 @@ pub fn pass(disk: &Disk) -> Pass {
 }
 
 /// All pages of a master, or what is said of them.
-pub fn pages_of(master: &Master, count: u64) -> Result<Vec<Page>, Vec<String>> {
+pub fn pages_of(master: &Master, count: usize) -> Result<Vec<Page>, Vec<String>> {
     Ok(master.pages(count)?.iter().map(|read| read.page).collect())
 }
 
