@@ -39,6 +39,10 @@ impl Kind {
             Kind::PlainRust => "plain-rust",
         }
     }
+
+    pub fn is_careful(self) -> bool {
+        matches!(self, Kind::CarefulC | Kind::CarefulRust)
+    }
 }
 
 pub struct Implementation {

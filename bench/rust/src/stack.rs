@@ -54,10 +54,7 @@ pub fn other_entries() -> Vec<Entry> {
     // SAFETY: numbers in, numbers out
     vec![
         ("margin", Box::new(|| unsafe { ism_margin(PROFILE) })),
-        (
-            "margin_limits",
-            Box::new(|| Answer { number: unsafe { ism_margin_limits(PROFILE) }.number, ..nothing() }),
-        ),
+        ("margin_limits", Box::new(|| Answer { number: unsafe { ism_margin_limits(PROFILE) }.number, ..nothing() })),
         (
             "best_windows",
             Box::new(|| Answer { number: unsafe { ism_best_windows(58, 29, 8, 10, 12) }.number, ..nothing() }),

@@ -19,8 +19,13 @@ pub const PROFILE: Profile = profile_of([58, 29, 8, 10, 12, 36, 73, 73, 106, 106
 /// pair; moved by up to the margin, some lie between the two B34 and none between the two B23.
 pub const PAIRS: Profile = profile_of([58, 29, 8, 10, 12, 36, 75, 71, 108, 104, 139]);
 
-/// The margin of `PAIRS`.
+/// The same drive with pairs far apart: moved by up to the margin, many lie between the two bounds of a pair, also of
+/// the two B23.
+pub const FAR_PAIRS: Profile = profile_of([58, 29, 8, 10, 12, 36, 84, 60, 113, 98, 139]);
+
+/// The margins of `PAIRS` and of `FAR_PAIRS`.
 const PAIRS_MARGIN: u16 = 12;
+const FAR_PAIRS_MARGIN: u16 = 5;
 
 /// A drive with wide pairs: from 73 to 94 the interval before decides, between classes 2 and 3.
 pub const WIDE_PAIRS: Profile = profile_of([58, 29, 0, 5, 5, 36, 95, 73, 120, 106, 139]);
@@ -133,6 +138,9 @@ fn with_careful() -> Vec<Plan> {
         "write_marks-6400", "6400 marks, A1 and C2 in turn", write([MARK_A1, MARK_C2].repeat(3_200));
         "write_checks-3200", "3200 check orders", write(vec![CHECK; 3_200]);
         "write_few-6400", "6400 bytes AA, the fewest cells", write(vec![0xAA; 6_400]);
+        "write_mixed-6400", "6400 bytes of data, marks and check orders, output exactly long", write_exactly(mixed(6_400));
+        "write_call-1", "1 byte", of_a_call(write(items(1)));
+        "write_call-10", "10 bytes", of_a_call(write(items(10)));
         "read-10", "10 bytes", read(PROFILE, items(10));
         "read-512", "512 bytes", read(PROFILE, items(512));
         "read-6400", "6400 bytes", read(PROFILE, items(6_400));
@@ -159,6 +167,8 @@ fn with_careful() -> Vec<Plan> {
             read_track(descending_track(), 32 * 259);
         "index_in_locks-100000", "100000 intervals of locks that read as nothing", index(PROFILE, repeated(one_mark()));
         "index_in_ids-100000", "100000 intervals of IDs whose sum fails", index(PROFILE, repeated(failing_id()));
+        "index_damaged-9", "a track of 9 sectors of 512 bytes, a wide interval near the end of each one's data",
+            index(PROFILE, damaged_track(9, 512));
     })
 }
 
@@ -168,7 +178,7 @@ fn with_pairs() -> Vec<Plan> {
         Entry::Careful,
         "read_pairs-6400", "6400 bytes, unequal pairs", read(PAIRS, items(6_400));
         "read_pairs_moved-6400", "6400 bytes, unequal pairs, each interval moved by up to 12",
-            read_moved(PAIRS, items(6_400));
+            read_moved(PAIRS, PAIRS_MARGIN, items(6_400));
         "find_pairs-100000", "100000 intervals of data, unequal pairs", find(PAIRS, stream(PAIRS, &items(MAX_BYTES)));
         "find_locks_pairs-9", "every lock of a track of 9 sectors of 512 bytes, unequal pairs",
             find_locks(PAIRS, track_of(PAIRS, 9, 512));
@@ -176,8 +186,18 @@ fn with_pairs() -> Vec<Plan> {
         "read_field_pairs-10", "10 bytes, unequal pairs", read_field(PAIRS, 10);
         "read_field_pairs-1030", "1030 bytes, unequal pairs", read_field(PAIRS, 1_030);
         "read_field_pairs_moved-1030", "1030 bytes, unequal pairs, each interval moved by up to 12",
-            read_field_moved(PAIRS, 1_030);
+            read_field_moved(PAIRS, PAIRS_MARGIN, 1_030);
         "index_pairs-9", "a track of 9 sectors of 512 bytes, unequal pairs", index(PAIRS, track_of(PAIRS, 9, 512));
+        "index_pairs_moved-9", "a track of 9 sectors of 512 bytes, unequal pairs, each interval moved by up to 12",
+            index(PAIRS, moved(PAIRS_MARGIN, track_of(PAIRS, 9, 512)));
+        "read_far_pairs-6400", "6400 bytes, pairs far apart, each interval moved by up to 5",
+            read_moved(FAR_PAIRS, FAR_PAIRS_MARGIN, items(6_400));
+        "read_field_far_pairs-1030", "1030 bytes, pairs far apart, each interval moved by up to 5",
+            read_field_moved(FAR_PAIRS, FAR_PAIRS_MARGIN, 1_030);
+        "find_locks_far_pairs-9", "every lock of such a track, pairs far apart, each interval moved by up to 5",
+            find_locks(FAR_PAIRS, moved(FAR_PAIRS_MARGIN, track_of(FAR_PAIRS, 9, 512)));
+        "index_far_pairs-9", "a track of 9 sectors of 512 bytes, pairs far apart, each interval moved by up to 5",
+            index(FAR_PAIRS, moved(FAR_PAIRS_MARGIN, track_of(FAR_PAIRS, 9, 512)));
     })
 }
 
@@ -201,10 +221,14 @@ fn others() -> Vec<Plan> {
         "sector-1024", "1024 data bytes, made and written", sector(1_024);
         "make_image-512", "512 bytes", make_image(items(512));
         "make_image-6400", "6400 bytes", make_image(items(6_400));
+        "make_image_mixed-6400", "6400 bytes of data, marks and check orders", make_image(mixed(6_400));
+        "make_image_call-1", "1 byte", of_a_call(make_image(items(1)));
         "read_image-512", "512 bytes", read_image(items(512));
         "read_image-6400", "6400 bytes", read_image(items(6_400));
         "drive_report-51202", "51202 intervals of data", drive_report(PROFILE, MAX_INTERVALS);
         "drive_report_pairs-51202", "51202 intervals of data, unequal pairs", drive_report(PAIRS, MAX_INTERVALS);
+        "drive_report_far_pairs-51202", "51202 intervals of data, pairs far apart, each interval moved by up to 5",
+            drive_report_moved(FAR_PAIRS, FAR_PAIRS_MARGIN);
         "merge-9", "two sets of 9 sectors of 512 bytes", merge(9, 512);
         "merge-32", "two sets of 32 sectors of 1024 bytes", merge(32, 1_024);
     })
@@ -224,6 +248,16 @@ fn items(count: usize) -> Vec<u16> {
     bytes(count).into_iter().map(u16::from).collect()
 }
 
+/// As many written bytes, of each 32 three marks, 27 data bytes and the two of a check order.
+fn mixed(written: usize) -> Vec<u16> {
+    items(written / 32 * 27).chunks(27).flat_map(|data| [&[MARK_A1; 3], data, &[CHECK]].concat()).collect()
+}
+
+/// How many bytes a list writes: two for a check order.
+fn written_bytes(list: &[u16]) -> usize {
+    list.len() + list.iter().filter(|item| **item == CHECK).count()
+}
+
 fn stream(p: Profile, items: &[u16]) -> Vec<u16> {
     let mut out = vec![0; MAX_INTERVALS];
     let answer = plain_rust_write(p, items, &mut out);
@@ -232,11 +266,11 @@ fn stream(p: Profile, items: &[u16]) -> Vec<u16> {
     out
 }
 
-/// Each interval of a stream under `PAIRS` moved by up to its margin, so that it reads as before.
-fn moved(mut intervals: Vec<u16>) -> Vec<u16> {
-    let steps = bytes(intervals.len()).into_iter().map(|byte| u16::from(byte) % (2 * PAIRS_MARGIN + 1));
+/// Each interval of a stream moved by up to its profile's margin, so that it reads as before.
+fn moved(margin: u16, mut intervals: Vec<u16>) -> Vec<u16> {
+    let steps = bytes(intervals.len()).into_iter().map(|byte| u16::from(byte) % (2 * margin + 1));
     for (interval, step) in intervals.iter_mut().zip(steps) {
-        *interval = *interval + step - PAIRS_MARGIN;
+        *interval = *interval + step - margin;
     }
     intervals
 }
@@ -249,8 +283,13 @@ fn write_into(list: Vec<u16>, room: usize) -> Task {
 
 /// Output for the list with the most intervals.
 fn write(list: Vec<u16>) -> Task {
-    let written = list.len() + list.iter().filter(|item| **item == CHECK).count();
-    write_into(list, 8 * written + 2)
+    let room = 8 * written_bytes(&list) + 2;
+    write_into(list, room)
+}
+
+/// The whole call counts, and not its intervals or bytes.
+fn of_a_call(task: Task) -> Task {
+    Task { units: 1, unit: "call", ..task }
 }
 
 fn write_exactly(list: Vec<u16>) -> Task {
@@ -268,8 +307,8 @@ fn read(p: Profile, list: Vec<u16>) -> Task {
     read_list(p, stream(p, &list), list.len())
 }
 
-fn read_moved(p: Profile, list: Vec<u16>) -> Task {
-    read_list(p, moved(stream(p, &list)), list.len())
+fn read_moved(p: Profile, margin: u16, list: Vec<u16>) -> Task {
+    read_list(p, moved(margin, stream(p, &list)), list.len())
 }
 
 /// One closing interval is lost.
@@ -347,8 +386,8 @@ fn read_field(p: Profile, size: usize) -> Task {
     read_field_list(p, field(p, size), size)
 }
 
-fn read_field_moved(p: Profile, size: usize) -> Task {
-    read_field_list(p, moved(field(p, size)), size)
+fn read_field_moved(p: Profile, margin: u16, size: usize) -> Task {
+    read_field_list(p, moved(margin, field(p, size)), size)
 }
 
 /// A sync field and such a field, each interval 3 percent longer, rounded down. The lock's place, the differences and
@@ -390,8 +429,9 @@ fn sector(size: usize) -> Task {
     Task::new(written, "written byte", 8 * written + 2, run)
 }
 
+/// A byte is a written byte, of which each is a word.
 fn make_image(list: Vec<u16>) -> Task {
-    let words = list.len();
+    let words = written_bytes(&list);
     let run: Run = Box::new(move |who, out| (who.make_image)(&list, out));
     Task::new(words, "byte", words, run)
 }
@@ -415,7 +455,15 @@ fn put_report(report: &Report, out: &mut [u16]) -> Answer {
 }
 
 fn drive_report(p: Profile, intervals: usize) -> Task {
-    let track: Vec<u16> = stream(p, &items(MAX_BYTES)).into_iter().cycle().take(intervals).collect();
+    report_of(p, stream(p, &items(MAX_BYTES)), intervals)
+}
+
+fn drive_report_moved(p: Profile, margin: u16) -> Task {
+    report_of(p, moved(margin, stream(p, &items(MAX_BYTES))), MAX_INTERVALS)
+}
+
+fn report_of(p: Profile, repeated: Vec<u16>, intervals: usize) -> Task {
+    let track: Vec<u16> = repeated.into_iter().cycle().take(intervals).collect();
     let run: Run = Box::new(move |who, out| put_report(&(who.drive_report)(p, &track), out));
     Task::new(intervals, "interval", REPORT_PARTS, run)
 }
@@ -448,6 +496,21 @@ fn track_of(p: Profile, sectors: usize, size: usize) -> Vec<u16> {
         plain_rust_make_sector(id, &data[number * size..(number + 1) * size], out);
     }
     stream(p, &items)
+}
+
+/// The streams of the sectors, one after the other, each with an interval of its data that is no cell, some 26 bytes
+/// before the data's end: its field is read nearly whole and then refused.
+fn damaged_track(sectors: u8, size: usize) -> Vec<u16> {
+    let data = bytes(size);
+    let sector = |number: u8| {
+        let mut items = vec![0; size + SECTOR_OVERHEAD];
+        plain_rust_make_sector([39, 1, number, length_code(size)], &data, &mut items);
+        let mut intervals = stream(PROFILE, &items);
+        let place = intervals.len() - 500;
+        intervals[place] = PROFILE.rpt;
+        intervals
+    };
+    (1..=sectors).flat_map(sector).collect()
 }
 
 /// The sectors of a track as a set of so many bytes.
