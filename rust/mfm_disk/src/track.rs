@@ -60,13 +60,16 @@ impl Window {
     /// The sectors by number, then by the place of the ID.
     pub fn sectors(&self) -> Result<Vec<Found>, Refusal> {
         let index = ism::index_track(self.profile, &self.intervals)?;
-        let mut read = self.data_found(index.entries())?.into_iter();
+        let mut buffer = vec![0; ism::MAX_SET_BYTES];
+        // the data of each entry that has some, in the order of the index
+        let set = ism::read_track(self.profile, &self.intervals, &mut buffer)?;
+        let mut read = set.sectors();
         let mut sectors = Vec::with_capacity(index.len());
         for entry in index.entries() {
             let data = match entry.data {
                 None => Data::Missing { refusal: self.why_missing(entry).err() },
                 Some(field) => {
-                    let bytes = read.next().unwrap_or_default();
+                    let bytes = read.next().map_or_else(Vec::new, |sector| sector.data.to_vec());
                     if self.half_cell(field.place) - self.half_cell(entry.place) > FARTHEST_OWN_DATA {
                         Data::NotItsOwn { at: field.place }
                     } else {
@@ -78,19 +81,6 @@ impl Window {
         }
         sectors.sort_by_key(|sector| (sector.id.sector, sector.at));
         Ok(sectors)
-    }
-
-    /// The data of each entry that has some, in the order of the index.
-    fn data_found(&self, entries: impl Iterator<Item = IndexEntry>) -> Result<Vec<Vec<u8>>, Refusal> {
-        let mut items = [0; ism::MAX_FIELD_BYTES];
-        let mut found = Vec::with_capacity(ism::MAX_SECTORS);
-        for entry in entries {
-            let Some(field) = entry.data else { continue };
-            let size = size_of(entry.id.code);
-            ism::read_field(self.profile, &self.intervals[field.place..], size + 6, &mut items)?;
-            found.push(items[4..4 + size].iter().map(|item| *item as u8).collect());
-        }
-        Ok(found)
     }
 
     /// What the library says where an ID has no data: nothing, if the field at the next lock reads and is no data.
