@@ -1,17 +1,19 @@
 -- Laws of items: each follows from the tests that the definitions make, in their order.
-use Prim.Native.Nat.{ℕ, _+_, _*_, _<_, _≤_}
+use Prim.Native.Nat.{ℕ, zero, suc, _+_, _*_, _<_, _≤_}
 use mathlib.Core.Path.{_≡_, refl, sym, _∙_}
 use mathlib.Core.Bool.{Bool, true, false, cond, _||_, or-false, false≢true}
 use mathlib.Core.List.{List, [], _∷_}
 use mathlib.Core.Logic.{_⊎_, inl, inr, ⊎-map}
+use native.Mathlib.Nat.{add-zero}
 use native.Mathlib.Numerals.{add-one}
 use native.Mathlib.Omega.{arith}
 use borrow.Author.Tests.{ltb-true, eqb-true, lt-ltb, ne-eqb, not-false}
 use lib.Dec.{ltb, eqb}
 use lib.ListN.{length, getD, drop, drop-of-length-le}
 use lib.Seq.{drop-cons}
-use Rattle.lists.specs.Place.{anywhere, everywhere}
+use Rattle.lists.specs.Place.{anywhere, everywhere, lowest}
 use Rattle.lists.proofs.PlaceLaws.{everywhere-of-none, everywhere-of-passing, everywhere-is-nowhere-else}
+use Rattle.lists.proofs.PlaceLaws.{lowest-from-failing-is-further}
 use Rattle.lists.proofs.PlaceLaws.{anywhere-of-none, anywhere-of-failing, nowhere-fails-at-first, nowhere-in-rest}
 use Rattle.items.specs.Item.{isMark, isByte, isCheck, isItem, isForeign, bytesOf, writtenBytes}
 
@@ -83,6 +85,10 @@ one-byte-is-no-check : (t : Bool) → cond t 2 1 ≤ 1 → t ≡ false
 one-byte-is-no-check true h = absurd (omega arith)
 one-byte-is-no-check false h = refl
 
+no-check-in-one : (n : ℕ) → bytesOf n ≤ 1 → isCheck n ≡ false
+unfolding bytesOf
+no-check-in-one n h = one-byte-is-no-check (isCheck n) h
+
 pub bytes-of-bounds : (n : ℕ) → (1 ≤ bytesOf n) × (bytesOf n ≤ 2)
 unfolding bytesOf
 bytes-of-bounds n =
@@ -116,3 +122,28 @@ written-bytes-from ns k h = rw (add-one, drop-cons ns k 0)
 pub written-bytes-from-end : (ns : List ℕ) (k : ℕ) → length ns ≤ k → writtenBytes (drop k ns) ≡ 0
 unfolding writtenBytes
 written-bytes-from-end ns k h = rw (drop-of-length-le ns h)
+
+-- n numbers write n bytes at least, and where they write no more, none of them is a check order
+pub written-bytes-at-least : (ns : List ℕ) (n k : ℕ) → k + n ≤ length ns
+    → n + writtenBytes (drop (k + n) ns) ≤ writtenBytes (drop k ns)
+written-bytes-at-least ns zero k h = rw (add-zero k) (omega arith)
+written-bytes-at-least ns (suc n) k h =
+    let here = written-bytes-from ns k (omega arith) in
+    let one = bytes-of-bounds (getD ns k 0) in
+    let more = written-bytes-at-least ns n (k + 1) (omega arith) in
+    let place : k + 1 + n ≡ k + suc n = omega arith in
+    omega (arith, rw place at more)
+
+pub check-is-further : (ns : List ℕ) (n k : ℕ) → k + n ≤ length ns
+    → writtenBytes (drop k ns) ≤ n + writtenBytes (drop (k + n) ns)
+    → k + n + lowest isCheck (drop (k + n) ns) ≡ k + lowest isCheck (drop k ns)
+check-is-further ns zero k h few = rw (add-zero k)
+check-is-further ns (suc n) k h few =
+    let here = written-bytes-from ns k (omega arith) in
+    let place : k + 1 + n ≡ k + suc n = omega arith in
+    let more = rw place at (written-bytes-at-least ns n (k + 1) (omega arith)) in
+    let one = bytes-of-bounds (getD ns k 0) in
+    let none = no-check-in-one (getD ns k 0) (omega arith) in
+    let few′ : writtenBytes (drop (k + 1) ns) ≤ n + writtenBytes (drop (k + suc n) ns) = omega arith in
+    rw place at (check-is-further ns n (k + 1) (omega arith) (rw place few′))
+    ∙ sym (lowest-from-failing-is-further isCheck ns 0 k (omega arith) none)

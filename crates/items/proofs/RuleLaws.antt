@@ -2,21 +2,28 @@
 -- is. Rests on no axiom.
 use Prim.Native.Nat.{ℕ, _≤_, _<_}
 use mathlib.Core.Path.{_≡_, refl, sym, ap, _∙_}
-use mathlib.Core.Bool.{Bool, true, false, cond, or-true}
+use mathlib.Core.Bool.{true, false, not, _&&_, _||_, or-true}
 use mathlib.Mathlib.Data.Bool.Basic.{or-eq-false-eq-eq-false-and-eq-false}
-use mathlib.Core.List.{List}
-use native.Mathlib.Omega.{arith}
+use mathlib.Core.List.{List, [], _∷_}
 use lib.Dec.{ltb}
 use lib.ListN.{length}
 use borrow.Author.Tests.{lt-ltb, le-ltb, ltb-false}
 use Rattle.lists.specs.Place.{anywhere, everywhere, lowest}
-use Rattle.lists.proofs.PlaceLaws.{lowest-of-none, lowest-of-some}
-use Rattle.refusal.specs.Answer.{accepted, refused}
+use Rattle.lists.proofs.PlaceLaws.{lowest-of-some}
+use Rattle.refusal.specs.Answer.{accepted, refused, refuseIf}
 use Rattle.refusal.proofs.AnswerLaws.{refuse-if-accepts}
-use Rattle.items.specs.Item.{isByte, isForeign, writtenBytes}
+use Rattle.items.specs.Item.{isByte, isItem, isForeign, writtenBytes}
 use Rattle.items.specs.Rule.{listRule}
 use Rattle.items.proofs.ItemLaws.{bytes-are-items, bytes-have-no-check}
 use Rattle.items.proofs.WrittenLaws.{written-of-no-check, length-of-written}
+
+-- a number that is no item stands where not all are items
+foreign-is-no-item : (ns : List ℕ) → anywhere isForeign ns ≡ not (everywhere isItem ns)
+unfolding anywhere everywhere isForeign
+foreign-is-no-item [] = refl
+foreign-is-no-item (n ∷ ns) =
+    elim (isItem n) as (λ t. (not t || anywhere isForeign ns) ≡ not (t && everywhere isItem ns))
+    [ true ↦ foreign-is-no-item ns | false ↦ refl ]
 
 module _ (ns : List ℕ) where
   pub rule-of-too-many : 6400 < length ns → refused 4 0 ≡ listRule ns
@@ -27,28 +34,20 @@ module _ (ns : List ℕ) where
   unfolding listRule
   rule-of-too-many-bytes n e h = rw (← e, lt-ltb 6400 n h, or-true)
 
-  -- a place below the length is that of a number that is no item
-  found : (t : Bool) → anywhere isForeign ns ≡ t → t ≡ ltb (lowest isForeign ns) (length ns)
-  found true e = sym (lt-ltb _ _ (lowest-of-some isForeign ns e))
-  found false e = rw (lowest-of-none isForeign ns e) (sym (le-ltb (length ns) (length ns) (omega arith)))
-
   -- within both counts the items decide
-  pub rule-within-counts
-      : (n k : ℕ)
-      → length ns ≤ 6400
-      → n ≡ writtenBytes ns
-      → n ≤ 6400
-      → k ≡ lowest isForeign ns
-      → cond (ltb k (length ns)) (refused 3 k) (accepted 0) ≡ listRule ns
-  unfolding listRule
-  rule-within-counts n k few e few-bytes place =
-      rw (
-        ← e,
-        le-ltb 6400 (length ns) few,
-        le-ltb 6400 n few-bytes,
-        found (anywhere isForeign ns) refl,
-        ← place,
-      )
+  module _ (n : ℕ) (few : length ns ≤ 6400) (e : n ≡ writtenBytes ns) (few-bytes : n ≤ 6400) where
+    by-items : refuseIf (anywhere isForeign ns) 3 (lowest isForeign ns) (accepted 0) ≡ listRule ns
+    unfolding listRule
+    by-items = rw (← e, le-ltb 6400 (length ns) few, le-ltb 6400 n few-bytes)
+
+    pub rule-of-items : everywhere isItem ns ≡ true → accepted 0 ≡ listRule ns
+    rule-of-items all = rw (foreign-is-no-item, all) at by-items
+
+    pub rule-of-foreign : everywhere isItem ns ≡ false → (k : ℕ) → k ≡ lowest isForeign ns → refused 3 k ≡ listRule ns
+    rule-of-foreign some k place = rw place (rw (foreign-is-no-item, some) at by-items)
+
+  pub foreign-stands-within : everywhere isItem ns ≡ false → lowest isForeign ns < length ns
+  foreign-stands-within some = lowest-of-some isForeign ns (foreign-is-no-item ns ∙ ap not some)
 
 -- ---- accepted lists
 

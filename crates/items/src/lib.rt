@@ -3,6 +3,7 @@ mod list;
 
 pub use list::Stored;
 pub use list::check_list;
+pub use list::find_check;
 pub use list::find_foreign;
 pub use list::write_bytes;
 pub use list::written_bytes;

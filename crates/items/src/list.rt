@@ -1,11 +1,13 @@
 // Lists of items: how many bytes they write, which number is no item, whether they are accepted, and the bytes
 // themselves.
 use crate::Check;
+ghost use Prim.Native.Nat.{_+_, _≤_, _<_};
 ghost use mathlib.Core.Path.{_≡_};
+ghost use lib.ListN.{length, drop};
 ghost use Rattle.lists.specs.Filled.{storedAt};
-ghost use Rattle.lists.specs.Place.{lowest};
+ghost use Rattle.lists.specs.Place.{everywhere, lowest};
 ghost use Rattle.refusal.specs.Answer.{verdictAnswer};
-ghost use Rattle.items.specs.Item.{isForeign, writtenBytes};
+ghost use Rattle.items.specs.Item.{isCheck, isItem, isForeign, writtenBytes};
 ghost use Rattle.items.specs.Written.{afterBytes, itemBytes, writtenFrom};
 ghost use Rattle.items.specs.Rule.{listRule};
 use lists::put;
@@ -16,17 +18,71 @@ use refusal::Verdict;
 // The most items, and the most written bytes, that a list may have.
 const MAX_BYTES: usize = 6400;
 
+// How many numbers are counted together, at most 65,535.
+const COUNTED: usize = 32768;
+
+// How many numbers are looked at together for a check order.
+const STRETCH: usize = 32;
+
+// How many check orders stand from a place up to another, so few that 16 bits count them: added with no jump for any,
+// eight at a time.
+fn count_checks(items: &[u16], from: usize, end: usize) -> u16
+    requires { ⌜ (from ≤ end) × (end ≤ length (now items)) × (end < from + 65536) ⌝ }
+    ensures { λ r. ⌜
+        end + r + writtenBytes (drop end (now (items .entry))) ≡ from + writtenBytes (drop from (now (items .entry))) ⌝ }
+{
+    let mut count: u16 = 0;
+    let mut k = from;
+    while k < end {
+        count += crate::is_check(items[k]) as u16;
+        k += 1;
+    }
+    count
+}
+
 // How many bytes a list writes.
 pub fn written_bytes(items: &[u16]) -> usize
     ensures { λ r. ⌜ r ≡ writtenBytes (now (items .entry)) ⌝ }
 {
     let mut count: usize = 0;
     let mut k: usize = 0;
+    while COUNTED <= items.len() - k {
+        let end = k + COUNTED;
+        count += COUNTED + count_checks(items, k, end) as usize;
+        k = end;
+    }
+    let end = items.len();
+    count + (end - k) + count_checks(items, k, end) as usize
+}
+
+// Passes over whole stretches with no check order.
+fn pass_stretches(items: &[u16]) -> usize
+    ensures within { λ r. ⌜ r ≤ length (now (items .entry)) ⌝ }
+    ensures lowest { λ r. ⌜ r + lowest isCheck (drop r (now (items .entry))) ≡ lowest isCheck (now (items .entry)) ⌝ }
+{
+    let mut k: usize = 0;
+    while STRETCH <= items.len() - k {
+        let end = k + STRETCH;
+        if 0 < count_checks(items, k, end) {
+            return k;
+        }
+        k = end;
+    }
+    k
+}
+
+// The place of the lowest check order; the length where there is none.
+pub fn find_check(items: &[u16]) -> usize
+    ensures { λ r. ⌜ r ≡ lowest isCheck (now (items .entry)) ⌝ }
+{
+    let mut k = pass_stretches(items);
     while k < items.len() {
-        count += crate::bytes_of(items[k]);
+        if crate::is_check(items[k]) {
+            return k;
+        }
         k += 1;
     }
-    count
+    k
 }
 
 // The place of the lowest number that is no item; the length where there is none.
@@ -44,6 +100,19 @@ pub fn find_foreign(items: &[u16]) -> usize
     k
 }
 
+// Whether all numbers are items, told with no jump for any.
+fn all_items(items: &[u16]) -> bool
+    ensures { λ r. ⌜ r ≡ everywhere isItem (now (items .entry)) ⌝ }
+{
+    let mut all = true;
+    let mut k: usize = 0;
+    while k < items.len() {
+        all = all & crate::is_item(items[k]);
+        k += 1;
+    }
+    all
+}
+
 // Whether the list may be written: 4, then 3.
 pub fn check_list(items: &[u16]) -> Verdict
     ensures { λ r. ⌜ verdictAnswer r ≡ listRule (now (items .entry)) ⌝ }
@@ -54,11 +123,10 @@ pub fn check_list(items: &[u16]) -> Verdict
     if MAX_BYTES < written_bytes(items) {
         return Verdict::Refused(Refusal::TooLong);
     }
-    let k = find_foreign(items);
-    if k < items.len() {
-        return Verdict::Refused(Refusal::NotAnItem(k as u32));
+    if all_items(items) {
+        return Verdict::Accepted;
     }
-    Verdict::Accepted
+    Verdict::Refused(Refusal::NotAnItem(find_foreign(items) as u32))
 }
 
 // Stores an item's bytes from `at` on.

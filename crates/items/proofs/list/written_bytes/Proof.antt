@@ -3,11 +3,9 @@ use Prim.Native.Nat.{_+_, _-_, _≤_, zero-le}
 use mathlib.Core.Path.{_≡_}
 use native.Mathlib.Nat.{zero-add}
 use native.Mathlib.Omega.{arith}
-use borrow.Author.Count.{falls}
-use borrow.Author.Needs.{needs}
 use lib.ListN.{length, drop}
 use Rattle.items.specs.Item.{writtenBytes}
-use Rattle.items.proofs.ItemLaws.{written-bytes-bounds, written-bytes-from, written-bytes-from-end}
+use Rattle.items.proofs.ItemLaws.{written-bytes-bounds, written-bytes-from-end}
 use denote.Ref.{now}
 use Rattle.items.proofs.list.written_bytes.Statement.{statement}
 use Rattle.items.proofs.list.written_bytes.Tie as tie
@@ -18,33 +16,29 @@ Inv-loop items count₀ k₀ count k = (k ≤ length items) × (count + writtenB
 abbrev μ-loop : tie.MeasureT-loop
 μ-loop items count₀ k₀ count k = length items - k
 
--- the turn that ends at a place, and the function's entry
-abbrev turn-of : tie.After-bytes-of Inv-loop μ-loop → tie.In-loop Inv-loop μ-loop
-turn-of c = c .before .before
-
+-- the function's entry
 abbrev entry-of : tie.At-loop Inv-loop μ-loop → tie.Start Inv-loop μ-loop
 entry-of c = c .before .before
 
-add-count : tie.Need-add-count Inv-loop μ-loop
-add-count c =
-    let turn = turn-of c in
-    let items = now (entry-of (turn .before) .args .items) in
-    omega (arith, written-bytes-from items (turn .before .loop .k) (turn .loop-test .taken), written-bytes-bounds items)
+add-count-2 : tie.Need-add-count-2 Inv-loop μ-loop
+add-count-2 c = omega (arith, written-bytes-bounds (now (entry-of (c .before .before) .args .items)))
 
-loop-again : tie.Need-loop-again Inv-loop μ-loop
-loop-again c =
-    let turn = turn-of c in
-    let items = now (entry-of (turn .before) .args .items) in
-    omega (arith, written-bytes-from items (turn .before .loop .k) (turn .loop-test .taken))
+add-result : tie.Need-add-result Inv-loop μ-loop
+add-result c = omega (arith, written-bytes-bounds (now (entry-of (c .before) .args .items)))
+
+add-result-2 : tie.Need-add-result-2 Inv-loop μ-loop
+add-result-2 c =
+    let items = now (entry-of (c .before .before) .args .items) in
+    omega (arith, written-bytes-bounds items, written-bytes-from-end items (length items) (omega arith))
 
 returns : tie.Need-returns Inv-loop μ-loop
 returns c =
-    let items = now (entry-of (c .before) .args .items) in
-    omega (arith, written-bytes-from-end items (c .before .loop .k) (c .loop-test .left))
+    let items = now (entry-of (c .before .before) .args .items) in
+    omega (arith, written-bytes-from-end items (length items) (omega arith))
 
 pub written-bytes-spec : {M : Type 1} → statement M
 written-bytes-spec =
     tie.close
-    (tie.spec Inv-loop μ-loop (λ c. (zero-le, zero-add _)) (λ c. omega arith) (λ c. c .before .loop-test .taken)
-    (λ c. search needs) add-count (λ c. omega arith) (λ c. falls _ _ (turn-of c .loop-test .taken)) loop-again
-    returns)
+    (tie.spec Inv-loop μ-loop (λ c. (zero-le, zero-add _)) (λ c. omega arith) (λ c. omega arith)
+    (λ c κs. omega arith) (λ c. omega arith) (λ c. omega arith) add-count-2 (λ c. omega arith) (λ c. omega arith)
+    (λ c. omega arith) add-result (λ c κs. omega arith) (λ c. omega arith) add-result-2 returns)
