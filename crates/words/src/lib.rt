@@ -3,6 +3,7 @@ mod table;
 
 pub use table::code_words;
 ghost use mathlib.Core.Path.{_≡_};
+ghost use mathlib.Core.Bool.{cond};
 ghost use Rattle.words.specs.Words.{wordOf, lastBit, codeWords};
 ghost use Rattle.words.specs.machine.Spread.{spreadWord};
 
@@ -39,15 +40,17 @@ fn spread_word(previous: u16, byte: u16) -> u16
     data | (clocks << 1)
 }
 
-// The same without the table, which is slow to copy where few words are asked for and large where all are.
+fn either(test: bool, yes: u16, no: u16) -> u16
+    ensures { λ r. ⌜ r ≡ cond test yes no ⌝ }
+{
+    if test { yes } else { no }
+}
+
+// The same without the table, which is slow to copy where few words are asked for and large where all are. A mark's word
+// is chosen after the other is made: with no jump, so that the words of many bytes are made in vector instructions.
 pub fn made_word(previous: u16, w: u16) -> u16
     ensures { λ r. ⌜ r ≡ wordOf (lastBit previous) w ⌝ }
 {
-    if w == MARK_A1 {
-        return WORD_A1;
-    }
-    if w == MARK_C2 {
-        return WORD_C2;
-    }
-    spread_word(previous % 2, w % 256)
+    let word = spread_word(previous % 2, w % 256);
+    either(w == MARK_A1, WORD_A1, either(w == MARK_C2, WORD_C2, word))
 }

@@ -24,9 +24,11 @@ loop-again c =
     let turn = counted .before in
     let items = now (turn .before .before .before .args .items) in
     let k = turn .before .loop .k in
-    let inside : k + 32 ≤ length items = omega (arith, turn .loop-test .taken) in
-    (inside, check-is-further items 32 k inside (omega (arith, counted .count-checks .ensures, c .if1 .left))
-    ∙ turn .before .loop .inv .1)
+    let inside : k + 32 ≤ length items = omega (arith, turn .loop-test .taken) in (
+      inside,
+      check-is-further items 32 k inside (omega (arith, counted .count-checks .ensures, c .if1 .left))
+          ∙ turn .before .loop .inv .1,
+    )
 
 pub pass-stretches-spec : {M : Type 1} → statement M
 pass-stretches-spec =
