@@ -1,13 +1,14 @@
 -- Laws of the merged set's bytes from a number on: those of that number, then those of the numbers above. Rests on no
 -- axiom.
 use Prim.Native.Nat.{ℕ, _+_, _≤_, _<_}
-use mathlib.Core.Path.{_≡_, _∙_}
+use mathlib.Core.Path.{_≡_, refl, _∙_}
 use mathlib.Core.Bool.{false}
 use mathlib.Core.List.{List, [], _++_, flatMap}
 use lib.ListN.{length, drop, getD, length-append}
 use Rattle.lists.specs.Place.{anywhere}
 use Rattle.merge.specs.Set.{setBytes, sectorsIn}
-use Rattle.merge.specs.Merge.{numbers, taken, asList, takenAt, atOdds, atOddsAt}
+use Rattle.merge.specs.Merge.{numbers, taken, asList, takenAt, merged, atOdds, atOddsAt}
+use Rattle.merge.specs.Rule.{result}
 use Rattle.merge.specs.machine.Index.{shown, Indexed, Within}
 use Rattle.merge.proofs.NumberLaws.{numbers-from, numbers-end, nowhere-at-number}
 use Rattle.merge.proofs.OutputLaws.{bytes-of-append}
@@ -16,6 +17,10 @@ use Rattle.merge.proofs.ChoiceLaws.{entries-at-odds}
 -- those that are left from a number on
 unfoldable pub bytesFrom : List ℕ → List ℕ → ℕ → List ℕ
 bytesFrom first second n = setBytes (flatMap (takenAt (sectorsIn first) (sectorsIn second)) (drop n numbers))
+
+pub all-bytes : (first second : List ℕ) → result first second ≡ bytesFrom first second 0
+unfolding bytesFrom merged
+all-bytes first second = refl
 
 pub bytes-at-end : (first second : List ℕ) (n : ℕ) → 256 ≤ n → bytesFrom first second n ≡ []
 unfolding bytesFrom flatMap setBytes

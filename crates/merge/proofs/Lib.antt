@@ -6,6 +6,7 @@ pub mod TwiceLaws
 pub mod ChoiceLaws
 pub mod OutputLaws
 pub mod AscendingLaws
+pub mod SpanLaws
 pub mod CountLaws
 pub mod RuleLaws
 pub mod SettleLaws

@@ -9,7 +9,7 @@ use lib.ListN.{length, drop, getD, drop-of-length-le}
 use lib.Seq.{drop-cons}
 use Rattle.lists.specs.Place.{anywhere, lowest}
 use Rattle.lists.proofs.PlaceLaws.{lowest-of-none, below-lowest-fails, anywhere-of-none, anywhere-of-failing}
-use Rattle.lists.proofs.PlaceLaws.{lowest-of-passing, lowest-of-failing, anywhere-of-entry}
+use Rattle.lists.proofs.PlaceLaws.{lowest-of-passing, lowest-of-failing}
 use Rattle.lists.specs.Table.{tabulated}
 use Rattle.lists.proofs.TableLaws.{entry-is-rule}
 use Rattle.merge.specs.Merge.{numbers, howMany}
@@ -69,38 +69,19 @@ unfolding flatMap
 lists-agree f g same =
     each-number (λ ns. flatMap f ns ≡ flatMap g ns) refl (λ n ns h r. ap₂ _++_ (same n h) r)
 
-module _ (f g : ℕ → Bool) (same : (n : ℕ) → n < 256 → f n ≡ g n) where
-  pub anywhere-agrees : anywhere f numbers ≡ anywhere g numbers
-  anywhere-agrees =
-      each-number (λ ns. anywhere f ns ≡ anywhere g ns) (anywhere-of-none f ∙ sym (anywhere-of-none g)) more
-    where
-      more
-          : (n : ℕ) (ns : List ℕ)
-          → n < 256
-          → anywhere f ns ≡ anywhere g ns
-          → anywhere f (n ∷ ns) ≡ anywhere g (n ∷ ns)
-      more n ns h r =
-          (elim (f n) as (λ t. f n ≡ t → anywhere f (n ∷ ns) ≡ anywhere g (n ∷ ns)) [
-            | true ↦ λ e.
-                anywhere-of-entry f (n ∷ ns) 0 0 (omega arith) e
-                ∙ sym (anywhere-of-entry g (n ∷ ns) 0 0 (omega arith) (sym (same n h) ∙ e))
-            | false ↦ λ e.
-                anywhere-of-failing f n ns e ∙ r ∙ sym (anywhere-of-failing g n ns (sym (same n h) ∙ e))
-          ]) refl
-
-  pub lowest-agrees : lowest f numbers ≡ lowest g numbers
-  lowest-agrees =
-      each-number (λ ns. lowest f ns ≡ lowest g ns)
-      (lowest-of-none f [] (anywhere-of-none f) ∙ sym (lowest-of-none g [] (anywhere-of-none g))) more
-    where
-      more
-          : (n : ℕ) (ns : List ℕ) → n < 256 → lowest f ns ≡ lowest g ns → lowest f (n ∷ ns) ≡ lowest g (n ∷ ns)
-      more n ns h r =
-          (elim (f n) as (λ t. f n ≡ t → lowest f (n ∷ ns) ≡ lowest g (n ∷ ns)) [
-            | true ↦ λ e.
-                lowest-of-passing f n ns e ∙ sym (lowest-of-passing g n ns (sym (same n h) ∙ e))
-            | false ↦ λ e.
-                lowest-of-failing f n ns e
-                ∙ ap suc r
-                ∙ sym (lowest-of-failing g n ns (sym (same n h) ∙ e))
-          ]) refl
+pub lowest-agrees
+    : (f g : ℕ → Bool) → ((n : ℕ) → n < 256 → f n ≡ g n) → lowest f numbers ≡ lowest g numbers
+lowest-agrees f g same =
+    each-number (λ ns. lowest f ns ≡ lowest g ns)
+    (lowest-of-none f [] (anywhere-of-none f) ∙ sym (lowest-of-none g [] (anywhere-of-none g))) more
+  where
+    more : (n : ℕ) (ns : List ℕ) → n < 256 → lowest f ns ≡ lowest g ns → lowest f (n ∷ ns) ≡ lowest g (n ∷ ns)
+    more n ns h r =
+        (elim (f n) as (λ t. f n ≡ t → lowest f (n ∷ ns) ≡ lowest g (n ∷ ns)) [
+          | true ↦ λ e.
+              lowest-of-passing f n ns e ∙ sym (lowest-of-passing g n ns (sym (same n h) ∙ e))
+          | false ↦ λ e.
+              lowest-of-failing f n ns e
+              ∙ ap suc r
+              ∙ sym (lowest-of-failing g n ns (sym (same n h) ∙ e))
+        ]) refl

@@ -63,8 +63,8 @@ module _ (first second : List ℕ) where
 
 -- ---- 15 for different numbers, and 17
 
-odds-below-256 : (f : ℕ → Bool) → anywhere f numbers ≡ ltb (lowest f numbers) 256
-odds-below-256 f = by (anywhere f numbers) refl
+pub lowest-below-256 : (f : ℕ → Bool) → anywhere f numbers ≡ ltb (lowest f numbers) 256
+lowest-below-256 f = by (anywhere f numbers) refl
   where
     by : (t : Bool) → anywhere f numbers ≡ t → t ≡ ltb (lowest f numbers) 256
     by true e = sym (lt-ltb _ _ (rw numbers-length at (lowest-of-some f numbers e)))
@@ -80,7 +80,7 @@ pub numbers-decide
     ≡ numbersRule (sectorsIn first) (sectorsIn second)
 unfolding numbersRule
 numbers-decide first second a b count low one other e f =
-    rw (e, entries-count-numbers first second a b one other, f, odds-below-256)
+    rw (e, entries-count-numbers first second a b one other, f, lowest-below-256)
 
 -- what acceptance says
 pub accepted-numbers

@@ -21,7 +21,7 @@ use Rattle.merge.specs.Rule.{roomRule}
 use Rattle.merge.specs.Alone.{isTwiceIn, setRule}
 use Rattle.merge.specs.machine.Index.{countRule}
 use Rattle.merge.proofs.CountLaws.{set-is-short}
-use Rattle.merge.proofs.RuleLaws.{Fits}
+use Rattle.merge.proofs.RuleLaws.{Fits, lowest-below-256}
 
 -- a set that was counted
 pub record Counts (bs : List ℕ) (count : ℕ) : Type 0 where
@@ -66,17 +66,13 @@ module _ (bs : List ℕ) where
     pub short-set : count ≤ 32 → length bs ≤ 32864
     short-set h = set-is-short bs (counts .whole) (rw (← counts .all) h)
 
-    pub twice-decides
-        : count ≤ 32
-        → anywhere (isTwiceIn (sectorsIn bs)) numbers ≡ true
-        → refused 17 (lowest (isTwiceIn (sectorsIn bs)) numbers) ≡ setRule bs
+    pub lowest-decides
+        : (low : ℕ)
+        → count ≤ 32
+        → low ≡ lowest (isTwiceIn (sectorsIn bs)) numbers
+        → refuseIf (ltb low 256) 17 low (accepted count) ≡ setRule bs
     unfolding setRule
-    twice-decides h e = rw (counts .whole, ← counts .all, le-ltb 32 count h, e)
-
-    pub once-passes
-        : count ≤ 32 → anywhere (isTwiceIn (sectorsIn bs)) numbers ≡ false → accepted count ≡ setRule bs
-    unfolding setRule
-    once-passes h e = rw (counts .whole, ← counts .all, le-ltb 32 count h, e)
+    lowest-decides low h e = rw (e, counts .whole, ← counts .all, le-ltb 32 count h, lowest-below-256)
 
   -- ---- after a refusal there is no index
 

@@ -1,2 +1,5 @@
--- Machine, not meaning.
+-- Machines, not meaning.
+-- Where a set has its numbers
 pub mod Index
+-- Between which numbers
+pub mod Span

@@ -7,23 +7,26 @@ ghost use Rattle.refusal.specs.Answer.{verdictAnswer, countedAnswer};
 ghost use Rattle.merge.specs.Merge.{numbers};
 ghost use Rattle.merge.specs.Alone.{setRule};
 ghost use Rattle.merge.specs.machine.Index.{Indexed};
+ghost use Rattle.merge.specs.machine.Span.{Spans};
 use crate::index::count_sectors;
 use crate::index::index_set;
+use crate::span::Span;
 use refusal::Counted;
 use refusal::Refusal;
 
 // The lowest number that an index shows twice; 256 where there is none.
-fn lowest_twice(index: &[u16; 256]) -> usize
+fn lowest_twice(index: &[u16; 256], span: Span) -> usize
+    requires { ⌜ Spans span (now index) ⌝ }
     ensures { λ r. ⌜ r ≡ lowest (λ n. eqb (getD (now (index .entry)) n 0) 65535) numbers ⌝ }
 {
-    let mut n: usize = 0;
-    while n < 256 {
+    let mut n = span.low;
+    while n < span.high {
         if index[n] == 65535 {
             return n;
         }
         n += 1;
     }
-    n
+    256
 }
 
 // 13, 15, 17; else how many sectors there are, and their index.
@@ -39,8 +42,9 @@ pub fn index_alone(set: &[u8], index: &mut [u16; 256]) -> Counted
             if 32 < count {
                 return Counted::Refused(Refusal::TooManySectors);
             }
-            if index_set(set, index) {
-                let lowest = lowest_twice(index);
+            let span = index_set(set, index);
+            let lowest = lowest_twice(index, span);
+            if lowest < 256 {
                 return Counted::Refused(Refusal::SectorsAtOdds(lowest as u32));
             }
             Counted::Count(count)

@@ -1,4 +1,4 @@
-// The merged set over all numbers in ascending order: its bytes counted, and stored.
+// The merged set, over its numbers in ascending order: its bytes counted, and stored.
 ghost use Prim.Native.Nat.{_≤_};
 ghost use mathlib.Core.Path.{_≡_};
 ghost use mathlib.Core.Bool.{false};
@@ -7,31 +7,37 @@ ghost use Rattle.lists.specs.Place.{anywhere};
 ghost use Rattle.lists.specs.Filled.{storedAt};
 ghost use Rattle.merge.specs.Set.{setBytes, sectorsIn};
 ghost use Rattle.merge.specs.Merge.{numbers, merged, atOddsAt};
-ghost use Rattle.merge.specs.machine.Index.{Indexed};
+ghost use Rattle.merge.specs.machine.Span.{Indexes};
 use crate::output::put_taken;
 use crate::output::taken_size;
+use crate::span::Span;
 
-pub fn merged_size(first: &[u8], a: &[u16; 256], second: &[u8], b: &[u16; 256]) -> usize
+pub fn merged_size(first: &[u8], a: &[u16; 256], second: &[u8], b: &[u16; 256], span: Span) -> usize
     requires { ⌜
-        Indexed (now first) (now a)
-        × Indexed (now second) (now b)
+        Indexes (now first) (now a) (now second) (now b) span
         × (anywhere (atOddsAt (sectorsIn (now first)) (sectorsIn (now second))) numbers ≡ false) ⌝ }
     ensures { λ r. ⌜
         r ≡ length (setBytes (merged (sectorsIn (now (first .entry))) (sectorsIn (now (second .entry))))) ⌝ }
 {
     let mut size: usize = 0;
-    let mut n: usize = 0;
-    while n < 256 {
+    let mut n = span.low;
+    while n < span.high {
         size += taken_size(first, a[n], second, b[n]);
         n += 1;
     }
     size
 }
 
-pub fn write_merged(first: &[u8], a: &[u16; 256], second: &[u8], b: &[u16; 256], out: &mut [u8])
+pub fn write_merged(
+    first: &[u8],
+    a: &[u16; 256],
+    second: &[u8],
+    b: &[u16; 256],
+    span: Span,
+    out: &mut [u8],
+)
     requires { ⌜
-        Indexed (now first) (now a)
-        × Indexed (now second) (now b)
+        Indexes (now first) (now a) (now second) (now b) span
         × (anywhere (atOddsAt (sectorsIn (now first)) (sectorsIn (now second))) numbers ≡ false)
         × (length (setBytes (merged (sectorsIn (now first)) (sectorsIn (now second)))) ≤ length (now out)) ⌝ }
     ensures { λ _. ⌜
@@ -40,8 +46,8 @@ pub fn write_merged(first: &[u8], a: &[u16; 256], second: &[u8], b: &[u16; 256],
         (setBytes (merged (sectorsIn (now (first .entry))) (sectorsIn (now (second .entry))))) ⌝ }
 {
     let mut start: usize = 0;
-    let mut n: usize = 0;
-    while n < 256 {
+    let mut n = span.low;
+    while n < span.high {
         start = put_taken(first, a[n], second, b[n], out, start);
         n += 1;
     }

@@ -7,7 +7,9 @@ ghost use lib.ListN.{length};
 ghost use Rattle.lists.specs.Place.{lowest};
 ghost use Rattle.merge.specs.Set.{sectorsIn};
 ghost use Rattle.merge.specs.Merge.{numbers, sameBytes, disagree, atOdds, atOddsAt};
-ghost use Rattle.merge.specs.machine.Index.{sectorAt, endOf, shown, Within, Indexed, takesSecond};
+ghost use Rattle.merge.specs.machine.Index.{sectorAt, endOf, shown, Within, takesSecond};
+ghost use Rattle.merge.specs.machine.Span.{Indexes};
+use crate::span::Span;
 
 // Looks at every byte: a loop that could end early would go byte by byte.
 fn same_bytes(a: &[u8], b: &[u8]) -> bool
@@ -68,19 +70,25 @@ fn at_odds(first: &[u8], a: u16, second: &[u8], b: u16) -> bool
 }
 
 // The lowest number at which the sets are at odds; 256 where there is none.
-pub fn lowest_at_odds(first: &[u8], a: &[u16; 256], second: &[u8], b: &[u16; 256]) -> usize
-    requires { ⌜ Indexed (now first) (now a) × Indexed (now second) (now b) ⌝ }
+pub fn lowest_at_odds(
+    first: &[u8],
+    a: &[u16; 256],
+    second: &[u8],
+    b: &[u16; 256],
+    span: Span,
+) -> usize
+    requires { ⌜ Indexes (now first) (now a) (now second) (now b) span ⌝ }
     ensures { λ r. ⌜
         r ≡ lowest (atOddsAt (sectorsIn (now (first .entry))) (sectorsIn (now (second .entry)))) numbers ⌝ }
 {
-    let mut n: usize = 0;
-    while n < 256 {
+    let mut n = span.low;
+    while n < span.high {
         if at_odds(first, a[n], second, b[n]) {
             return n;
         }
         n += 1;
     }
-    n
+    256
 }
 
 // Whether it is the second set's copy that is taken.

@@ -5,11 +5,12 @@ ghost use mathlib.Core.Bool.{false, not, _||_};
 ghost use lib.Dec.{eqb};
 ghost use lib.ListN.{length, replicate};
 ghost use Rattle.refusal.specs.Answer.{countedAnswer};
-ghost use Rattle.lists.specs.Place.{anywhere};
-ghost use Rattle.merge.specs.Set.{setOf, isMisfitSet, sectorsIn};
-ghost use Rattle.merge.specs.Alone.{isTwiceIn};
+ghost use Rattle.merge.specs.Set.{setOf, isMisfitSet};
 ghost use Rattle.merge.specs.Merge.{howMany, numbers};
 ghost use Rattle.merge.specs.machine.Index.{endRule, countRule, entryWith, entryInEither, Indexed};
+ghost use Rattle.merge.specs.machine.Span.{Spans};
+use crate::span::Span;
+use crate::span::join;
 use refusal::Counted;
 use refusal::Refusal;
 
@@ -60,24 +61,27 @@ fn entry(old: u16, place: u16) -> u16
     65535
 }
 
-// Whether a number is there twice. 32 sectors have at most 32,864 bytes, so a place fits 16 bits and is not 65,535.
-pub fn index_set(set: &[u8], index: &mut [u16; 256]) -> bool
+// Answers the span of the numbers. 32 sectors have at most 32,864 bytes, so a place fits 16 bits and is not 65,535.
+pub fn index_set(set: &[u8], index: &mut [u16; 256]) -> Span
     requires { ⌜
         (isMisfitSet (now set) ≡ false) × (length (now set) ≤ 32864) × (now index ≡ replicate 256 0) ⌝ }
     ensures indexed { λ _. ⌜ Indexed (now (set .entry)) (now (index .exit)) ⌝ }
-    ensures twice { λ r. ⌜ r ≡ anywhere (isTwiceIn (sectorsIn (now (set .entry)))) numbers ⌝ }
+    ensures spanned { λ r. ⌜ Spans r (now (index .exit)) ⌝ }
 {
-    let mut twice = false;
+    let mut span = Span { low: 256, high: 0 };
     let mut start: usize = 0;
     while start < set.len() {
         let code = start + 1;
         let number = set[start] as usize;
-        let old = index[number];
-        twice = twice | (old != 0);
-        index[number] = entry(old, code as u16);
+        index[number] = entry(index[number], code as u16);
+        let here = Span {
+            low: number,
+            high: number + 1,
+        };
+        span = join(span, here);
         start = code + 2 + sectors::sector_size(set[code]);
     }
-    twice
+    span
 }
 
 fn in_either(a: u16, b: u16) -> bool
@@ -90,12 +94,13 @@ fn in_either(a: u16, b: u16) -> bool
 }
 
 // How many different numbers two sets have.
-pub fn count_numbers(a: &[u16; 256], b: &[u16; 256]) -> usize
+pub fn count_numbers(a: &[u16; 256], b: &[u16; 256], span: Span) -> usize
+    requires { ⌜ Spans span (now a) × Spans span (now b) ⌝ }
     ensures { λ r. ⌜ r ≡ howMany (entryInEither (now (a .entry)) (now (b .entry))) numbers ⌝ }
 {
     let mut count: usize = 0;
-    let mut n: usize = 0;
-    while n < 256 {
+    let mut n = span.low;
+    while n < span.high {
         if in_either(a[n], b[n]) {
             count += 1;
         }

@@ -6,7 +6,8 @@ ghost use lib.ListN.{length};
 ghost use Rattle.refusal.specs.Answer.{accepted, refuseIf, verdictAnswer, countedAnswer};
 ghost use Rattle.merge.specs.Set.{sectorsIn};
 ghost use Rattle.merge.specs.Rule.{roomRule, mergedAnswer, mergeAnswer, mergeOutput};
-ghost use Rattle.merge.specs.machine.Index.{Indexed, setsRule, numbersRule, checkedRule, Settles};
+ghost use Rattle.merge.specs.machine.Index.{setsRule, numbersRule, checkedRule, Settles};
+ghost use Rattle.merge.specs.machine.Span.{Indexes};
 pub use alone::index_alone;
 use ascending::merged_size;
 use ascending::write_merged;
@@ -17,12 +18,15 @@ use index::index_set;
 use refusal::Counted;
 use refusal::Refusal;
 use refusal::Verdict;
+use span::Span;
+use span::join;
 
 mod alone;
 mod ascending;
 mod choice;
 mod index;
 mod output;
+mod span;
 
 // How many sectors the merged set has and how many bytes it takes.
 pub enum Merged {
@@ -56,16 +60,16 @@ fn check_sets(first: &[u8], second: &[u8]) -> Verdict
 }
 
 // 15 for more than 32 different numbers, then 17; else how many there are.
-fn check_numbers(first: &[u8], a: &[u16; 256], second: &[u8], b: &[u16; 256]) -> Counted
-    requires { ⌜ Indexed (now first) (now a) × Indexed (now second) (now b) ⌝ }
+fn check_numbers(first: &[u8], a: &[u16; 256], second: &[u8], b: &[u16; 256], span: Span) -> Counted
+    requires { ⌜ Indexes (now first) (now a) (now second) (now b) span ⌝ }
     ensures { λ r. ⌜
         countedAnswer r ≡ numbersRule (sectorsIn (now (first .entry))) (sectorsIn (now (second .entry))) ⌝ }
 {
-    let count = count_numbers(a, b);
+    let count = count_numbers(a, b, span);
     if 32 < count {
         return Counted::Refused(Refusal::TooManySectors);
     }
-    let lowest = lowest_at_odds(first, a, second, b);
+    let lowest = lowest_at_odds(first, a, second, b, span);
     if lowest < 256 {
         return Counted::Refused(Refusal::SectorsAtOdds(lowest as u32));
     }
@@ -78,23 +82,23 @@ fn deliver(
     a: &[u16; 256],
     second: &[u8],
     b: &[u16; 256],
+    span: Span,
     count: usize,
     out: &mut [u8],
 ) -> Merged
     requires { ⌜
-        Indexed (now first) (now a)
-        × Indexed (now second) (now b)
+        Indexes (now first) (now a) (now second) (now b) span
         × (accepted count ≡ numbersRule (sectorsIn (now first)) (sectorsIn (now second))) ⌝ }
     ensures { λ r. ⌜
         Settles (now (first .entry)) (now (second .entry))
         (roomRule (sectorsIn (now (first .entry))) (sectorsIn (now (second .entry))) (length (now (out .entry))))
         (mergedAnswer r) (now (out .exit)) (now (out .entry)) ⌝ }
 {
-    let bytes = merged_size(first, a, second, b);
+    let bytes = merged_size(first, a, second, b, span);
     if out.len() < bytes {
         return Merged::Refused(Refusal::OutputTooShort);
     }
-    write_merged(first, a, second, b, out);
+    write_merged(first, a, second, b, span, out);
     Merged::Set { count, bytes }
 }
 
@@ -108,11 +112,12 @@ fn merge_checked(first: &[u8], second: &[u8], out: &mut [u8]) -> Merged
 {
     let mut a = [0u16; 256];
     let mut b = [0u16; 256];
-    index_set(first, &mut a);
-    index_set(second, &mut b);
-    match check_numbers(first, &a, second, &b) {
+    let one = index_set(first, &mut a);
+    let other = index_set(second, &mut b);
+    let span = join(one, other);
+    match check_numbers(first, &a, second, &b, span) {
         Counted::Refused(refusal) => Merged::Refused(refusal),
-        Counted::Count(count) => deliver(first, &a, second, &b, count, out),
+        Counted::Count(count) => deliver(first, &a, second, &b, span, count, out),
     }
 }
 

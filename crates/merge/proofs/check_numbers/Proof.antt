@@ -16,7 +16,7 @@ returns : tie.Need-returns
 returns c =
     let pre = c .before .before .before .before .pre in
     rw (lt-ltb 32 (c .before .count-numbers .result) (omega arith)) at
-    (numbers-decide _ _ _ _ _ _ (pre .0) (pre .1) (c .before .count-numbers .ensures) refl)
+    (numbers-decide _ _ _ _ _ _ (pre .one) (pre .other) (c .before .count-numbers .ensures) refl)
 
 decided
     : (c : tie.After-lowest-at-odds)
@@ -28,7 +28,7 @@ decided c =
     let counted = c .before .before in
     let pre = counted .before .before .before .pre in
     rw (le-ltb 32 _ (c .before .if1 .left)) at
-    (numbers-decide _ _ _ _ _ _ (pre .0) (pre .1) (counted .count-numbers .ensures) (c .lowest-at-odds .ensures))
+    (numbers-decide _ _ _ _ _ _ (pre .one) (pre .other) (counted .count-numbers .ensures) (c .lowest-at-odds .ensures))
 
 pub check-numbers-spec : {M : Type 1} → statement M
 check-numbers-spec =

@@ -13,7 +13,7 @@ use Rattle.merge.proofs.deliver.Tie as tie
 merged-size-requires : tie.Need-merged-size-requires
 merged-size-requires c κs =
     let pre = c .before .before .before .pre in
-    (pre .0, pre .1, accepted-numbers _ _ (sym (ap (λ (a : Answer). a .number) (pre .2))) .1)
+    (pre .0, accepted-numbers _ _ (sym (ap (λ (a : Answer). a .number) (pre .1))) .1)
 
 returns : tie.Need-returns
 unfolding roomRule
@@ -23,8 +23,7 @@ write-merged-requires : tie.Need-write-merged-requires
 write-merged-requires c κs =
     let pre = c .before .before .before .before .before .before .pre in (
       pre .0,
-      pre .1,
-      accepted-numbers _ _ (sym (ap (λ (a : Answer). a .number) (pre .2))) .1,
+      accepted-numbers _ _ (sym (ap (λ (a : Answer). a .number) (pre .1))) .1,
       rw (c .before .before .merged-size .ensures) at (c .before .if1 .left),
     )
 
@@ -33,9 +32,9 @@ unfolding roomRule
 returns-2 c =
     let sized = c .before .before .before .before .before in
     let pre = sized .before .before .before .before .pre in
-    let rule = accepted-numbers _ _ (sym (ap (λ (a : Answer). a .number) (pre .2))) .2 in
+    let rule = accepted-numbers _ _ (sym (ap (λ (a : Answer). a .number) (pre .1))) .2 in
     let fits = rw (sized .merged-size .ensures) at (c .before .before .before .before .if1 .left) in
-    rw (le-ltb _ _ fits, ap (λ (a : Answer). a .count) (pre .2 ∙ rule), sized .merged-size .ensures)
+    rw (le-ltb _ _ fits, ap (λ (a : Answer). a .count) (pre .1 ∙ rule), sized .merged-size .ensures)
     (refl, c .before .before .write-merged .ensures ∙ stored-at-front-fills _ _ fits)
 
 pub deliver-spec : {M : Type 1} → statement M

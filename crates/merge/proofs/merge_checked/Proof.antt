@@ -7,6 +7,7 @@ use Rattle.merge.specs.machine.Index.{checkedRule}
 use Rattle.merge.proofs.SettleLaws.{refusal-settles, acceptance-leaves}
 use Rattle.merge.proofs.CountLaws.{set-is-short}
 use Rattle.merge.proofs.RuleLaws.{accepted-sets-fit}
+use Rattle.merge.proofs.SpanLaws.{both-indexed}
 use Rattle.merge.proofs.merge_checked.Statement.{statement}
 use Rattle.merge.proofs.merge_checked.Tie as tie
 
@@ -22,13 +23,19 @@ index-set-requires-2 c κs =
     let fits = accepted-sets-fit _ _ rule .1 in
     (fits .whole, set-is-short _ (fits .whole) (fits .few), refl)
 
+check-numbers-requires : tie.Need-check-numbers-requires
+check-numbers-requires c κs =
+    let joined = c .before .before in
+    both-indexed (joined .before .before .before .index-set .ensures) (joined .before .index-set2 .ensures)
+    (joined .join .ensures)
+
 deliver-requires : tie.Need-deliver-requires
 deliver-requires c κs =
     let counted = c .before .before .before .before in
     let asked = counted .before .before in
-    let indexed = asked .before .before .before in (
-      indexed .before .before .index-set .ensures .0,
-      indexed .index-set2 .ensures .0,
+    let joined = asked .before .before .before in (
+      both-indexed (joined .before .before .before .index-set .ensures) (joined .before .index-set2 .ensures)
+          (joined .join .ensures),
       rw (counted .count .given .1) at (asked .check-numbers .ensures),
     )
 
@@ -49,5 +56,5 @@ returns-2 c =
 pub merge-checked-spec : {M : Type 1} → statement M
 merge-checked-spec =
     tie.close
-    (tie.spec index-set-requires index-set-requires-2 (λ c κs. search needs) (λ c. search needs) (λ c. search needs)
-    deliver-requires returns (λ c. search needs) returns-2)
+    (tie.spec index-set-requires index-set-requires-2 (λ c κs. search needs) check-numbers-requires (λ c. search needs)
+    (λ c. search needs) deliver-requires returns (λ c. search needs) returns-2)
