@@ -12,8 +12,8 @@ use crate::fours::store;
 use lists::put;
 use symbols::Reading;
 
-// So many fours has a block of 64 cells.
-const FOURS: usize = 16;
+// So many fours has a block of 256 cells.
+const FOURS: usize = 64;
 
 // Cells of so many units, the first at place `from`, until so many bytes are whole or no cell is left. Bytes are counted
 // only where one is closed, which keeps the loop short. Code words are stored from place `to` on, where there is room.
@@ -103,7 +103,7 @@ pub fn shift_units(
     to: usize,
     out: &mut [u16],
 ) -> Pass
-    requires { ⌜ length (now units) ≤ 64 ⌝ }
+    requires { ⌜ length (now units) ≤ 256 ⌝ }
     requires { ⌜ AllCells (now units) × (m .held ≤ 16) × (m .words < most) ⌝ }
     requires { ⌜ (from + length (now units) < 2 ^ 64) × (to + length (now units) < 2 ^ 64) ⌝ }
     ensures end { λ r. ⌜ r ≡ passFrom most from m (now (units .entry)) .end ⌝ }
