@@ -1,17 +1,21 @@
 // The units of a block of intervals. The class of an interval depends on the one before it, so that they would have to
-// be found one after the other; but nearly always the bounds of both kinds stand on the same side of each interval of a
-// block. Then the kind before does not matter, and they are found at once, in vector instructions.
-ghost use Prim.Native.Nat.{_-_, _≤_, min, max};
+// be found one after the other; but nearly always no interval of a block lies between the two B23. Then whether one is of
+// class 2 is told by itself, and all are found at once, in vector instructions.
+ghost use Prim.Native.Nat.{_+_, _-_, _≤_, min, max};
 ghost use mathlib.Core.Path.{_≡_};
-ghost use mathlib.Core.List.{map};
+ghost use mathlib.Core.Bool.{Bool, true, false, cond};
+ghost use mathlib.Core.List.{_∷_, map};
 ghost use lib.ListN.{length, getD};
 ghost use Rattle.lists.specs.Place.{everywhere};
-ghost use Rattle.timing.specs.Class.{cursorAfter};
+ghost use Rattle.timing.specs.Class.{classIn, isTwo, behind, cursorAfter};
 ghost use Rattle.timing.specs.machine.Edges.{unitsFrom};
-ghost use Rattle.intervals.specs.machine.Either.{unitsBy, oneSide, isSure, sameSide, lower, upper};
+ghost use Rattle.intervals.specs.machine.Either.{unitsBy, oneSide, isSure, maskOf, kindMask};
 use timing::Bounds;
 use timing::Cursor;
 use timing::HalfClocks;
+
+// A kind for each interval of a block, at the place behind it.
+const KINDS: usize = 257;
 
 // By given bounds.
 fn units_by(bounds: Bounds, interval: u16) -> u8
@@ -32,57 +36,8 @@ fn greater(a: u16, b: u16) -> u16
     if a < b { b } else { a }
 }
 
-// The lesser of both kinds of each bound.
-fn lower(short: Bounds, long: Bounds) -> Bounds
-    ensures { λ r. ⌜ r ≡ lower short long ⌝ }
-{
-    Bounds {
-        b23: HalfClocks(lesser(short.b23.0, long.b23.0)),
-        b34: HalfClocks(lesser(short.b34.0, long.b34.0)),
-    }
-}
-
-// The greater.
-fn upper(short: Bounds, long: Bounds) -> Bounds
-    ensures { λ r. ⌜ r ≡ upper short long ⌝ }
-{
-    Bounds {
-        b23: HalfClocks(greater(short.b23.0, long.b23.0)),
-        b34: HalfClocks(greater(short.b34.0, long.b34.0)),
-    }
-}
-
-// Whether two kinds of bounds, the lower and the upper of each, stand on the same side of an interval. One compare for
-// each: between them an interval is less past the lower than the upper is; below both the difference wraps, and is no
-// less.
-fn same_side(low: Bounds, high: Bounds, interval: u16) -> bool
-    requires { ⌜ low .b23 .0 ≤ high .b23 .0 ⌝ }
-    requires { ⌜ low .b34 .0 ≤ high .b34 .0 ⌝ }
-    ensures { λ r. ⌜ r ≡ sameSide low high interval ⌝ }
-{
-    (high.b23.0 - low.b23.0 <= std::num::wrapping_sub_u16(interval, low.b23.0))
-        & (high.b34.0 - low.b34.0 <= std::num::wrapping_sub_u16(interval, low.b34.0))
-}
-
-// Of each interval. Where both kinds are the same bounds, nothing has to be looked at.
-fn all_same(short: Bounds, long: Bounds, intervals: &[u16]) -> bool
-    ensures { λ r. ⌜ r ≡ everywhere (sameSide short long) (now (intervals .entry)) ⌝ }
-{
-    if (short.b23.0 == long.b23.0) & (short.b34.0 == long.b34.0) {
-        return true;
-    }
-    let low = lower(short, long);
-    let high = upper(short, long);
-    let mut all = true;
-    let mut k: usize = 0;
-    while k < intervals.len() {
-        all = all & same_side(low, high, intervals[k]);
-        k += 1;
-    }
-    all
-}
-
-// Whether an interval does not lie between two bounds, told as above.
+// Whether an interval does not lie between two bounds. One compare for it: between them it is less past the lower than
+// the upper is; below both the difference wraps, and is no less.
 fn is_clear(low: u16, high: u16, interval: u16) -> bool
     requires { ⌜ low ≤ high ⌝ }
     ensures { λ r. ⌜ r ≡ oneSide low high interval ⌝ }
@@ -135,6 +90,60 @@ fn units_in_turn(start: Cursor, intervals: &[u16], units: &mut [u8]) -> Cursor
     cursor
 }
 
+// All ones or none, by which to choose without a jump.
+fn mask_of(two: bool) -> u16
+    ensures { λ r. ⌜ r ≡ maskOf two ⌝ }
+{
+    if two { 65535 } else { 0 }
+}
+
+fn choose(mask: u16, short: u16, long: u16) -> u16
+    ensures { λ r. ⌜ ((two : Bool) → mask ≡ maskOf two → r ≡ cond two short long) ⌝ }
+{
+    let gap = std::num::wrapping_sub_u16(short, long);
+    std::num::wrapping_add_u16(long, gap & mask)
+}
+
+// Whether an interval is of class 2, where that is told by itself.
+fn is_two(c: Cursor, interval: u16) -> bool
+    ensures { λ r. ⌜ r ≡ isTwo (classIn (behind c true) interval) ⌝ }
+{
+    (c.min.0 <= interval) & (interval < c.short.b23.0)
+}
+
+// The kind of each at the place behind it; the first is as behind another than class 2.
+fn mark_kinds(c: Cursor, intervals: &[u16], kinds: &mut [u16])
+    requires { ⌜ length (now kinds) ≡ length (now intervals) + 1 ⌝ }
+    ensures { λ _. ⌜ now (kinds .exit) ≡ 0 ∷ map (kindMask c) (now (intervals .entry)) ⌝ }
+{
+    kinds[0] = 0;
+    let mut k: usize = 0;
+    while k < intervals.len() {
+        kinds[k + 1] = mask_of(is_two(c, intervals[k]));
+        k += 1;
+    }
+}
+
+// Each by the kind of the one before it, the first as behind another than class 2. All stand on the same side of both
+// B23, so that B34 alone is chosen.
+fn fill_behind(c: Cursor, intervals: &[u16], kinds: &[u16], units: &mut [u8])
+    requires { ⌜ length (now units) ≡ length (now intervals) ⌝ }
+    requires { ⌜ everywhere (isSure (c .short) (c .long)) (now intervals) ≡ true ⌝ }
+    requires { ⌜ now kinds ≡ 0 ∷ map (kindMask c) (now intervals) ⌝ }
+    ensures { λ _. ⌜ now (units .exit) ≡ unitsFrom (behind c false) (now (intervals .entry)) ⌝ }
+{
+    let mut k: usize = 0;
+    while k < intervals.len() {
+        let b34 = choose(kinds[k], c.short.b34.0, c.long.b34.0);
+        let bounds = Bounds {
+            b23: HalfClocks(c.short.b23.0),
+            b34: HalfClocks(b34),
+        };
+        units[k] = units_by(bounds, intervals[k]);
+        k += 1;
+    }
+}
+
 fn last_of(intervals: &[u16]) -> u16
     requires { ⌜ 1 ≤ length (now intervals) ⌝ }
     ensures { λ r. ⌜ r ≡ getD (now (intervals .entry)) (length (now (intervals .entry)) - 1) 0 ⌝ }
@@ -142,19 +151,39 @@ fn last_of(intervals: &[u16]) -> u16
     intervals[intervals.len() - 1]
 }
 
-// The units of intervals, each as a cell. The first is classed where the classing stands, the others after either kind.
-pub fn units_of(start: Cursor, intervals: &[u16], units: &mut [u8]) -> Cursor
-    requires { ⌜ length (now units) ≡ length (now intervals) ⌝ }
+// Where none lies between the two B23. The first two go by where the classing stands.
+fn units_of_sure(start: Cursor, intervals: &[u16], kinds: &mut [u16], units: &mut [u8]) -> Cursor
+    requires { ⌜ (length (now units) ≡ length (now intervals)) × (2 ≤ length (now intervals)) ⌝ }
+    requires { ⌜ length (now kinds) ≡ length (now intervals) + 1 ⌝ }
+    requires { ⌜ everywhere (isSure (start .short) (start .long)) (now intervals) ≡ true ⌝ }
     ensures cursor { λ r. ⌜ r ≡ cursorAfter start (now (intervals .entry)) ⌝ }
     ensures units { λ _. ⌜ now (units .exit) ≡ unitsFrom start (now (intervals .entry)) ⌝ }
 {
+    mark_kinds(start, intervals, kinds);
+    fill_behind(start, intervals, kinds, units);
+    units[0] = start.units(intervals[0]);
+    let next = start.past(intervals[0]);
+    units[1] = next.units(intervals[1]);
+    start.behind(true).past(last_of(intervals))
+}
+
+// The units of intervals, each as a cell, from where the classing stands on.
+pub fn units_of(start: Cursor, intervals: &[u16], units: &mut [u8]) -> Cursor
+    requires { ⌜ (length (now units) ≡ length (now intervals)) × (length (now units) ≤ 256) ⌝ }
+    ensures cursor { λ r. ⌜ r ≡ cursorAfter start (now (intervals .entry)) ⌝ }
+    ensures units { λ _. ⌜ now (units .exit) ≡ unitsFrom start (now (intervals .entry)) ⌝ }
+{
+    if start.is_steady() {
+        fill_units(start.bounds, intervals, units);
+        return start;
+    }
     if intervals.len() < 2 {
         return units_in_turn(start, intervals, units);
     }
-    if all_same(start.short, start.long, intervals) {
-        fill_units(start.short, intervals, units);
-        units[0] = start.units(intervals[0]);
-        return start.behind(true).past(last_of(intervals));
+    if all_sure(start.short, start.long, intervals) {
+        let n = intervals.len() + 1;
+        let mut kinds = [0u16; KINDS];
+        return units_of_sure(start, intervals, &mut kinds[..n], units);
     }
     units_in_turn(start, intervals, units)
 }

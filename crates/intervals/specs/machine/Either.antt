@@ -1,10 +1,12 @@
 -- Machine, not meaning: laws tie it to the units of `timing` (`proofs/EitherLaws`). No lemmas here.
 -- What is the same of an interval after either kind.
-use Prim.Native.Nat.{ℕ, _+_, min, max}
-use mathlib.Core.Bool.{Bool, _&&_}
+use Prim.Native.Nat.{ℕ, _+_}
+use mathlib.Core.Bool.{Bool, true, cond}
 use mir.Val.{boolByte}
 use lib.Dec.{eqb, leb}
+use Rattle.timing.specs.Class.{classIn, isTwo, behind}
 use Rattle.timing.specs.declared.Bounds.{Bounds}
+use Rattle.timing.specs.declared.cursor.Cursor.{Cursor}
 
 -- the units of an interval by given bounds
 unfoldable pub unitsBy : Bounds → ℕ → ℕ
@@ -18,21 +20,10 @@ oneSide a b d = eqb (boolByte (leb a d)) (boolByte (leb b d))
 unfoldable pub isSure : Bounds → Bounds → ℕ → Bool
 isSure s l d = oneSide (s .b23 .0) (l .b23 .0) d
 
--- whether two kinds of bounds do
-unfoldable pub sameSide : Bounds → Bounds → ℕ → Bool
-sameSide s l d = oneSide (s .b23 .0) (l .b23 .0) d && oneSide (s .b34 .0) (l .b34 .0) d
+-- all ones for an interval of class 2, none for any other
+unfoldable pub maskOf : Bool → ℕ
+maskOf two = cond two 65535 0
 
--- the lesser of both kinds of each bound, and the greater
-abbrev pub lower : Bounds → Bounds → Bounds
-lower s l =
-    record {
-      b23 = record { 0 = min (s .b23 .0) (l .b23 .0) };
-      b34 = record { 0 = min (s .b34 .0) (l .b34 .0) };
-    }
-
-abbrev pub upper : Bounds → Bounds → Bounds
-upper s l =
-    record {
-      b23 = record { 0 = max (s .b23 .0) (l .b23 .0) };
-      b34 = record { 0 = max (s .b34 .0) (l .b34 .0) };
-    }
+-- of an interval, as behind one of class 2
+unfoldable pub kindMask : Cursor → ℕ → ℕ
+kindMask c d = maskOf (isTwo (classIn (behind c true) d))
