@@ -7,3 +7,4 @@ pub mod AnswerLaws
 pub mod AloneLaws
 pub mod NearestLaws
 pub mod SeenLaws
+pub mod MaskLaws

@@ -1,25 +1,19 @@
 -- Why the extremes of a list tell its least clearance: each interval takes its own from what is left, between the bounds
--- where the classing stands. Those bounds are the same where the pairs are equal; and where no interval lies
--- between the two B23, the one before tells them. Rests on no axiom.
-use Prim.Native.Nat.{ℕ, suc, _-_, _≤_, _<_}
+-- where the classing stands. Those bounds are the same where the pairs are equal. Rests on no axiom.
+use Prim.Native.Nat.{ℕ, suc, _<_}
 use mathlib.Core.Path.{_≡_, refl, sym, ap, ap₂, _∙_}
-use mathlib.Core.Bool.{Bool, true}
+use mathlib.Core.Bool.{true}
 use mathlib.Core.List.{List, [], _∷_, _++_}
 use native.Mathlib.Omega.{arith}
-use lib.ListN.{length, getD, drop}
-use Rattle.lists.specs.Place.{everywhere}
+use lib.ListN.{length, getD}
 use Rattle.lists.specs.Span.{least}
-use Rattle.lists.proofs.BoolLaws.{both}
 use Rattle.lists.proofs.SpanLaws.{least-of-one, least-of-two}
-use Rattle.timing.specs.Class.{classIn, isTwo, behind, cursorPast, cursorAfter}
+use Rattle.timing.specs.Class.{behind, cursorPast, cursorAfter}
 use Rattle.timing.specs.machine.Edges.{isSteady}
 use Rattle.timing.specs.declared.cursor.Cursor.{Cursor}
-use Rattle.timing.proofs.ClassLaws.{cursor-after-cons}
 use Rattle.timing.proofs.SteadyLaws.{steady-stays}
-use Rattle.intervals.specs.machine.Either.{isSure}
-use Rattle.intervals.proofs.EitherLaws.{sure-past, past-is-behind, cursor-after-either}
 use Rattle.clearance.specs.Clearance.{clearanceIn, clearancesFrom, leastFrom}
-use Rattle.clearance.specs.machine.Nearest.{Reachable, noneMet, metWith, leastMet, alikeFrom, behindFrom}
+use Rattle.clearance.specs.machine.Nearest.{Reachable, noneMet, metWith, leastMet, alikeFrom}
 use Rattle.clearance.specs.machine.Seen.{seenPast, seenFrom}
 use Rattle.clearance.specs.declared.extremes.Extremes.{Extremes}
 use Rattle.clearance.specs.declared.seen.Seen.{Seen}
@@ -101,54 +95,3 @@ pub steady-is-seen
 steady-is-seen s ds steady =
     ap₂ seenAt (alike-is-seen (s .cursor) steady (s .extremes) ds)
     (sym (cursor-seen s ds ∙ steady-after (s .cursor) steady ds))
-
--- ---- each by the one before it
-
-module _ (c : Cursor) where
-  abbrev pub Sure : List ℕ → Type 0
-  Sure ds = everywhere (isSure (c .short) (c .long)) ds ≡ true
-
-  behind-is-seen
-      : (two : Bool) (m : Extremes) (e : ℕ) (ds : List ℕ)
-      → Sure (e ∷ ds)
-      → behindFrom m (behind c true) (e ∷ ds) ≡ seenFrom (seenAt m (cursorPast (behind c two) e)) ds .extremes
-  unfolding everywhere behindFrom seenFrom seenPast
-  behind-is-seen two m e [] sure = refl
-  behind-is-seen two m e (d ∷ ds) sure =
-      let (here, rest) = both (isSure (c .short) (c .long) e) _ sure in
-      let next = metWith m (cursorPast (behind c true) e .bounds) d in
-      behind-is-seen (isTwo (classIn (behind c two) e)) next d ds rest
-      ∙ ap (λ (f : Cursor). seenFrom (seenAt next (cursorPast f d)) ds .extremes) (sym (past-is-behind c two e))
-      ∙ ap (λ (f : Cursor). seenFrom (seenAt (metWith m (f .bounds) d) (cursorPast (cursorPast (behind c two) e) d)) ds
-      .extremes) (sym (sure-past c e here two))
-
-  pub block-is-seen
-      : (two : Bool) (m : Extremes) (e : ℕ) (ds : List ℕ)
-      → Sure (e ∷ ds)
-      → seenAt (behindFrom m (behind c true) (e ∷ ds))
-      (cursorPast (behind c true) (getD (e ∷ ds) (length ds) 0))
-      ≡ seenFrom (seenAt m (cursorPast (behind c two) e)) ds
-  block-is-seen two m e ds sure =
-      ap₂ seenAt (behind-is-seen two m e ds sure)
-      (sym (cursor-seen (seenAt m (cursorPast (behind c two) e)) ds
-      ∙ sym (cursor-after-cons (behind c two) e ds)
-      ∙ cursor-after-either c two e ds sure))
-
--- as a block has it: the first two go by the cursor
-pub sure-is-seen
-    : (s : Seen) (ds : List ℕ)
-    → 2 ≤ length ds
-    → Sure (s .cursor) ds
-    → seenAt (behindFrom (seenPast (seenPast s (getD ds 0 0)) (getD ds 1 0) .extremes) (behind (s .cursor) true) (drop 1 ds))
-    (cursorPast (behind (s .cursor) true) (getD ds (length ds - 1) 0))
-    ≡ seenFrom s ds
-unfolding everywhere seenFrom seenPast cursorPast
-sure-is-seen s [] some sure = absurd (omega arith)
-sure-is-seen s (d ∷ []) some sure = absurd (omega arith)
-sure-is-seen s (d ∷ e ∷ ds) some sure =
-    let last : length (d ∷ e ∷ ds) - 1 ≡ suc (length ds) = omega arith in
-    let rest = both (isSure (s .cursor .short) (s .cursor .long) d) _ sure .1 in
-    let met = seenPast (seenPast s d) e .extremes in
-    ap (λ (k : ℕ). seenAt (behindFrom met (behind (s .cursor) true) (e ∷ ds))
-    (cursorPast (behind (s .cursor) true) (getD (d ∷ e ∷ ds) k 0))) last
-    ∙ block-is-seen (s .cursor) (isTwo (classIn (s .cursor) d)) met e ds rest

@@ -3,3 +3,5 @@
 pub mod Nearest
 -- Interval by interval, with where the classing stands
 pub mod Seen
+-- By masks of the kinds
+pub mod Masks

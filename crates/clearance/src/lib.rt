@@ -12,6 +12,7 @@ use timing::Profile;
 
 pub mod extremes;
 mod least;
+mod masks;
 pub mod seen;
 
 // A class, or how many items a strip has, with the clearance; 0 on a refusal.

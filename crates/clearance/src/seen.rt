@@ -2,22 +2,23 @@
 ghost use Prim.Native.Nat.{_≤_};
 ghost use mathlib.Core.Path.{_≡_};
 ghost use lib.ListN.{length};
-ghost use mathlib.Core.Bool.{true, cond};
-ghost use Rattle.lists.specs.Place.{everywhere};
 ghost use Rattle.timing.specs.Class.{Ascending};
-ghost use Rattle.intervals.specs.machine.Either.{isSure};
-ghost use Rattle.clearance.specs.machine.Nearest.{alikeFrom, behindFrom};
+ghost use Rattle.clearance.specs.machine.Nearest.{alikeFrom};
+ghost use Rattle.clearance.specs.machine.Masks.{AreMasks, masksFrom, maskedFrom};
 ghost use Rattle.clearance.specs.machine.Seen.{seenPast, seenFrom};
 use crate::extremes::Extremes;
-use intervals::all_sure;
+use crate::masks::bounds_by;
+use crate::masks::fill;
 use lists::at_most;
 use timing::Bounds;
 use timing::Cursor;
-use timing::HalfClocks;
 
-// As many intervals as are looked at together, so that it is done in vector instructions: two that go by the cursor, and
-// 256 behind them.
-const BLOCK: usize = 258;
+// As many intervals as are looked at together, so that it is done in vector instructions: one that goes by the cursor,
+// and 256 behind it.
+const BLOCK: usize = 257;
+
+// The mask of class 2.
+const ONES: u16 = 0xffff;
 
 pub struct Seen {
     pub extremes: Extremes,
@@ -37,29 +38,22 @@ fn extremes_alike(start: Extremes, bounds: Bounds, intervals: &[u16]) -> Extreme
     extremes
 }
 
-fn either(two: bool, short: HalfClocks, long: HalfClocks) -> HalfClocks
-    ensures { λ r. ⌜ r ≡ cond two short long ⌝ }
+// Each between the bounds for the mask of the one before it.
+fn extremes_by(
+    start: Extremes,
+    short: Bounds,
+    long: Bounds,
+    intervals: &[u16],
+    masks: &[u16],
+) -> Extremes
+    requires { ⌜ (length (now intervals) ≤ length (now masks)) × AreMasks (now masks) ⌝ }
+    ensures { λ r. ⌜ r ≡ maskedFrom start short long (now (intervals .entry)) (now (masks .entry)) ⌝ }
 {
-    if two { short } else { long }
-}
-
-// Each but the first, between the bounds for what the one before it is behind class 2. The two bounds are chosen one by
-// one, so that it is done in vector instructions.
-fn extremes_behind(start: Extremes, cursor: Cursor, intervals: &[u16]) -> Extremes
-    requires { ⌜ Ascending cursor ⌝ }
-    ensures { λ r. ⌜ r ≡ behindFrom start cursor (now (intervals .entry)) ⌝ }
-{
-    let short = cursor.short;
-    let long = cursor.long;
     let mut extremes = start;
-    let mut k: usize = 1;
+    let mut k: usize = 0;
     while k < intervals.len() {
-        let two = cursor.meets_two(intervals[k - 1]);
-        let bounds = Bounds {
-            b23: either(two, short.b23, long.b23),
-            b34: either(two, short.b34, long.b34),
-        };
-        extremes = extremes.with(bounds, intervals[k]);
+        let chosen = bounds_by(masks[k], short, long);
+        extremes = extremes.with(chosen, intervals[k]);
         k += 1;
     }
     extremes
@@ -79,51 +73,40 @@ impl Seen {
         }
     }
 
-    // One after the other.
-    fn in_turn(self, intervals: &[u16]) -> Seen
+    // With a block that has some, by its masks: the first interval goes by the cursor, each other by the one before it.
+    fn by_masks(self, intervals: &[u16], masks: &[u16]) -> Seen
+        requires { ⌜ 1 ≤ length (now intervals) ⌝ }
+        requires { ⌜ now masks ≡ masksFrom (self .cursor) (now intervals) ⌝ }
         ensures { λ r. ⌜ r ≡ seenFrom self (now (intervals .entry)) ⌝ }
     {
-        let mut seen = self;
-        let mut k: usize = 0;
-        while k < intervals.len() {
-            seen = seen.past(intervals[k]);
-            k += 1;
-        }
-        seen
-    }
-
-    // Where no interval lies between the two B23, the one before an interval tells its bounds, whatever stands before
-    // that; but for the first two, which go by the cursor.
-    fn sure(self, intervals: &[u16]) -> Seen
-        requires { ⌜ Ascending (self .cursor) ⌝ }
-        requires { ⌜ 2 ≤ length (now intervals) ⌝ }
-        requires { ⌜ everywhere (isSure (self .cursor .short) (self .cursor .long)) (now intervals) ≡ true ⌝ }
-        ensures { λ r. ⌜ r ≡ seenFrom self (now (intervals .entry)) ⌝ }
-    {
-        let two = self.past(intervals[0]).past(intervals[1]);
-        let extremes = two.extremes;
-        let behind = self.cursor.behind(true);
-        let last = intervals[intervals.len() - 1];
+        let cursor = self.cursor;
+        let first = self.past(intervals[0]);
+        let extremes = first.extremes;
+        let last = masks[masks.len() - 1];
         Seen {
-            extremes: extremes_behind(extremes, behind, &intervals[1..]),
-            cursor: behind.past(last),
+            extremes: extremes_by(extremes, cursor.short, cursor.long, &intervals[1..], masks),
+            cursor: cursor.behind(last == ONES),
         }
     }
 
-    // Nearly always a block is sure.
+    // The masks first, and then the extremes, in vector instructions.
+    fn masked(self, intervals: &[u16], masks: &mut [u16]) -> Seen
+        requires { ⌜ Ascending (self .cursor) ⌝ }
+        requires { ⌜ (1 ≤ length (now intervals)) × (length (now masks) ≡ length (now intervals)) ⌝ }
+        ensures { λ r. ⌜ r ≡ seenFrom self (now (intervals .entry)) ⌝ }
+    {
+        fill(self.cursor, intervals, masks);
+        self.by_masks(intervals, masks)
+    }
+
     fn block(self, intervals: &[u16]) -> Seen
         requires { ⌜ Ascending (self .cursor) ⌝ }
+        requires { ⌜ (1 ≤ length (now intervals)) × (length (now intervals) ≤ 257) ⌝ }
         ensures { λ r. ⌜ r ≡ seenFrom self (now (intervals .entry)) ⌝ }
     {
-        if intervals.len() < 2 {
-            return self.in_turn(intervals);
-        }
-        let short = self.cursor.short;
-        let long = self.cursor.long;
-        if all_sure(short, long, intervals) {
-            return self.sure(intervals);
-        }
-        self.in_turn(intervals)
+        let n = intervals.len();
+        let mut masks = [0u16; BLOCK];
+        self.masked(intervals, &mut masks[..n])
     }
 
     // Block by block.

@@ -5,7 +5,7 @@ use Prim.Native.Nat.{ℕ, _+_, _-_, _%_, _≤_, min}
 use mathlib.Core.Bool.{cond}
 use mathlib.Core.List.{List, [], _∷_}
 use lib.Dec.{ltb}
-use Rattle.timing.specs.Class.{Ascending, cursorPast}
+use Rattle.timing.specs.Class.{Ascending}
 use Rattle.timing.specs.declared.Bounds.{Bounds}
 use Rattle.timing.specs.declared.cursor.Cursor.{Cursor}
 use Rattle.clearance.specs.declared.extremes.Extremes.{Extremes}
@@ -61,9 +61,3 @@ leastMet low high m =
 unfoldable pub alikeFrom : Extremes → Bounds → List ℕ → Extremes
 alikeFrom m b [] = m
 alikeFrom m b (d ∷ ds) = alikeFrom (metWith m b d) b ds
-
--- with each but the first, between the bounds for after the one before it
-unfoldable pub behindFrom : Extremes → Cursor → List ℕ → Extremes
-behindFrom m c [] = m
-behindFrom m c (e ∷ []) = m
-behindFrom m c (e ∷ d ∷ ds) = behindFrom (metWith m (cursorPast c e .bounds) d) c (d ∷ ds)

@@ -3,8 +3,8 @@ use Prim.Native.Nat.{ℕ, _+_, _-_, _≤_}
 use mathlib.Core.Path.{_≡_, refl, sym, ap, _∙_}
 use mathlib.Core.List.{List}
 use native.Mathlib.Omega.{arith}
-use lib.ListN.{length, take, drop, drop-of-length-le, take-append-drop}
-use lib.Seq.{drop-drop}
+use lib.ListN.{length, take, drop, length-drop, drop-of-length-le, take-append-drop}
+use lib.Seq.{drop-drop, length-take-le}
 use borrow.Author.Needs.{needs}
 use Rattle.timing.specs.Class.{Ascending}
 use Rattle.timing.specs.declared.cursor.Cursor.{Cursor}
@@ -38,6 +38,23 @@ add-block c = record { fits = omega (arith, c .at-most .ensures, c .before .befo
 
 part-block-end : tie.Need-part-block-end Inv-loop μ-loop
 part-block-end c = omega (arith, c .at-most .ensures, c .before .before .loop .inv .0)
+
+block-requires : tie.Need-block-requires Inv-loop μ-loop
+block-requires c κs =
+    let cut = c .before in
+    let turn = cut .before .before in
+    let ds = turn .before .before .args .intervals .now in
+    let from = turn .loop .from in
+    let n = cut .at-most .result in
+    let left = length-drop from ds in
+    let count : length (take (from + n - from) (drop from ds)) ≡ n =
+    length-take-le (from + n - from) (drop from ds) (omega (arith, left, cut .at-most .ensures)) ∙ omega arith in (
+      turn .loop .inv .1,
+      (
+        rw count (omega (arith, cut .at-most .ensures, cut .before .loop-test .taken)),
+        rw count (omega (arith, cut .at-most .ensures)),
+      ),
+    )
 
 add-from : tie.Need-add-from Inv-loop μ-loop
 add-from c =
@@ -75,4 +92,4 @@ pub all-spec : {M : Type 1} → statement M
 all-spec =
     tie.close (tie.spec Inv-loop μ-loop (λ c. (omega arith, c .before .pre, refl)) (λ c. search needs) (λ c κs. search needs)
     add-block (λ c. search needs) (λ c. search needs) (λ c. search needs) part-block-end
-    (λ c κs. c .before .before .before .loop .inv .1) add-from loop-less loop-again returns)
+    block-requires add-from loop-less loop-again returns)

@@ -1,16 +1,21 @@
--- `Seen::block` is `seenFrom` either way. Rests on no axiom.
-use mathlib.Core.Path.{sym, _∙_}
+-- `Seen::block` has room for the masks of its intervals. Rests on no axiom.
+use Prim.Native.Nat.{ℕ}
+use mathlib.Core.Path.{sym}
+use lib.ListN.{length, replicate}
+use lib.Seq.{length-take-le}
 use borrow.Author.Needs.{needs}
 use Rattle.clearance.proofs.seen.Seen.block.Statement.{statement}
 use Rattle.clearance.proofs.seen.Seen.block.Tie as tie
 
-sure-requires : tie.Need-sure-requires
-sure-requires c κs =
-    let told = c .before in
-    let some = told .before .before .before in
-    (some .before .before .pre, (some .if1 .left, sym (told .all-sure .ensures) ∙ c .if2 .taken))
+slice-aggregate-masked : tie.Need-slice-aggregate-masked
+slice-aggregate-masked c = sym (length-take-le _ _ (c .before .before .pre .1 .1))
+
+masked-requires : tie.Need-masked-requires
+masked-requires c κs =
+    let entry = c .before .before in
+    let n = length (entry .args .intervals .now) in
+    (entry .pre .0, (entry .pre .1 .0, length-take-le {A = ℕ} n (replicate 257 0) (entry .pre .1 .1)))
 
 pub block-spec : {M : Type 1} → statement M
 block-spec =
-    tie.close (tie.spec (λ c κs. search needs) (λ c. search needs) (λ c κs. search needs) sure-requires
-    (λ c. search needs) (λ c κs. search needs) (λ c. search needs))
+    tie.close (tie.spec (λ c. search needs) slice-aggregate-masked masked-requires (λ c. search needs))
