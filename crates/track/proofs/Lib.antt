@@ -1,5 +1,6 @@
 pub mod FieldLaws
 pub mod OpeningLaws
+pub mod SoundLaws
 pub mod IdLaws
 pub mod SearchLaws
 pub mod StepLaws
