@@ -14,7 +14,7 @@ use Rattle.timing.specs.declared.Class.{Class}
 use Rattle.timing.specs.declared.Class.the-variants.{Narrow, Two, Three, Four, Wide}
 use Rattle.timing.specs.declared.cursor.Cursor.{Cursor}
 use Rattle.timing.proofs.ClassLaws.{class-at, cursor-past, cursor-behind, cursor-after-none}
-use Rattle.locks.specs.machine.Scan.{Twos, Following, IsSure, NoTwos}
+use Rattle.locks.specs.machine.Scan.{Twos, Following, IsSure, Known, NoTwos}
 
 pub is-two : (c : Class) → isTwo c ≡ true → c ≡ Two
 is-two Narrow e = absurd (true≢false (sym e))
@@ -111,12 +111,6 @@ module _ (p : Profile) (ds : List ℕ) where
   run-ends j h other two = ap isTwo (class-after j true h two) ∙ other
 
 -- ---- where a classing from the middle on stands
-
--- the classing stands as after one kind, and tells of the next interval whether it is of class 2
-pub record Known (p : Profile) (ds : List ℕ) (cursor : Cursor) (i : ℕ) : Type 0 where
-  pub two : Bool
-  pub is : cursor ≡ cursorOf p two
-  pub tells : isTwo (classIn cursor (getD ds i 0)) ≡ isTwo (getD (classesOf p ds) i Narrow)
 
 module _ (p : Profile) (ds : List ℕ) where
   -- by an interval that is of class 2, or is not, after either kind

@@ -6,7 +6,7 @@ ghost use mathlib.Core.Bool.{true};
 ghost use lib.ListN.{length};
 ghost use Rattle.timing.specs.Profile.{profileRule};
 ghost use Rattle.timing.specs.Class.{Ascending};
-ghost use Rattle.locks.specs.machine.Scan.{Following, PassesTo, PassesRun, IsSure, NextTwo};
+ghost use Rattle.locks.specs.machine.Scan.{Following, PassesTo, PassesRun, IsSure, Known, NextTwo};
 use timing::Cursor;
 use timing::Profile;
 
@@ -82,12 +82,12 @@ fn last_sure(short: Cursor, long: Cursor, intervals: &[u16], from: usize) -> usi
     i
 }
 
-// The first place from `from` on whose interval is of class 2; the length of the list where there is none. The
-// classing goes from the last sure place on, and so from the start of the list only where no place before is sure.
-pub fn next_two(p: Profile, intervals: &[u16], from: usize) -> usize
+// Where the classing stands at a place: it goes from the last sure place on, and so from the start of the list only where
+// no place before is sure.
+fn cursor_at(p: Profile, intervals: &[u16], from: usize) -> Cursor
     requires { ⌜ profileRule p .number ≡ 0 ⌝ }
     requires { ⌜ from < length (now intervals) ⌝ }
-    ensures { λ r. ⌜ NextTwo p (now (intervals .entry)) from r ⌝ }
+    ensures { λ r. ⌜ Known p (now (intervals .entry)) r from ⌝ }
 {
     let short = Cursor::after(p, true);
     let long = Cursor::after(p, false);
@@ -97,10 +97,21 @@ pub fn next_two(p: Profile, intervals: &[u16], from: usize) -> usize
         cursor = cursor.past(intervals[i]);
         i += 1;
     }
+    cursor
+}
+
+// The first place from `from` on whose interval is of class 2; the length of the list where there is none.
+pub fn next_two(p: Profile, intervals: &[u16], from: usize) -> usize
+    requires { ⌜ profileRule p .number ≡ 0 ⌝ }
+    requires { ⌜ from < length (now intervals) ⌝ }
+    ensures { λ r. ⌜ NextTwo p (now (intervals .entry)) from r ⌝ }
+{
+    let cursor = cursor_at(p, intervals, from);
     if cursor.meets_two(intervals[from]) {
         return from;
     }
-    i = from + 1;
+    let long = Cursor::after(p, false);
+    let mut i = from + 1;
     while i < intervals.len() {
         if long.meets_two(intervals[i]) {
             return i;

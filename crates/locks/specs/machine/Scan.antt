@@ -1,10 +1,10 @@
 -- Machine, not meaning: laws tie it to Lock (`proofs/FinderLaws`). No lemmas here.
 use Prim.Native.Nat.{ℕ, _<_, _≤_}
 use mathlib.Core.Path.{_≡_}
-use mathlib.Core.Bool.{true, false}
+use mathlib.Core.Bool.{Bool, true, false}
 use mathlib.Core.List.{List}
 use lib.ListN.{length, getD}
-use Rattle.timing.specs.Class.{classIn, isTwo, classesOf}
+use Rattle.timing.specs.Class.{cursorOf, classIn, isTwo, classesOf}
 use Rattle.timing.specs.declared.Profile.{Profile}
 use Rattle.timing.specs.declared.Class.{Class}
 use Rattle.timing.specs.declared.Class.the-variants.{Narrow, Two}
@@ -33,6 +33,12 @@ pub record PassesRun (short : Cursor) (ds : List ℕ) (from end : ℕ) : Type 0 
 pub record IsSure (short long : Cursor) (ds : List ℕ) (from at : ℕ) : Type 0 where
   pub low : at ≤ from
   pub sure : 0 < at → isTwo (classIn short (getD ds at 0)) ≡ isTwo (classIn long (getD ds at 0))
+
+-- the classing stands as after one kind, and tells of the next interval whether it is of class 2
+pub record Known (p : Profile) (ds : List ℕ) (cursor : Cursor) (i : ℕ) : Type 0 where
+  pub two : Bool
+  pub is : cursor ≡ cursorOf p two
+  pub tells : isTwo (classIn cursor (getD ds i 0)) ≡ isTwo (getD (classesOf p ds) i Narrow)
 
 -- the intervals from a place up to another are of other classes
 pub record NoTwos (cs : List Class) (low high : ℕ) : Type 0 where
