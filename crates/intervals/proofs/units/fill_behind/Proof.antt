@@ -86,10 +86,10 @@ module _ (c : Cursor) (ds kinds us₀ : List ℕ) where
             sure = both-sure .1;
             stored =
                 stored-next (u ∷ []) (unitsFrom (behind c next) (drop (suc k) ds)) us (set us k u) k (suc k)
-                    (sym (stored-one us k u)) (sym (add-one k))
-                    ∙ ap (λ (v : ℕ). storedAt us k (v ∷ unitsFrom (behind c next) (drop (suc k) ds))) e
-                    ∙ ap (storedAt us k) (sym left)
-                    ∙ f .stored;
+                (sym (stored-one us k u)) (sym (add-one k))
+                ∙ ap (λ (v : ℕ). storedAt us k (v ∷ unitsFrom (behind c next) (drop (suc k) ds))) e
+                ∙ ap (storedAt us k) (sym left)
+                ∙ f .stored;
           }
 
 abbrev Inv-loop : tie.InvT-loop

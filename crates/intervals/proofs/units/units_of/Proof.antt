@@ -26,8 +26,7 @@ slice-aggregate-units-of-sure c = sym (room _ _ (c .before .before .before .befo
 units-of-sure-requires : tie.Need-units-of-sure-requires
 units-of-sure-requires c κs =
     let start = c .before .before .before .before .before .before .before .before .before in
-    let some = c .before .before .before .before .if2 .left in
-    (
+    let some = c .before .before .before .before .if2 .left in (
       (start .pre .0, some),
       (
         room (length (start .args .intervals .now)) _ (start .pre),
