@@ -1,6 +1,6 @@
+pub mod WindowLaws
 pub mod PenLaws
-pub mod RestLaws
-pub mod BytesLaws
 pub mod StreamLaws
+pub mod RunLaws
 pub mod WriterLaws
 pub mod ReaderLaws

@@ -1,146 +1,201 @@
--- Why the pen gives the lengths of cells by their neighbours: a one ends a cell, of which the window has the zeros of
--- the last three, so that the table has the length of the middle one there. Rests on no axiom.
-use Prim.Native.Nat.{ℕ, zero, suc, _+_, _-_, _*_, _/_, _%_, _≤_, _<_}
-use mathlib.Core.Path.{_≡_, refl, sym, ap, _∙_}
-use mathlib.Core.Bool.{cond}
+-- The pen moves on with each window, and leaves the output as long as it was; bytes one after the other are a fold.
+-- Rests on no axiom.
+use Prim.Native.Nat.{ℕ, _+_, _*_, _/_, _%_, _≤_, _<_}
+use mathlib.Core.Path.{_≡_, refl, ap, ap₂, _∙_}
+use mathlib.Core.Bool.{Bool, true, false, cond, _&&_}
 use mathlib.Core.List.{List, [], _∷_, _++_}
-use native.Mathlib.Nat.{add-zero}
 use native.Mathlib.Numerals.{add-one}
 use native.Mathlib.Omega.{arith}
-use lib.ListN.{length, getD, drop}
-use Rattle.lists.specs.Filled.{storedAt}
-use Rattle.lists.proofs.StoreLaws.{stored-length}
-use Rattle.lists.proofs.TableLaws.{entry-is-rule}
-use Rattle.timing.specs.declared.Profile.{Profile}
-use Rattle.symbols.specs.Bits.{Bit, O, I, G, isOne}
-use Rattle.images.specs.Distances.{distancesFrom}
-use Rattle.lengths.specs.Neighbours.{between, nextCell, lengthsBetween}
-use Rattle.lengths.specs.machine.LengthTable.{lengthAt, lengthTable}
-use Rattle.lengths.proofs.RunLaws.{ShortCells}
-use Rattle.codec.specs.machine.Pen.{Drawing, turned, storedLate, ended, passed, drawn, Fits}
+use borrow.Author.Tests.{eqb-true, ne-eqb, lt-ltb, le-ltb}
+use lib.Dec.{eqb}
+use lib.ListN.{length, getD, drop, set, length-set}
+use lib.Seq.{drop-cons}
+use Rattle.codec.specs.machine.Windows.{ends, cellsAt, bitAt, cellsIn}
+use Rattle.codec.specs.machine.Pen.{Drawing, drawing, Writing, laid, entered, laidAll, drawingOf, begun, finished}
+use Rattle.codec.specs.machine.Pen.{windowsLeft, wroteByte, wrote, closed, firstWindow, secondWindow, writing}
+use Rattle.codec.specs.machine.Pen.{lastBits, leaves}
 
-pub stored-late-length : (old : List ℕ) (k : ℕ) (ls : List ℕ) → length (storedLate old k ls) ≡ length old
-unfolding storedLate
-stored-late-length old zero ls = stored-length old 0 (drop 1 ls)
-stored-late-length old (suc k) ls = stored-length old k ls
-
-pub drawn-of-append
-    : (table : List ℕ) (d : Drawing) (xs ys : List Bit) → drawn table d (xs ++ ys) ≡ drawn table (drawn table d xs) ys
-unfolding drawn
-drawn-of-append table d [] ys = refl
-drawn-of-append table d (x ∷ xs) ys = drawn-of-append table (cond (isOne x) (ended table d) (passed d)) xs ys
-
--- the lengths that cells give, after a window
-unfoldable pub lengthsAt : List ℕ → ℕ → List ℕ → List ℕ
-lengthsAt table window [] = []
-lengthsAt table window (c ∷ cs) = getD table (turned window c) 0 ∷ lengthsAt table (turned window c) cs
-
-stored-late-none : (old : List ℕ) (k : ℕ) → storedLate old k [] ≡ old
-unfolding storedLate storedAt
-stored-late-none old zero = refl
-stored-late-none old (suc k) = refl
-
-stored-late-one
-    : (old : List ℕ) (k n : ℕ) (ls : List ℕ)
-    → storedLate (storedLate old k (n ∷ [])) (k + 1) ls ≡ storedLate old k (n ∷ ls)
-unfolding storedLate storedAt
-stored-late-one old zero n ls = refl
-stored-late-one old (suc k) n ls = rw (add-one (suc k))
+pub one-at-least : (w : ℕ) → 1 ≤ cellsIn w
+unfolding cellsIn cellsAt
+one-at-least w = of-either (ends (bitAt w 8) (bitAt w 4) && ends (bitAt w 4) (bitAt w 2))
+  where
+    of-either : (t : Bool) → 1 ≤ cond t 2 1
+    of-either true = omega arith
+    of-either false = omega arith
 
 module _ (table : List ℕ) where
-  pub drawn-stays-small
-      : (hs : List Bit) (d : Drawing)
-      → 1 ≤ d .pen .since
-      → (1 ≤ drawn table d hs .pen .since)
-      × (drawn table d hs .pen .since ≤ d .pen .since + length hs)
-  unfolding drawn passed ended
-  drawn-stays-small [] d h = omega arith
-  drawn-stays-small (O ∷ hs) d h = omega (arith, drawn-stays-small hs (passed d) (omega arith))
-  drawn-stays-small (G ∷ hs) d h = omega (arith, drawn-stays-small hs (passed d) (omega arith))
-  drawn-stays-small (I ∷ hs) d h = omega (arith, drawn-stays-small hs (ended table d) (omega arith))
+  -- ---- on
 
-  -- ---- by cells
+  pub laid-moves-on : (d : Drawing) (w : ℕ) → d .cells < laid table d w .cells
+  unfolding laid
+  laid-moves-on d w = let more = one-at-least w in omega arith
 
-  pub output-by-cells
-      : (hs : List Bit) (d : Drawing)
-      → drawn table d hs .out
-      ≡ storedLate (d .out) (d .pen .cells) (lengthsAt table (d .pen .window) (distancesFrom (d .pen .since) hs))
-  unfolding drawn distancesFrom lengthsAt passed ended
-  output-by-cells [] d = sym (stored-late-none (d .out) (d .pen .cells))
-  output-by-cells (O ∷ hs) d = output-by-cells hs (passed d)
-  output-by-cells (G ∷ hs) d = output-by-cells hs (passed d)
-  output-by-cells (I ∷ hs) d = output-by-cells hs (ended table d) ∙ stored-late-one (d .out) (d .pen .cells) _ _
+  pub entered-moves-on : (d : Drawing) (w : ℕ) → d .cells < entered table d w .cells
+  unfolding entered
+  entered-moves-on d w =
+      (elim (eqb (d .cells) 0) as (λ t.
+      eqb (d .cells) 0 ≡ t
+      → d .cells < cond t (drawing 1 (set (d .out) 0 (getD table (2 * w + 1) 0))) (laid table d w) .cells) [
+        | true ↦ λ e. let none = eqb-true (d .cells) 0 e in omega arith
+        | false ↦ λ e. laid-moves-on d w
+      ]) refl
 
-  pub cells-by-cells
-      : (hs : List Bit) (d : Drawing)
-      → drawn table d hs .pen .cells ≡ d .pen .cells + length (distancesFrom (d .pen .since) hs)
-  unfolding drawn distancesFrom passed ended
-  cells-by-cells [] d = sym (add-zero (d .pen .cells))
-  cells-by-cells (O ∷ hs) d = cells-by-cells hs (passed d)
-  cells-by-cells (G ∷ hs) d = cells-by-cells hs (passed d)
-  cells-by-cells (I ∷ hs) d = omega (arith, cells-by-cells hs (ended table d))
+  pub all-move-on : (d : Drawing) (ws : List ℕ) → d .cells ≤ laidAll table d ws .cells
+  unfolding laidAll
+  all-move-on d [] = omega arith
+  all-move-on d (w ∷ ws) = omega (arith, laid-moves-on d w, all-move-on (laid table d w) ws)
 
-  pub drawn-length : (hs : List Bit) (d : Drawing) → length (drawn table d hs .out) ≡ length (d .out)
-  drawn-length hs d = rw (output-by-cells hs d) (stored-late-length (d .out) _ _)
+  pub begun-moves-on : (s : Writing) (byte : ℕ) → s .pen .cells < begun table s byte .cells
+  unfolding begun
+  begun-moves-on s byte =
+      omega (
+        arith,
+        entered-moves-on (drawingOf s) (firstWindow (s .pen .previous) byte),
+        laid-moves-on (entered table (drawingOf s) (firstWindow (s .pen .previous) byte))
+            (secondWindow (s .pen .previous) byte),
+      )
 
-  -- where the end has places, all that is drawn before has
-  pub fits-before : (hs : List Bit) (d : Drawing) → Fits (drawn table d hs) → Fits d
-  fits-before hs d fits = omega (arith, cells-by-cells hs d, drawn-length hs d)
+  pub byte-moves-on : (s : Writing) (w : ℕ) → s .pen .cells < wroteByte table s w .pen .cells
+  unfolding wroteByte finished
+  byte-moves-on s w =
+      omega (arith, begun-moves-on s (w % 256), all-move-on (begun table s (w % 256)) (windowsLeft w))
 
--- ---- by neighbours
+  pub bytes-move-on : (s : Writing) (ws : List ℕ) → s .pen .cells ≤ wrote table s ws .pen .cells
+  unfolding wrote
+  bytes-move-on s [] = omega arith
+  bytes-move-on s (w ∷ ws) = omega (arith, byte-moves-on s w, bytes-move-on (wroteByte table s w) ws)
 
--- the window after two cells
-abbrev Shows : ℕ → ℕ → ℕ → Type 0
-Shows window a c = window % 16 ≡ (4 * a + c) % 16
+  pub closing-moves-on : (s : Writing) → s .pen .cells + 1 < closed table s .cells
+  unfolding closed
+  closing-moves-on s = omega (arith, entered-moves-on (drawingOf s) (firstWindow (s .pen .previous) 0))
 
-shifted : (n : ℕ) → (n % 64 + 22) % 64 ≡ (n + 22) % 64
-shifted n = omega arith
+  -- ---- as long as it was
 
-middle : (x y z : ℕ) → y < 4 → z < 4 → (16 * x + 4 * y + z) / 4 % 4 ≡ y
-middle x y z hy hz = omega arith
+  pub laid-length : (d : Drawing) (w : ℕ) → length (laid table d w .out) ≡ length (d .out)
+  unfolding laid
+  laid-length d w = simp length-set
 
-module _ (window a c d : ℕ) (ds : List ℕ) (shows : Shows window a c) (short : ShortCells (a ∷ c ∷ d ∷ ds)) where
-  index : turned window d ≡ (16 * a + 4 * c + d) % 64
-  unfolding turned ShortCells
-  index = omega arith
+  pub entered-length : (d : Drawing) (w : ℕ) → length (entered table d w .out) ≡ length (d .out)
+  unfolding entered
+  entered-length d w =
+      elim (eqb (d .cells) 0) as (λ t.
+      length (cond t (drawing 1 (set (d .out) 0 (getD table (2 * w + 1) 0))) (laid table d w) .out) ≡ length (d .out))
+      [ true ↦ simp length-set | false ↦ laid-length d w ]
 
-  shows-next : Shows (turned window d) c d
-  unfolding ShortCells
-  shows-next = rw index (omega arith)
+  pub all-length : (d : Drawing) (ws : List ℕ) → length (laidAll table d ws .out) ≡ length (d .out)
+  unfolding laidAll
+  all-length d [] = refl
+  all-length d (w ∷ ws) = all-length (laid table d w) ws ∙ laid-length d w
 
-  abbrev zeros : ℕ
-  zeros = 16 * (a - 2) + 4 * (c - 2) + (d - 2)
+  pub begun-length : (s : Writing) (byte : ℕ) → length (begun table s byte .out) ≡ length (s .out)
+  unfolding begun
+  begun-length s byte = laid-length _ _ ∙ entered-length (drawingOf s) _
 
-  entry : (p : Profile) → getD (lengthTable p) (turned window d) 0 ≡ between p a c d
-  unfolding lengthTable lengthAt ShortCells
-  entry p =
-      let same : (turned window d + 22) % 64 ≡ zeros = rw index (shifted (16 * a + 4 * c + d) ∙ omega arith) in
-      let small : turned window d < 64 = rw index (omega arith) in
-      let before : 2 + zeros / 16 ≡ a = omega arith in
-      let cell : 2 + zeros / 4 % 4 ≡ c = omega (arith, middle (a - 2) (c - 2) (d - 2) (omega arith) (omega arith)) in
-      let after : 2 + zeros % 4 ≡ d = omega arith in
-      cc (entry-is-rule (lengthAt p) 64 (turned window d) 0 small)
+  pub byte-length : (s : Writing) (w : ℕ) → length (wroteByte table s w .out) ≡ length (s .out)
+  unfolding wroteByte finished
+  byte-length s w = all-length (begun table s (w % 256)) (windowsLeft w) ∙ begun-length s (w % 256)
 
--- cells after two, and one of 2 units behind them
-lengths-after
-    : (p : Profile) (cs : List ℕ) (window a c : ℕ)
-    → Shows window a c
-    → ShortCells (a ∷ c ∷ cs)
-    → lengthsAt (lengthTable p) window (cs ++ (2 ∷ [])) ≡ lengthsBetween p a (c ∷ cs)
-unfolding ShortCells lengthsAt lengthsBetween nextCell
-lengths-after p [] window a c shows short =
-    let cell = short .2 in
-    rw (entry window a c 2 [] shows (short .0, short .1, (cell .0, cell .1, (omega arith, omega arith, tt))) p)
-lengths-after p (d ∷ ds) window a c shows short =
-    rw (
-      entry window a c d ds shows short p,
-      lengths-after p ds (turned window d) c d (shows-next window a c d ds shows short) (short .2),
-    )
+  pub bytes-length : (s : Writing) (ws : List ℕ) → length (wrote table s ws .out) ≡ length (s .out)
+  unfolding wrote
+  bytes-length s [] = refl
+  bytes-length s (w ∷ ws) = bytes-length (wroteByte table s w) ws ∙ byte-length s w
 
-pub lengths-one-late
-    : (p : Profile) (cs : List ℕ)
-    → ShortCells cs
-    → drop 1 (lengthsAt (lengthTable p) 10 (cs ++ (2 ∷ []))) ≡ lengthsBetween p 2 cs
-unfolding ShortCells lengthsBetween
-lengths-one-late p cs short =
-    ap (drop 1) (lengths-after p cs 10 2 2 (omega arith) (omega arith, omega arith, (omega arith, omega arith, short)))
+  -- ---- as the code has it: what was drawn is known by an equation
+
+  pub entered-later : (d : Drawing) (w : ℕ) → (d .cells ≡ 0 → ⊥) → entered table d w ≡ laid table d w
+  unfolding entered
+  entered-later d w some = rw (ne-eqb (d .cells) 0 some)
+
+  -- where the end has places, the next window has
+  pub next-fits
+      : (d d′ : Drawing) (w n : ℕ)
+      → d′ ≡ d
+      → laid table d w .cells < n
+      → n ≡ length (d .out)
+      → d′ .cells + cellsIn w < length (d′ .out)
+  unfolding laid
+  next-fits d d′ w n e fits same = rw (e, ← same) fits
+
+  pub left-fits
+      : (d d′ : Drawing) (w : ℕ) (ws : List ℕ) (n : ℕ)
+      → d′ ≡ d
+      → laidAll table d (w ∷ ws) .cells < n
+      → n ≡ length (d .out)
+      → d′ .cells + cellsIn w < length (d′ .out)
+  unfolding laidAll
+  left-fits d d′ w ws n e fits same =
+      next-fits d d′ w n e (omega (arith, all-move-on (laid table d w) ws)) same
+
+  pub finish-fits
+      : (d d′ : Drawing) (w n : ℕ)
+      → d′ ≡ d
+      → finished table d w .cells < n
+      → n ≡ length (d .out)
+      → finished table d′ w .cells < length (d′ .out)
+  finish-fits d d′ w n e fits same = rw (e, ← same) fits
+
+  -- ---- a fold
+
+  pub wrote-of-append : (s : Writing) (us ws : List ℕ) → wrote table s (us ++ ws) ≡ wrote table (wrote table s us) ws
+  unfolding wrote
+  wrote-of-append s [] ws = refl
+  wrote-of-append s (u ∷ us) ws = wrote-of-append (wroteByte table s u) us ws
+
+  pub wrote-none : (s : Writing) → wrote table s [] ≡ s
+  unfolding wrote
+  wrote-none s = refl
+
+  -- from place k on
+  pub wrote-from : (s : Writing) (ws : List ℕ) (k : ℕ) → k < length ws
+      → wrote table s (drop k ws) ≡ wrote table (wroteByte table s (getD ws k 0)) (drop (k + 1) ws)
+  unfolding wrote
+  wrote-from s ws k h = rw (add-one, drop-cons ws k 0) refl
+
+  -- where the end has places, bytes before it have, and those behind them
+  pub first-fits
+      : (s : Writing) (us ws : List ℕ) (n : ℕ)
+      → wrote table s (us ++ ws) .pen .cells < n
+      → wrote table s us .pen .cells < n
+  first-fits s us ws n fits =
+      let on = bytes-move-on (wrote table s us) ws in
+      let whole : wrote table s (us ++ ws) .pen .cells ≡ wrote table (wrote table s us) ws .pen .cells =
+      ap (λ (x : Writing). x .pen .cells) (wrote-of-append s us ws) in
+      omega arith
+
+  pub rest-fits
+      : (s s′ : Writing) (us ws : List ℕ) (n : ℕ)
+      → s′ ≡ wrote table s us
+      → wrote table s (us ++ ws) .pen .cells < n
+      → n ≡ length (s .out)
+      → wrote table s′ ws .pen .cells < length (s′ .out)
+  rest-fits s s′ us ws n e fits same = rw (e, bytes-length s us, ← same, ← wrote-of-append s us ws) fits
+
+-- ---- what is left of a byte
+
+pub left-of-data : (w : ℕ) → w ≤ 255 → windowsLeft w ≡ w / 4 ∷ w % 64 ∷ []
+unfolding windowsLeft
+left-of-data w h = rw (le-ltb 255 w h)
+
+pub left-of-A1 : (w : ℕ) → 255 < w → w ≡ 0x1a1 → windowsLeft w ≡ 41 ∷ 20 ∷ []
+unfolding windowsLeft
+left-of-A1 w h e = rw e
+
+pub left-of-C2 : (w : ℕ) → 255 < w → (w ≡ 0x1a1 → ⊥) → windowsLeft w ≡ 57 ∷ 20 ∷ 41 ∷ []
+unfolding windowsLeft
+left-of-C2 w h other = rw (lt-ltb 255 w h, ne-eqb w 0x1a1 other)
+
+pub bits-of-A1 : (w : ℕ) → w ≡ 0x1a1 → 9 ≡ lastBits w
+unfolding lastBits
+bits-of-A1 w e = rw e
+
+pub bits-of-others : (w : ℕ) → (w ≡ 0x1a1 → ⊥) → w ≡ lastBits w
+unfolding lastBits
+bits-of-others w other = rw (ne-eqb w 0x1a1 other)
+
+pub left-so
+    : (w n : ℕ) (d e : Drawing)
+    → n ≡ lastBits w
+    → d ≡ e
+    → writing (record { previous = n; cells = d .cells }) (d .out) ≡ leaves w e
+left-so w n d e bits same =
+    ap₂ (λ (m : ℕ) (f : Drawing). writing (record { previous = m; cells = f .cells }) (f .out)) bits same

@@ -1,5 +1,5 @@
 -- Machines, not meaning.
--- Half cells to lengths
+-- Lengths by the data bits around a cell's end
+pub mod Windows
+-- Written bytes to lengths
 pub mod Pen
--- Written bytes to half cells
-pub mod Bytes

@@ -1,5 +1,5 @@
 // Writer and strip reader: lists of items to intervals, and back.
-mod bytes;
 mod pen;
 pub mod reader;
+mod windows;
 pub mod writer;

@@ -1,106 +1,92 @@
 // The writer: the list is checked whole before the first interval is stored.
-ghost use Prim.Native.Nat.{_≤_};
+ghost use Prim.Native.Nat.{_≤_, _<_};
 ghost use mathlib.Core.Path.{_≡_};
+ghost use mathlib.Core.List.{_++_};
 ghost use lib.Dec.{leb};
 ghost use lib.ListN.{length};
 ghost use Rattle.lists.specs.Filled.{storedAt};
 ghost use Rattle.refusal.specs.Answer.{countedAnswer};
 ghost use Rattle.items.specs.Item.{writtenBytes};
-ghost use Rattle.items.specs.Written.{afterItem, itemBytes, written};
+ghost use Rattle.items.specs.Written.{afterBytes, checkBytes, afterCheck, written};
 ghost use Rattle.symbols.specs.Cells.{writtenCells};
 ghost use Rattle.timing.specs.Profile.{profileRule};
 ghost use Rattle.items.specs.Rule.{listRule};
 ghost use Rattle.lengths.specs.Stream.{byteStream};
-ghost use Rattle.codec.specs.machine.Pen.{Room};
-ghost use Rattle.codec.specs.machine.Bytes.{writing, wrote, freshTrack, Holds};
+ghost use Rattle.codec.specs.machine.Pen.{writing, freshPen, wrote};
 ghost use Rattle.codec.specs.Writer.{writeRule, writeOutput};
-use crate::bytes::Track;
-use crate::bytes::fresh_track;
-use crate::bytes::write_byte;
-use crate::bytes::write_bytes;
-use crate::bytes::write_closing;
+use crate::pen::Pen;
+use crate::pen::draw_bytes;
+use crate::pen::draw_closing;
+use crate::windows::window_table;
 use items::Check;
 use refusal::Counted;
 use refusal::Refusal;
 use refusal::Verdict;
 use timing::Profile;
 
-// A track and the check register, after some items.
+// A pen and the check register, after some items.
 pub struct Part {
-    pub track: Track,
+    pub pen: Pen,
     pub check: Check,
 }
 
-fn write_item(table: &[u16; 64], start: Part, item: u16, out: &mut [u16]) -> Part
-    requires { ⌜ Room (start .track .pen) 2 ⌝ }
-    requires { ⌜ Holds (wrote (now table) (writing (start .track) (now out)) (itemBytes (start .check) item)) ⌝ }
-    ensures check { λ r. ⌜ r .check ≡ afterItem (start .check) item ⌝ }
-    ensures track { λ r. ⌜
-        writing (r .track) (now (out .exit))
-        ≡ wrote (now (table .entry)) (writing (start .track) (now (out .entry))) (itemBytes (start .check) item) ⌝ }
+// A run of bytes, and the check order behind it.
+fn write_run(table: &[u16; 128], start: Part, run: &[u16], out: &mut [u16]) -> Part
+    requires { ⌜
+        wrote (now table) (writing (start .pen) (now out))
+        (now run ++ checkBytes (afterBytes (start .check) (now run))) .pen .cells < length (now out) ⌝ }
+    ensures check { λ r. ⌜ r .check ≡ afterCheck (afterBytes (start .check) (now (run .entry))) ⌝ }
+    ensures pen { λ r. ⌜
+        writing (r .pen) (now (out .exit))
+        ≡ wrote (now (table .entry)) (writing (start .pen) (now (out .entry)))
+        (now (run .entry) ++ checkBytes (afterBytes (start .check) (now (run .entry)))) ⌝ }
 {
-    let check = start.check.after_item(item);
-    if items::is_check(item) {
-        let high = write_byte(table, start.track, start.check.high(), out);
-        let low = write_byte(table, high, start.check.low(), out);
-        return Part { track: low, check };
-    }
+    let check = start.check.after_bytes(run);
+    let pen = draw_bytes(table, start.pen, run, out);
+    let bytes = [check.high(), check.low()];
     Part {
-        track: write_byte(table, start.track, item, out),
-        check,
+        pen: draw_bytes(table, pen, &bytes, out),
+        check: check.after_check(),
     }
 }
 
-// Item by item, so that a check order finds the register as it is then.
-fn write_each(table: &[u16; 64], items: &[u16], out: &mut [u16]) -> Track
-    requires { ⌜ length (now items) ≤ 6400 ⌝ }
-    requires { ⌜ Holds (wrote (now table) (writing freshTrack (now out)) (written (now items))) ⌝ }
-    ensures room { λ r. ⌜ Room (r .pen) 1 ⌝ }
-    ensures track { λ r. ⌜
+// Run by run, so that a check order finds the register as it is then. Behind the last no register is asked for.
+fn write_items(table: &[u16; 128], items: &[u16], out: &mut [u16]) -> Pen
+    requires { ⌜ wrote (now table) (writing freshPen (now out)) (written (now items)) .pen .cells < length (now out) ⌝ }
+    ensures { λ r. ⌜
         writing r (now (out .exit))
-        ≡ wrote (now (table .entry)) (writing freshTrack (now (out .entry))) (written (now (items .entry))) ⌝ }
+        ≡ wrote (now (table .entry)) (writing freshPen (now (out .entry))) (written (now (items .entry))) ⌝ }
 {
     let mut part = Part {
-        track: fresh_track(),
+        pen: Pen {
+            previous: 0,
+            cells: 0,
+        },
         check: Check::fresh(),
     };
-    let mut k: usize = 0;
-    while k < items.len() {
-        part = write_item(table, part, items[k], out);
-        k += 1;
+    let mut from: usize = 0;
+    let mut run = items::find_check(items);
+    while run < items.len() - from {
+        let end = from + run;
+        part = write_run(table, part, &items[from..end], out);
+        from = end + 1;
+        run = items::find_check(&items[from..]);
     }
-    part.track
-}
-
-// The cells of a list's written bytes, from the front of the output on. A list with no check order is its own bytes,
-// and needs no register.
-fn write_items(table: &[u16; 64], items: &[u16], bytes: usize, out: &mut [u16]) -> Track
-    requires { ⌜ (bytes ≡ writtenBytes (now items)) × (length (now items) ≤ 6400) ⌝ }
-    requires { ⌜ Holds (wrote (now table) (writing freshTrack (now out)) (written (now items))) ⌝ }
-    ensures room { λ r. ⌜ Room (r .pen) 1 ⌝ }
-    ensures track { λ r. ⌜
-        writing r (now (out .exit))
-        ≡ wrote (now (table .entry)) (writing freshTrack (now (out .entry))) (written (now (items .entry))) ⌝ }
-{
-    if bytes == items.len() {
-        return write_bytes(table, fresh_track(), items, out);
-    }
-    write_each(table, items, out)
+    draw_bytes(table, part.pen, &items[from..], out)
 }
 
 // The stream of a list, where it has room. Answers its length.
-fn write_stream(p: Profile, items: &[u16], bytes: usize, out: &mut [u16]) -> usize
+fn write_stream(p: Profile, items: &[u16], out: &mut [u16]) -> usize
     requires { ⌜ profileRule p .number ≡ 0 ⌝ }
     requires { ⌜ listRule (now items) .number ≡ 0 ⌝ }
-    requires { ⌜ bytes ≡ writtenBytes (now items) ⌝ }
     requires { ⌜ length (byteStream p (written (now items))) ≤ length (now out) ⌝ }
     ensures length { λ r. ⌜ r ≡ length (byteStream p (written (now (items .entry)))) ⌝ }
     ensures output { λ _. ⌜
         now (out .exit) ≡ storedAt (now (out .entry)) 0 (byteStream p (written (now (items .entry)))) ⌝ }
 {
-    let table = lengths::length_table(p);
-    let track = write_items(&table, items, bytes, out);
-    write_closing(&table, track, out)
+    let table = window_table(p);
+    let pen = write_items(&table, items, out);
+    draw_closing(&table, pen, out)
 }
 
 // Whether an accepted list's stream has room in an output of so many places. A byte ends eight cells at most and the
@@ -125,7 +111,7 @@ fn write_list(p: Profile, items: &[u16], out: &mut [u16]) -> Counted
 {
     let bytes = items::written_bytes(items);
     if has_room(items, bytes, out.len()) {
-        let count = write_stream(p, items, bytes, out);
+        let count = write_stream(p, items, out);
         return Counted::Count(count);
     }
     Counted::Refused(Refusal::OutputTooShort)

@@ -5,4 +5,3 @@ pub mod Stream
 pub mod Units
 pub mod Margin
 pub mod Claims
-pub mod machine

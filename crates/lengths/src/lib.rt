@@ -9,7 +9,7 @@ mod table;
 
 use refusal::Counted;
 use refusal::Verdict;
-pub use table::length_table;
+pub use table::length_between;
 use timing::Profile;
 
 fn least(a: u16, b: u16) -> u16

@@ -6,7 +6,6 @@ ghost use Prim.Native.Nat.{_+_, _-_, _≤_, _<_};
 ghost use Rattle.timing.specs.Profile.{profileRule};
 ghost use Rattle.lengths.specs.Lengths;
 ghost use Rattle.lengths.specs.Neighbours.{between};
-ghost use Rattle.lengths.specs.machine.LengthTable.{lengthTable};
 use timing::Clocks;
 use timing::HalfClocks;
 use timing::Profile;
@@ -38,7 +37,7 @@ fn shifted(nominal: HalfClocks, start: HalfClocks, end: HalfClocks) -> HalfClock
 }
 
 // The length of a cell between two, each given by its zeros.
-fn length_between(p: Profile, before: u16, zeros: u16, after: u16) -> HalfClocks
+pub fn length_between(p: Profile, before: u16, zeros: u16, after: u16) -> HalfClocks
     requires { ⌜ profileRule p .number ≡ 0 ⌝ }
     requires { ⌜ zeros < 4 ⌝ }
     ensures { λ r. ⌜ r .0 ≡ between p (2 + before) (2 + zeros) (2 + after) ⌝ }
@@ -47,20 +46,4 @@ fn length_between(p: Profile, before: u16, zeros: u16, after: u16) -> HalfClocks
     let start = point(p, before == 0, zeros == 0);
     let end = point(p, zeros == 0, after == 0);
     shifted(nominal, start.in_half_clocks(), end.in_half_clocks())
-}
-
-// The lengths of all cells of 2 to 5 units between two of 2 to 5 units: at 16 × the units of the cell before + 4 ×
-// those of the cell + those of the cell after, modulo 64.
-pub fn length_table(p: Profile) -> [u16; 64]
-    requires { ⌜ profileRule p .number ≡ 0 ⌝ }
-    ensures { λ r. ⌜ r ≡ lengthTable p ⌝ }
-{
-    let mut table = [0u16; 64];
-    let mut k: u16 = 0;
-    while k < 64 {
-        let zeros = (k + 22) % 64;
-        table[k as usize] = length_between(p, zeros / 16, zeros / 4 % 4, zeros % 4).0;
-        k += 1;
-    }
-    table
 }

@@ -1,91 +1,87 @@
--- Machine, not meaning: laws tie it to `lengthsBetween` (`proofs/PenLaws`). No lemmas here.
--- The writer's pen over half cells, with the output that it leaves.
-use Prim.Native.Nat.{ℕ, zero, suc, _+_, _-_, _*_, _%_, _^_, _≤_, _<_}
-use mathlib.Core.Path.{_≡_}
+-- Machine, not meaning: laws tie it to the stream (`proofs/StreamLaws`). No lemmas here.
+-- The writer's pen over written bytes, with the output that it leaves.
+use Prim.Native.Nat.{ℕ, _+_, _*_, _/_, _%_}
 use mathlib.Core.Bool.{cond}
 use mathlib.Core.List.{List, [], _∷_}
-use lib.ListN.{length, getD, drop}
-use Rattle.lists.specs.Filled.{storedAt}
-use Rattle.symbols.specs.Bits.{Bit, isOne}
-use Rattle.images.specs.machine.TopBits.{topBits}
+use lib.Dec.{eqb, ltb}
+use lib.ListN.{getD, set}
+use Rattle.codec.specs.machine.Windows.{cellsIn}
 use Rattle.codec.specs.declared.pen.Pen.{Pen}
-use Rattle.codec.specs.declared.pen.Rest.{Rest}
+
+-- the cells so far, and the output
+pub record Drawing : Type 0 where
+  pub cells : ℕ
+  pub out : List ℕ
+
+abbrev pub drawing : ℕ → List ℕ → Drawing
+drawing cells out = record { cells = cells; out = out }
 
 -- a pen and the output
-pub record Drawing : Type 0 where
+pub record Writing : Type 0 where
   pub pen : Pen
   pub out : List ℕ
 
-abbrev pub drawing : Pen → List ℕ → Drawing
-drawing pen out = record { pen = pen; out = out }
+abbrev pub writing : Pen → List ℕ → Writing
+writing pen out = record { pen = pen; out = out }
 
-abbrev pub penAt : ℕ → ℕ → ℕ → Pen
-penAt since window cells = record { since = since; window = window; cells = cells }
+-- before the first byte: the lead 0
+abbrev pub freshPen : Pen
+freshPen = record { previous = 0; cells = 0 }
 
--- the window after a cell: the units of the last three cells, modulo 64, as the table of lengths has them
-unfoldable pub turned : ℕ → ℕ → ℕ
-turned window cell = (window % 16 * 4 + cell) % 64
+-- two lengths are stored, and one or two cells ended
+unfoldable pub laid : List ℕ → Drawing → ℕ → Drawing
+laid table d w =
+    drawing (d .cells + cellsIn w)
+    (set (set (d .out) (d .cells) (getD table (2 * w) 0)) (d .cells + 1) (getD table (2 * w + 1) 0))
 
--- the output with lengths that are given after so many cells, each one cell late
-unfoldable pub storedLate : List ℕ → ℕ → List ℕ → List ℕ
-storedLate old zero ls = storedAt old 0 (drop 1 ls)
-storedLate old (suc k) ls = storedAt old k ls
+-- the lead 0 ends no cell
+unfoldable pub entered : List ℕ → Drawing → ℕ → Drawing
+entered table d w =
+    cond (eqb (d .cells) 0) (drawing 1 (set (d .out) 0 (getD table (2 * w + 1) 0))) (laid table d w)
 
--- a one ends a cell
-unfoldable pub ended : List ℕ → Drawing → Drawing
-ended table d =
-    let window = turned (d .pen .window) (d .pen .since) in
-    drawing (penAt 1 window (d .pen .cells + 1))
-    (storedLate (d .out) (d .pen .cells) (getD table window 0 ∷ []))
+unfoldable pub laidAll : List ℕ → Drawing → List ℕ → Drawing
+laidAll table d [] = d
+laidAll table d (w ∷ ws) = laidAll table (laid table d w) ws
 
--- a zero does not
-unfoldable pub passed : Drawing → Drawing
-passed d = drawing (penAt (suc (d .pen .since)) (d .pen .window) (d .pen .cells)) (d .out)
+-- the last bit of the byte before, and a byte's first three
+abbrev pub firstWindow : ℕ → ℕ → ℕ
+firstWindow previous byte = previous % 16 * 4 + byte / 64
 
-unfoldable pub drawn : List ℕ → Drawing → List Bit → Drawing
-drawn table d [] = d
-drawn table d (b ∷ bs) = drawn table (cond (isOne b) (ended table d) (passed d)) bs
+abbrev pub secondWindow : ℕ → ℕ → ℕ
+secondWindow previous byte = previous % 4 * 16 + byte / 16
 
--- no number on the way of so many words more is too large
-abbrev pub Room : Pen → ℕ → Type 0
-Room pen words = (1 ≤ pen .since) × (pen .since + 16 * words ≤ 300000)
+abbrev pub drawingOf : Writing → Drawing
+drawingOf s = drawing (s .pen .cells) (s .out)
 
--- the lengths so far have places: each cell but the last has one
-abbrev pub Fits : Drawing → Type 0
-Fits d = d .pen .cells ≤ length (d .out) + 1
+unfoldable pub begun : List ℕ → Writing → ℕ → Drawing
+begun table s byte =
+    laid table (entered table (drawingOf s) (firstWindow (s .pen .previous) byte))
+    (secondWindow (s .pen .previous) byte)
 
--- ---- within a word
+-- what is left of a byte; behind a mark's missing clock bit the cells are those of other data
+unfoldable pub windowsLeft : ℕ → List ℕ
+windowsLeft w =
+    cond (ltb 255 w) (cond (eqb w 0x1a1) (41 ∷ 20 ∷ []) (57 ∷ 20 ∷ 41 ∷ [])) (w / 4 ∷ w % 64 ∷ [])
 
-abbrev pub restAt : ℕ → ℕ → ℕ → ℕ → Rest
-restAt last window cells ones = record { last = last; window = window; cells = cells; ones = ones }
+unfoldable pub finished : List ℕ → Drawing → ℕ → Drawing
+finished table d w = laidAll table d (windowsLeft w)
 
--- the rest of a word, drawn
-abbrev pub restDrawn : List ℕ → List ℕ → Rest → Drawing
-restDrawn table out rest =
-    drawn table (drawing (penAt 1 (rest .window) (rest .cells)) out) (topBits (rest .last) (rest .ones))
+-- mark A1 leaves the cells as 1001 does
+unfoldable pub lastBits : ℕ → ℕ
+lastBits w = cond (eqb w 0x1a1) 9 w
 
--- the ones stand below the last one, and no place is too large
-pub record Pending (rest : Rest) : Type 0 where
-  pub below : rest .ones < 2 ^ rest .last
-  pub small : rest .ones < 2 ^ 32
-  pub near : rest .last ≤ 300000
+abbrev pub leaves : ℕ → Drawing → Writing
+leaves w d = writing (record { previous = lastBits w; cells = d .cells }) (d .out)
 
--- the place of the highest one
-abbrev pub Highest : ℕ → ℕ → Type 0
-Highest ones place = (2 ^ place ≤ ones) × (ones < 2 ^ suc place)
+unfoldable pub wroteByte : List ℕ → Writing → ℕ → Writing
+wroteByte table s w = leaves w (finished table (begun table s (w % 256)) w)
 
--- what is left behind the one at a place
-abbrev pub behind : Rest → ℕ → Rest
-behind rest place =
-    restAt place (turned (rest .window) (rest .last - place)) (rest .cells + 1) (rest .ones - 2 ^ place)
+unfoldable pub wrote : List ℕ → Writing → List ℕ → Writing
+wrote table s [] = s
+wrote table s (w ∷ ws) = wrote table (wroteByte table s w) ws
 
--- half cells that a pen can draw at once
-abbrev pub Drawable : Pen → ℕ → ℕ → Type 0
-Drawable pen word width =
-    (1 ≤ pen .since) × (pen .since + width ≤ 300000) × (1 ≤ width) × (width ≤ 32) × (word < 2 ^ width)
-
--- they are left to draw, and no one but behind the first
-pub record Begun (start : Pen) (word width : ℕ) (rest : Rest) : Type 0 where
-  pub pending : Pending rest
-  pub behind-first : rest .ones ≤ (2 ^ 32 - 1) * rest .cells
-  pub same : (table out : List ℕ) → restDrawn table out rest ≡ drawn table (drawing start out) (topBits width word)
+-- the two closing 0s
+unfoldable pub closed : List ℕ → Writing → Drawing
+closed table s =
+    let d = entered table (drawingOf s) (firstWindow (s .pen .previous) 0) in
+    drawing (d .cells + 1) (set (d .out) (d .cells) (getD table (s .pen .previous % 4 * 32) 0))

@@ -1,48 +1,155 @@
--- Why `codec::writer::write_items` draws all words of a list: where it writes no more bytes than it has numbers it has
--- no check order, and is its own bytes. Rests on no axiom.
-use Prim.Native.Nat.{ℕ}
-use mathlib.Core.Path.{_≡_, sym, ap, _∙_}
-use mathlib.Core.List.{List}
+-- Why `codec::writer::write_items` draws all bytes of a list: each turn draws a run and the check order behind it, and the
+-- last run is its own bytes. Rests on no axiom.
+use Prim.Native.Nat.{ℕ, _+_, _-_, _≤_, _<_}
+use mathlib.Core.Path.{_≡_, refl, sym, ap, ap₂, _∙_}
+use mathlib.Core.List.{List, _++_}
 use native.Mathlib.Omega.{arith}
 use borrow.Author.Needs.{needs}
-use lib.ListN.{length}
-use Rattle.items.specs.Item.{writtenBytes}
-use Rattle.items.specs.Written.{written}
-use Rattle.items.proofs.ItemLaws.{one-byte-each-is-no-check}
-use Rattle.items.proofs.WrittenLaws.{written-of-no-check}
-use Rattle.codec.specs.machine.Bytes.{writing, freshTrack, wrote}
-use Rattle.codec.specs.declared.bytes.Track.{Track}
-use Rattle.codec.proofs.BytesLaws.{room-after-bytes, room-carries}
+use lib.ListN.{length, take, drop, length-drop}
+use lib.Seq.{drop-drop, take-all}
+use Rattle.lists.specs.Place.{lowest}
+use Rattle.items.specs.Item.{isCheck}
+use Rattle.items.specs.Written.{afterBytes, checkBytes, afterCheck, writtenFrom, written}
+use Rattle.items.specs.declared.Check.{Check}
+use Rattle.codec.specs.machine.Pen.{Writing, writing, freshPen, wrote}
+use Rattle.codec.proofs.PenLaws.{bytes-move-on, bytes-length, wrote-of-append}
+use Rattle.codec.proofs.RunLaws.{run-alone, run-then-check}
 use denote.Ref.{now}
 use Rattle.codec.proofs.writer.write_items.Statement.{statement}
 use Rattle.codec.proofs.writer.write_items.Tie as tie
 
-own-bytes : (items : List ℕ) (bytes : ℕ) → bytes ≡ writtenBytes items → bytes ≡ length items → written items ≡ items
-own-bytes items bytes counted few = written-of-no-check items (one-byte-each-is-no-check items (sym counted ∙ few))
+-- at a place: the next check order is told, and what is left makes the whole
+record Writing-on (table items : List ℕ) (s₀ s : Writing) (check : Check) (from run : ℕ) : Type 0 where
+  pub within : from ≤ length items
+  pub told : run ≡ lowest isCheck (drop from items)
+  pub whole : wrote table s (writtenFrom check (drop from items)) ≡ wrote table s₀ (written items)
 
-write-bytes-requires : tie.Need-write-bytes-requires
-write-bytes-requires c κs =
-    let entry = c .before .before .before .before .before in
-    let own = own-bytes _ _ (entry .pre .0 .0) (c .before .before .if1 .taken) in
-    rw (c .before .fresh-track .ensures) ((omega arith, omega (arith, entry .pre .0 .1)), rw own at (entry .pre .1))
+module _ {table items : List ℕ} {s₀ s : Writing} {check : Check} {from run : ℕ}
+    (on : Writing-on table items s₀ s check from run) where
+  left : length (drop from items) ≡ length items - from
+  left = length-drop from items
 
-returns : tie.Need-returns
+  same-length : length (s .out) ≡ length (s₀ .out)
+  same-length =
+      sym (bytes-length table s (writtenFrom check (drop from items)))
+      ∙ ap (λ (x : Writing). length (x .out)) (on .whole)
+      ∙ bytes-length table s₀ (written items)
+
+  module _ (inside : run < length items - from) where
+    abbrev part : List ℕ
+    part = take (from + run - from) (drop from items)
+
+    abbrev bytes : List ℕ
+    bytes = part ++ checkBytes (afterBytes check part)
+
+    abbrev check-after : Check
+    check-after = afterCheck (afterBytes check part)
+
+    behind : wrote table (wrote table s bytes) (writtenFrom check-after (drop (from + run + 1) items))
+        ≡ wrote table s₀ (written items)
+    behind =
+        let size : from + run - from ≡ run = omega arith in
+        let place : from + (run + 1) ≡ from + run + 1 = omega arith in
+        let rest : drop (run + 1) (drop from items) ≡ drop (from + run + 1) items =
+        drop-drop (run + 1) from items ∙ ap (λ (k : ℕ). drop k items) place in
+        let parts = run-then-check check (drop from items) run (on .told) (omega (arith, left)) in
+        sym (wrote-of-append table s bytes _)
+        ∙ ap (wrote table s) (rw size (sym (rw rest at parts)))
+        ∙ on .whole
+
+    fits : wrote table s₀ (written items) .pen .cells < length (s₀ .out)
+        → wrote table s bytes .pen .cells < length (s .out)
+    fits f =
+        let on-move = bytes-move-on table (wrote table s bytes) (writtenFrom check-after (drop (from + run + 1) items)) in
+        let same = ap (λ (x : Writing). x .pen .cells) behind in
+        omega (arith, same-length)
+
+    a-run-more
+        : (s′ : Writing) (check′ : Check) (run′ : ℕ)
+        → check′ ≡ check-after
+        → s′ ≡ wrote table s bytes
+        → run′ ≡ lowest isCheck (drop (from + run + 1) items)
+        → Writing-on table items s₀ s′ check′ (from + run + 1) run′
+    a-run-more s′ check′ run′ checks writes told =
+        record {
+          within = omega arith;
+          told = told;
+          whole =
+              ap₂ (λ (x : Writing) (c : Check). wrote table x (writtenFrom c (drop (from + run + 1) items))) writes checks
+              ∙ behind;
+        }
+
+  module _ (end : length items - from ≤ run) where
+    last : wrote table s (drop from items) ≡ wrote table s₀ (written items)
+    last =
+        ap (wrote table s) (sym (run-alone check (drop from items) run (on .told) (omega (arith, left)))) ∙ on .whole
+
+    last-fits : wrote table s₀ (written items) .pen .cells < length (s₀ .out)
+        → wrote table s (drop from items) .pen .cells < length (s .out)
+    last-fits f = let same = ap (λ (x : Writing). x .pen .cells) last in omega (arith, same-length)
+
+abbrev Inv-loop : tie.InvT-loop
+Inv-loop table items out₀ part₀ from₀ run₀ out part from run =
+    Writing-on table items (writing freshPen out₀) (writing (part .pen) out) (part .check) from run
+
+abbrev μ-loop : tie.MeasureT-loop
+μ-loop table items out₀ part₀ from₀ run₀ out part from run = length items - from
+
+loop-holds : tie.Need-loop-holds Inv-loop μ-loop
+unfolding written
+loop-holds c =
+    rw (c .before .fresh .ensures) (record { within = omega arith; told = c .find-check .ensures; whole = refl })
+
+write-run-requires : tie.Need-write-run-requires Inv-loop μ-loop
+write-run-requires c κs =
+    let turn = c .before .before in
+    fits (turn .before .loop .inv) (turn .loop-test .taken)
+    (turn .before .before .before .before .before .before .pre)
+
+-- a slice from a place on
+rest-of : (items : List ℕ) (from : ℕ) → take (length items - from) (drop from items) ≡ drop from items
+rest-of items from = take-all (length items - from) (drop from items) (omega (arith, length-drop from items))
+
+loop-again : tie.Need-loop-again Inv-loop μ-loop
+loop-again c =
+    let wrote-so = c .before .before .before .before in
+    let turn = wrote-so .before .before .before in
+    let head = turn .before .loop in
+    let items = now (turn .before .before .before .before .before .before .args .items) in
+    let told = c .find-check2 .ensures ∙ ap (lowest isCheck) (rest-of items (head .from + head .run + 1)) in
+    a-run-more (head .inv) (turn .loop-test .taken) _ _ _ (wrote-so .write-run .ensures .0)
+    (wrote-so .write-run .ensures .1) told
+
+draw-bytes-requires : tie.Need-draw-bytes-requires Inv-loop μ-loop
+draw-bytes-requires c κs =
+    let end = c .before .before in
+    let entry = end .before .before .before .before .before .before in
+    rw (rest-of (now (entry .args .items)) (end .before .loop .from))
+    (last-fits (end .before .loop .inv) (end .loop-test .left) (entry .pre))
+
+returns : tie.Need-returns Inv-loop μ-loop
 returns c =
-    let begun = c .before .before .before .before in
-    let entry = begun .before .before .before .before in
-    let table = now (entry .args .table) in
-    let items = now (entry .args .items) in
-    let old = now (entry .args .out) in
-    let own = own-bytes _ _ (entry .pre .0 .0) (begun .before .if1 .taken) in
-    let all =
-    c .before .before .write-bytes .ensures
-    ∙ ap (λ (t : Track). wrote table (writing t old) items) (begun .fresh-track .ensures) in (
-      room-carries table 1 1 (omega arith) all
-          (room-after-bytes table (writing freshTrack old) items 1 (omega arith, omega (arith, entry .pre .0 .1))),
-      all ∙ ap (wrote table (writing freshTrack old)) (sym own),
-    )
+    let drawn = c .before .before in
+    let end = drawn .before .before .before in
+    let args = end .before .before .before .before .before .before .args in
+    drawn .draw-bytes .ensures
+    ∙ ap (wrote (now (args .table)) _) (rest-of (now (args .items)) (end .before .loop .from))
+    ∙ last (end .before .loop .inv) (end .loop-test .left)
+
+keeps-length : tie.Need-same-length Inv-loop μ-loop
+keeps-length c =
+    let args = c .before .before .before .before .before .before .before .before .before .before .before .args in
+    ap (λ (x : Writing). length (x .out)) (returns c)
+    ∙ bytes-length (now (args .table)) (writing freshPen (now (args .out))) (written (now (args .items)))
 
 pub write-items-spec : {M : Type 1} → statement M
 write-items-spec =
-    tie.close (tie.spec (λ c. search needs) write-bytes-requires (λ c. search needs) returns (λ c. search needs)
-    (λ c. search needs) (λ c. c .before .before .write-each .ensures))
+    tie.close
+    (tie.spec Inv-loop μ-loop (λ c. search needs) (λ c. search needs) loop-holds (λ c. c .loop .inv .within)
+    (λ c. let h = c .before .loop .inv .within in omega arith) (λ c. let h = c .before .loop .inv .within in search needs)
+    (λ c. omega arith) (λ c. search needs) (λ c. let h = c .before .loop .inv .within in search needs)
+    write-run-requires (λ c. search needs) (λ c. search needs) (λ c. search needs) (λ c. search needs)
+    (λ c. search needs) (λ c. search needs) (λ c. omega arith) loop-again
+    (λ c. let h = c .before .loop .inv .within in search needs) (λ c. c .before .loop .inv .within)
+    (λ c. let h = c .before .loop .inv .within in search needs) (λ c. let h = c .before .loop .inv .within in search needs)
+    draw-bytes-requires keeps-length returns)

@@ -10,12 +10,9 @@ use Rattle.codec.proofs.writer.write_list.Tie as tie
 write-stream-requires : tie.Need-write-stream-requires
 write-stream-requires c κs =
     let tested = c .before in
-    let counted = tested .before .before in
-    let entry = counted .before .before .before in
-    let room = sym (tested .before .has-room .ensures) ∙ tested .if1 .taken in (
-      entry .pre .0,
-      (entry .pre .1, (counted .written-bytes .ensures, stream-fits (entry .args .p) _ (now (entry .args .out)) room)),
-    )
+    let entry = tested .before .before .before .before .before in
+    let room = sym (tested .before .has-room .ensures) ∙ tested .if1 .taken in
+    (entry .pre .0, (entry .pre .1, stream-fits (entry .args .p) _ (now (entry .args .out)) room))
 
 returns : tie.Need-returns
 returns c =

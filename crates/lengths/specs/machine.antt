@@ -1,2 +1,0 @@
--- Machine, not meaning.
-pub mod LengthTable
