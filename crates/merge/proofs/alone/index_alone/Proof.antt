@@ -36,7 +36,8 @@ index-set-requires c κs =
 decided
     : (c : tie.After-lowest-twice)
     → let told = c .before .before .before .before .before in
-    refuseIf (ltb (c .lowest-twice .result) 256) 17 (c .lowest-twice .result) (accepted (told .before .count .given .0 .0))
+    refuseIf (ltb (c .lowest-twice .result) 256) 17 (c .lowest-twice .result)
+    (accepted (told .before .count .given .0 .0))
     ≡ setRule (told .before .before .before .before .before .args .set .now)
 decided c =
     let told = c .before .before .before .before .before in

@@ -43,7 +43,8 @@ returns c =
     let loop = c .before .before in
     let start = loop .before in
     let f = entryInEither (start .args .a .now) (start .args .b .now) in
-    let rest = count-after _ _ _ (start .pre .0) (start .pre .1) f (no-entry _ _) _ (c .if1 .left) (loop .loop .inv .0) in
+    let rest =
+    count-after _ _ _ (start .pre .0) (start .pre .1) f (no-entry _ _) _ (c .if1 .left) (loop .loop .inv .0) in
     omega (arith, rest, loop .loop .inv .2)
 
 pub count-numbers-spec : {M : Type 1} → statement M
