@@ -1,8 +1,8 @@
 -- An image and the bytes that it reads as determine each other: word by word the byte is the candidate, and the next
 -- previous bit is the byte's last. Rests on no axiom.
 use Prim.Native.Nat.{ℕ, suc}
-use mathlib.Core.Path.{_≡_, refl, ap, ap₂, _∙_}
-use mathlib.Core.Bool.{true, false}
+use mathlib.Core.Path.{_≡_, refl, sym, ap, ap₂, _∙_}
+use mathlib.Core.Bool.{Bool, true, false, not, _&&_}
 use mathlib.Core.List.{List, [], _∷_, map}
 use lib.ListN.{length}
 use borrow.Author.Tests.{eqb-true, eq-eqb}
@@ -15,7 +15,7 @@ use Rattle.symbols.specs.Bits.{Bit}
 use Rattle.symbols.specs.Bytes.{isGap}
 use Rattle.words.specs.Words.{wordOf, lastBit}
 use Rattle.images.specs.Image.{imageFrom, hasWord, isUnruly, byteOf, unrulyFrom, bytesFrom}
-use Rattle.images.proofs.WordLaws.{last-bit-is-data, AllKept, end, more}
+use Rattle.images.proofs.WordLaws.{word-is-kept, last-bit-is-data, AllKept, end, more}
 use Rattle.images.proofs.ReadLaws.{candidate-is-byte, ruly-where-candidate-has, candidate-has-where-ruly}
 use Rattle.images.proofs.ReadLaws.{unruly-where-candidate-lacks}
 
@@ -51,6 +51,25 @@ module _ (b : Bit) (data-bit : isGap b ≡ false) (word : ℕ) (words : List ℕ
   unfolding unrulyFrom
   lowest-is-unruly e =
       lowest-of-passing passed (isUnruly b word) _ (unruly-where-candidate-lacks b data-bit word e)
+
+  -- and whether none is
+  pub none-unruly-from
+      : not (anywhere passed (unrulyFrom b (word ∷ words)))
+      ≡ (hasWord b word (candidate word) && not (anywhere passed (unrulyFrom (lastBit word) words)))
+  unfolding unrulyFrom anywhere
+  none-unruly-from = by (hasWord b word (candidate word)) refl
+    where
+      by
+          : (t : Bool)
+          → hasWord b word (candidate word) ≡ t
+          → not (anywhere passed (unrulyFrom b (word ∷ words)))
+          ≡ (t && not (anywhere passed (unrulyFrom (lastBit word) words)))
+      by true e =
+          let (ruly, own) = ruly-where-candidate-has b data-bit word e in
+          let kept = word-is-kept b (candidate word) data-bit (candidate-is-byte word) in
+          let last = sym (kept .last-bit) ∙ ap lastBit (eqb-true (wordOf b (candidate word)) word e) in
+          rw (ruly, own, last)
+      by false e = rw (unruly-where-candidate-lacks b data-bit word e)
 
 -- ---- words of which none is unruly
 

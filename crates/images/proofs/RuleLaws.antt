@@ -66,37 +66,25 @@ module _ (words : List ℕ) where
   unfolding wordsRule
   rule-of-too-many h = rw (lt-ltb 6400 (length words) h)
 
-  -- the lowest place, or the length where there is none
+  -- the lowest place
   abbrev pub lowestUnruly : ℕ
   lowestUnruly = lowest passed (unrulyIn words)
 
-  found-where-unruly : (t : Bool) → anywhere passed (unrulyIn words) ≡ t → t ≡ ltb lowestUnruly (length words)
-  found-where-unruly true e =
-      sym (lt-ltb lowestUnruly _ (rw flags-count at (lowest-of-some passed (unrulyIn words) e)))
-  found-where-unruly false e =
-      sym (le-ltb lowestUnruly _ (omega (arith, lowest-of-none passed (unrulyIn words) e, flags-count)))
+  pub place-is-inside : anywhere passed (unrulyIn words) ≡ true → lowestUnruly < length words
+  place-is-inside e = rw flags-count at (lowest-of-some passed (unrulyIn words) e)
 
-  pub rule-of-unruly : (k : ℕ) → length words ≤ 6400 → k ≡ lowestUnruly → k < length words
+  pub rule-of-unruly
+      : (k : ℕ)
+      → length words ≤ 6400
+      → anywhere passed (unrulyIn words) ≡ true
+      → k ≡ lowestUnruly
       → refused 16 k ≡ wordsRule words
   unfolding wordsRule
-  rule-of-unruly k few place h =
-      rw (
-        le-ltb 6400 (length words) few,
-        found-where-unruly (anywhere passed (unrulyIn words)) refl,
-        ← place,
-        lt-ltb k (length words) h,
-      )
+  rule-of-unruly k few some place = rw (le-ltb 6400 (length words) few, some, place)
 
-  pub rule-of-ruly : (k : ℕ) → length words ≤ 6400 → k ≡ lowestUnruly → length words ≤ k
-      → accepted 0 ≡ wordsRule words
+  pub rule-of-ruly : length words ≤ 6400 → anywhere passed (unrulyIn words) ≡ false → accepted 0 ≡ wordsRule words
   unfolding wordsRule
-  rule-of-ruly k few place h =
-      rw (
-        le-ltb 6400 (length words) few,
-        found-where-unruly (anywhere passed (unrulyIn words)) refl,
-        ← place,
-        le-ltb k (length words) h,
-      )
+  rule-of-ruly few none = rw (le-ltb 6400 (length words) few, none)
 
   pub words-of-accepted : wordsRule words .number ≡ 0
       → (length words ≤ 6400) × (anywhere passed (unrulyIn words) ≡ false)

@@ -22,13 +22,15 @@ use Rattle.images.specs.machine.TopBits.{topBits}
 -- ---- the test
 
 -- the candidate for a byte's word is the byte; the word's half cells are those of the byte's letters, and it is their
--- number; its letters are sound and end in its last data bit; taken by its highest ones it has the same half cells
+-- number; its letters are sound and end in its last data bit; taken by its highest ones it has the same half cells; it
+-- ends in the byte's last data bit
 wordKept : Bit → ℕ → Bool
 wordKept before w =
     eqb (candidate (wordOf before w)) w && sameBits (halfCells (wordOf before w)) (cellsAfter before (writtenBits w))
     && eqb (wordOf before w) (numberFrom 0 (cellsAfter before (writtenBits w))) && sound before (writtenBits w)
     && sameBit (lastOf before (writtenBits w)) (lastBit w)
-    && sameBits (topBits 16 (wordOf before w)) (halfCells (wordOf before w))
+    && (sameBits (topBits 16 (wordOf before w)) (halfCells (wordOf before w))
+    && sameBit (lastBit (wordOf before w)) (lastBit w))
 
 bothKept : ℕ → Bool
 bothKept w = wordKept O w && wordKept I w
@@ -48,6 +50,7 @@ pub record Kept (before : Bit) (w : ℕ) : Type 0 where
   pub letters-are-sound : T (sound before (writtenBits w))
   pub last-letter : lastOf before (writtenBits w) ≡ lastBit w
   pub top-bits : topBits 16 (wordOf before w) ≡ halfCells (wordOf before w)
+  pub last-bit : lastBit (wordOf before w) ≡ lastBit w
 
 kept-of-test : (before : Bit) (w : ℕ) → T (wordKept before w) → Kept before w
 unfolding wordKept
@@ -59,6 +62,7 @@ kept-of-test before w t =
       letters-are-sound = search parts;
       last-letter = same-bit _ _ (search parts);
       top-bits = same-bits _ _ (search parts);
+      last-bit = same-bit _ _ (search parts);
     }
 
 pub word-is-kept : (before : Bit) (w : ℕ) → isGap before ≡ false → isByte w ≡ true → Kept before w

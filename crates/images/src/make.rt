@@ -1,19 +1,42 @@
 // Making an image: the list is checked whole before the first word is stored.
+ghost use Prim.Native.Nat.{_≤_, _<_};
 ghost use mathlib.Core.Path.{_≡_};
 ghost use lib.ListN.{length};
+ghost use Rattle.lists.specs.Filled.{storedAt};
 ghost use Rattle.refusal.specs.Answer.{countedAnswer};
+ghost use Rattle.items.specs.Item.{writtenBytes};
 ghost use Rattle.items.specs.Rule.{listRule};
+ghost use Rattle.items.specs.Written.{written};
 ghost use Rattle.images.specs.Image.{imageOf};
 ghost use Rattle.images.specs.Rules.{makeRule, makeOutput};
 use items::Check;
+use lists::store;
 use refusal::Counted;
 use refusal::Refusal;
 use refusal::Verdict;
 use words::code_words;
+use words::made_word;
 use words::word_of;
 
-// Written bytes become their words where they stand.
-fn turn_into_words(bytes: &mut [u16])
+// So few words are made sooner than the table is copied.
+const FEW: usize = 12;
+
+// Written bytes become their words where they stand, by the rule.
+fn turn_few(bytes: &mut [u16])
+    ensures { λ _. ⌜ now (bytes .exit) ≡ imageOf (now (bytes .entry)) ⌝ }
+{
+    let mut previous: u16 = 0;
+    let mut k: usize = 0;
+    while k < bytes.len() {
+        let byte = bytes[k];
+        bytes[k] = made_word(previous, byte);
+        previous = byte;
+        k += 1;
+    }
+}
+
+// The same by the table.
+fn turn_many(bytes: &mut [u16])
     ensures { λ _. ⌜ now (bytes .exit) ≡ imageOf (now (bytes .entry)) ⌝ }
 {
     let table = code_words();
@@ -27,17 +50,74 @@ fn turn_into_words(bytes: &mut [u16])
     }
 }
 
+fn turn_into_words(bytes: &mut [u16])
+    ensures { λ _. ⌜ now (bytes .exit) ≡ imageOf (now (bytes .entry)) ⌝ }
+{
+    if bytes.len() < FEW {
+        turn_few(bytes);
+        return;
+    }
+    turn_many(bytes);
+}
+
+// Where a piece of the list that is written at once ends: after a check order, or before the next one.
+fn piece_end(items: &[u16], from: usize) -> usize
+    requires { ⌜ from < length (now items) ⌝ }
+    ensures { λ r. ⌜ (from < r) × (r ≤ length (now (items .entry))) ⌝ }
+{
+    let mut end = from + 1;
+    if items::is_check(items[from]) {
+        return end;
+    }
+    while end < items.len() {
+        if items::is_check(items[end]) {
+            return end;
+        }
+        end += 1;
+    }
+    end
+}
+
+// Piece by piece, so that the bytes between check orders pass the register at once.
+fn store_pieces(items: &[u16], out: &mut [u16])
+    requires { ⌜ writtenBytes (now items) ≤ length (now out) ⌝ }
+    ensures { λ _. ⌜ now (out .exit) ≡ storedAt (now (out .entry)) 0 (written (now (items .entry))) ⌝ }
+{
+    let mut check = Check::fresh();
+    let mut at: usize = 0;
+    let mut from: usize = 0;
+    while from < items.len() {
+        let end = piece_end(items, from);
+        let stored = items::write_bytes(check, &items[from..end], &mut out[at..]);
+        check = stored.check;
+        at += stored.count;
+        from = end;
+    }
+}
+
+// A list with no check order is its own bytes, and needs no register.
+fn store_written(items: &[u16], bytes: usize, out: &mut [u16])
+    requires { ⌜ (bytes ≡ writtenBytes (now items)) × (bytes ≤ length (now out)) ⌝ }
+    ensures { λ _. ⌜ now (out .exit) ≡ storedAt (now (out .entry)) 0 (written (now (items .entry))) ⌝ }
+{
+    if bytes == items.len() {
+        store(items, 0, out);
+        return;
+    }
+    store_pieces(items, out);
+}
+
 // An accepted list: 9, or its image.
 fn make_words(items: &[u16], out: &mut [u16]) -> Counted
     requires { ⌜ listRule (now items) .number ≡ 0 ⌝ }
     ensures answer { λ r. ⌜ countedAnswer r ≡ makeRule (now (items .entry)) (length (now (out .entry))) ⌝ }
     ensures output { λ _. ⌜ now (out .exit) ≡ makeOutput (now (items .entry)) (now (out .entry)) ⌝ }
 {
-    if out.len() < items::written_bytes(items) {
+    let n = items::written_bytes(items);
+    if out.len() < n {
         return Counted::Refused(Refusal::OutputTooShort);
     }
-    let stored = items::write_bytes(Check::fresh(), items, out);
-    let n = stored.count;
+    store_written(items, n, out);
     turn_into_words(&mut out[..n]);
     Counted::Count(n)
 }

@@ -1,9 +1,10 @@
 // Reading an image: the words are checked whole before the first item is stored.
 ghost use Prim.Native.Nat.{_≤_};
 ghost use mathlib.Core.Path.{_≡_};
+ghost use mathlib.Core.Bool.{not};
 ghost use mathlib.Core.List.{map};
 ghost use lib.ListN.{length};
-ghost use Rattle.lists.specs.Place.{lowest, passed};
+ghost use Rattle.lists.specs.Place.{anywhere, lowest, passed};
 ghost use Rattle.lists.specs.Filled.{filled};
 ghost use Rattle.refusal.specs.Answer.{verdictAnswer, countedAnswer};
 ghost use Rattle.images.specs.Image.{unrulyIn};
@@ -16,6 +17,7 @@ use refusal::Counted;
 use refusal::Refusal;
 use refusal::Verdict;
 use words::code_words;
+use words::made_word;
 use words::word_of;
 
 // The most words that an image may have.
@@ -41,6 +43,23 @@ fn find_unruly(words: &[u16]) -> usize
     k
 }
 
+// Whether no word is unruly; a word's last bit is its byte's. Looks at every word: a loop that could end early would go
+// word by word.
+fn all_ruly(words: &[u16]) -> bool
+    ensures { λ r. ⌜ r ≡ not (anywhere passed (unrulyIn (now (words .entry)))) ⌝ }
+{
+    let mut all = true;
+    let mut previous: u16 = 0;
+    let mut k: usize = 0;
+    while k < words.len() {
+        let word = words[k];
+        all = all & (made_word(previous, byte_of(word)) == word);
+        previous = word;
+        k += 1;
+    }
+    all
+}
+
 // Whether the words are an image: 4, then 16.
 fn check_words(words: &[u16]) -> Verdict
     ensures { λ r. ⌜ verdictAnswer r ≡ wordsRule (now (words .entry)) ⌝ }
@@ -48,11 +67,11 @@ fn check_words(words: &[u16]) -> Verdict
     if MAX_WORDS < words.len() {
         return Verdict::Refused(Refusal::TooLong);
     }
-    let k = find_unruly(words);
-    if k < words.len() {
-        return Verdict::Refused(Refusal::UnrulyWord(k as u32));
+    if all_ruly(words) {
+        return Verdict::Accepted;
     }
-    Verdict::Accepted
+    let k = find_unruly(words);
+    Verdict::Refused(Refusal::UnrulyWord(k as u32))
 }
 
 // The candidates of words, from the front of the output on.

@@ -12,23 +12,24 @@ returns c =
 slice-aggregate-turn-into-words : tie.Need-slice-aggregate-turn-into-words
 slice-aggregate-turn-into-words c =
     let stored = c .before .before .before in
-    let wrote = stored .write-bytes .ensures .1 in
-    let begun = stored .before .before in
-    let entry = begun .before .before .before .before .before in
-    front-count _ _ (entry .pre) _ _ _ (begun .fresh .ensures) (wrote .0) (wrote .1) (search needs)
+    let tested = stored .before .before in
+    let counted = tested .before in
+    let entry = counted .before .before .before in
+    front-count _ _ (entry .pre) _ _ (counted .written-bytes .ensures) (stored .store-written .ensures)
+    (tested .if1 .left)
 
 returns-2 : tie.Need-returns-2
 returns-2 c =
     let turned = c .before .before in
     let stored = turned .before .before .before .before in
-    let wrote = stored .write-bytes .ensures .1 in
-    let begun = stored .before .before in
-    let entry = begun .before .before .before .before .before in
-    make-accepts _ _ (entry .pre) _ _ _ (begun .fresh .ensures) (wrote .0) (wrote .1) (search needs) _
-    (turned .turn-into-words .ensures)
+    let tested = stored .before .before in
+    let counted = tested .before in
+    let entry = counted .before .before .before in
+    make-accepts _ _ (entry .pre) _ _ (counted .written-bytes .ensures) (stored .store-written .ensures)
+    (tested .if1 .left) _ (turned .turn-into-words .ensures)
 
 pub make-words-spec : {M : Type 1} → statement M
 make-words-spec =
     tie.close
-    (tie.spec (λ c κs. search needs) returns (λ c κs. search needs) (λ c κs. search needs) (λ c. search needs)
+    (tie.spec (λ c κs. search needs) returns (λ c κs. search needs) (λ c. search needs)
     slice-aggregate-turn-into-words (λ c κs. search needs) (λ c. search needs) returns-2)

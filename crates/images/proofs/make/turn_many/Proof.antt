@@ -1,29 +1,17 @@
--- `make::turn_into_words` is a fold over the bytes: the words so far and the image of the bytes from k on are the whole
+-- `make::turn_many` is a fold over the bytes: the words so far and the image of the bytes from k on are the whole
 -- image. Rests on no axiom.
-use Prim.Native.Nat.{ℕ, suc, _+_, _-_, _≤_, _<_}
+use Prim.Native.Nat.{_-_, _≤_}
 use mathlib.Core.Path.{_≡_, refl, _∙_}
-use mathlib.Core.List.{List, [], _∷_, _++_, append-assoc, append-nil}
+use mathlib.Core.List.{_++_, append-nil}
 use native.Mathlib.Omega.{arith}
-use native.Mathlib.Numerals.{add-one}
 use borrow.Author.Needs.{needs}
-use lib.ListN.{length, getD, set, take, drop, length-set}
-use lib.Seq.{drop-cons, take-suc-set, drop-set-lt, take-length, drop-length}
-use Rattle.words.specs.Words.{wordOf, lastBit}
+use lib.ListN.{length, take, drop, length-set}
+use lib.Seq.{take-length, drop-length}
+use Rattle.words.specs.Words.{lastBit}
 use Rattle.images.specs.Image.{imageFrom, imageOf}
-use Rattle.images.proofs.make.turn_into_words.Statement.{statement}
-use Rattle.images.proofs.make.turn_into_words.Tie as tie
-
--- a byte's word, and then the image of the rest, are the image from the byte on
-word-then-rest
-    : (bytes : List ℕ) (k previous word : ℕ)
-    → k < length bytes
-    → word ≡ wordOf (lastBit previous) (getD bytes k 0)
-    → take (k + 1) (set bytes k word) ++ imageFrom (lastBit (getD bytes k 0)) (drop (k + 1) (set bytes k word))
-    ≡ take k bytes ++ imageFrom (lastBit previous) (drop k bytes)
-unfolding imageFrom
-word-then-rest bytes k previous word h e =
-    let next : k < suc k = omega arith in
-    rw (add-one, take-suc-set, drop-set-lt, drop-cons bytes k 0, ← e) (append-assoc (take k bytes) (word ∷ []) _)
+use Rattle.images.proofs.MakeLaws.{word-then-rest}
+use Rattle.images.proofs.make.turn_many.Statement.{statement}
+use Rattle.images.proofs.make.turn_many.Tie as tie
 
 abbrev Inv-loop : tie.InvT-loop
 Inv-loop bytes₀ table previous₀ k₀ bytes previous k =
@@ -64,8 +52,8 @@ returns c =
     let all : head .k ≡ length (head .bytes) = omega arith in
     rw (all, take-length (head .bytes), drop-length (head .bytes), append-nil (head .bytes)) at (head .inv .2)
 
-pub turn-into-words-spec : {M : Type 1} → statement M
-turn-into-words-spec =
+pub turn-many-spec : {M : Type 1} → statement M
+turn-many-spec =
     tie.close
     (tie.spec Inv-loop μ-loop (λ c κs. search needs) loop-holds (λ c. omega arith) (λ c. omega arith) word-of-requires
     (λ c. omega arith) (λ c. omega arith) (λ c. omega arith) loop-less loop-again same-length returns)
