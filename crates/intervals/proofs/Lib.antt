@@ -5,3 +5,4 @@ pub mod TakenAsLaws
 pub mod PassLaws
 pub mod FoursLaws
 pub mod BlockLaws
+pub mod TopLaws

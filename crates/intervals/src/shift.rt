@@ -70,7 +70,7 @@ fn shift_block(
     out: &mut [u16],
 ) -> Pass
     requires { ⌜ AllCells (now units) × (m .held ≤ 16) × (m .words + length (now words) < most) ⌝ }
-    requires { ⌜ 4 * length (now words) ≤ length (now units) ⌝ }
+    requires { ⌜ (4 ≤ length (now words)) × (4 * length (now words) ≤ length (now units)) ⌝ }
     requires { ⌜ (from + length (now units) < 2 ^ 64) × (to + length (now units) < 2 ^ 64) ⌝ }
     ensures end { λ r. ⌜ r ≡ passFrom most from m (now (units .entry)) .end ⌝ }
     ensures output { λ _. ⌜
@@ -94,7 +94,7 @@ fn shift_block(
     shift_in(m, units, from, most, to, out)
 }
 
-// The end of a field cell by cell.
+// A few cells, and the end of a field, cell by cell.
 pub fn shift_units(
     m: Reading,
     units: &[u8],
@@ -111,6 +111,9 @@ pub fn shift_units(
         now (out .exit) ≡ storedAt (now (out .entry)) to (passFrom most from m (now (units .entry)) .words) ⌝ }
 {
     let n = units.len() / 4;
+    if n < 4 {
+        return shift_in(m, units, from, most, to, out);
+    }
     if n < (most - m.words) as usize {
         let mut words = [0u32; FOURS];
         return shift_block(m, units, &mut words[..n], from, most, to, out);

@@ -1,12 +1,14 @@
 -- Machine, not meaning: laws tie it to Pass (`proofs/FoursLaws`). No lemmas here.
 -- Four cells at a time. They have 16 half cells at most, so that they make one byte whole at most, and it is taken when
 -- all four are shifted in.
-use Prim.Native.Nat.{ℕ, zero, suc, _%_}
+use Prim.Native.Nat.{ℕ, zero, suc, _+_, _*_, _%_, _^_, _≤_}
+use mathlib.Core.Path.{_≡_}
 use mathlib.Core.List.{List, [], _++_}
 use lib.ListN.{take, drop}
 use Rattle.lists.specs.Filled.{ifGiven}
 use Rattle.symbols.specs.machine.Step.{isWhole, wordOf, eased, shiftedAll}
 use Rattle.symbols.specs.declared.Reading.{Reading}
+use Rattle.intervals.specs.declared.fours.Top.{Top}
 
 -- the register, and the half cells of the words with the data bit before each
 pub record Fours : Type 0 where
@@ -24,3 +26,9 @@ foursFrom (suc n) m us =
     let next = shiftedAll m (take 4 us) in
     let rest = foursFrom n (eased next) (drop 4 us) in
     record { reading = rest .reading; words = ifGiven (isWhole next) (wordOf next) ++ rest .words }
+
+-- a register's half cells at the top of 64 bits
+pub record Tops (t : Top) (m : Reading) : Type 0 where
+  pub room : m .held ≤ 32
+  pub free : t .free + m .held ≡ 64
+  pub cells : t .cells ≡ m .bits % 2 ^ m .held * 2 ^ t .free

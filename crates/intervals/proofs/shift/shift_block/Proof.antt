@@ -71,15 +71,17 @@ count-is c =
 shift-fours-requires : tie.Need-shift-fours-requires
 shift-fours-requires c κs =
     let start = c .before .before .before .before .before in
-    let n = length (start .args .words .now) in
-    (cells-in-parts (4 * n) _ (start .pre .0 .0) .0, front-count _ n (start .pre .1 .0))
+    let n = length (start .args .words .now) in (
+      (cells-in-parts (4 * n) _ (start .pre .0 .0) .0, front-count _ n (start .pre .1 .0 .1)),
+      (start .pre .0 .1, start .pre .1 .0 .0),
+    )
 
 store-requires : tie.Need-store-requires
 store-requires c κs =
     let shifted = c .before .before .before .before .before .before .before in
     let start = shifted .before .before .before .before .before .before in
     let few = shifted .shift-fours .ensures .1 .0 in
-    omega (arith, count-is shifted, few, start .pre .1 .0, start .pre .1 .1 .0, start .pre .1 .1 .1)
+    omega (arith, count-is shifted, few, start .pre .1 .0 .1, start .pre .1 .1 .0, start .pre .1 .1 .1)
 
 shift-in-requires : tie.Need-shift-in-requires
 shift-in-requires c κs =
@@ -87,7 +89,7 @@ shift-in-requires c κs =
     let shifted = told .before .before .before .before .before in
     let start = shifted .before .before .before .before .before .before in
     let few = shifted .shift-fours .ensures .1 .0 in
-    let size = start .pre .1 .0 in
+    let size = start .pre .1 .0 .1 in
     let over = over-count (start .args .units .now) (length (start .args .words .now)) size in
     let (words, pass) = clean _ _ size _ (start .args .from) _ _ _ (start .pre .0) (start .fits .most .fits)
     (shifted .shift-fours .ensures .0) (shifted .shift-fours .ensures .1 .1)
@@ -106,7 +108,7 @@ returns c =
     omega (arith, length-map words alone, count-is shifted) in
     let (end, output) = c .before .before .shift-in .ensures in
     let stored = c .before .before .before .before .before .before .before .before .store .ensures in
-    rw (clean _ _ (start .pre .1 .0) _ (start .args .from) _ _ _ (start .pre .0) (start .fits .most .fits)
+    rw (clean _ _ (start .pre .1 .0 .1) _ (start .args .from) _ _ _ (start .pre .0) (start .fits .most .fits)
     (shifted .shift-fours .ensures .0) (shifted .shift-fours .ensures .1 .1)
     (sym (told .before .all-fit .ensures) ∙ told .if1 .taken) .1)
     (end, output ∙ stored-next _ _ _ _ (start .args .to) _ stored next)
@@ -114,7 +116,7 @@ returns c =
 pub shift-block-spec : {M : Type 1} → statement M
 shift-block-spec =
     tie.close
-    (tie.spec (λ c. search needs) (λ c. sym (front-count _ _ (c .before .before .before .before .pre .1 .0)))
+    (tie.spec (λ c. search needs) (λ c. sym (front-count _ _ (c .before .before .before .before .pre .1 .0 .1)))
     shift-fours-requires (λ c. search needs) (λ c. sym (count-is (c .before .before .before))) (λ c. search needs)
     (λ c. search needs) (λ c. sym (count-is (c .before .before .before .before .before .before))) store-requires
     (λ c. search needs) (λ c. search needs) (λ c. search needs) (λ c. search needs) (λ c. search needs)

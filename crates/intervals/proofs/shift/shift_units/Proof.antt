@@ -11,17 +11,20 @@ use Rattle.intervals.proofs.shift.shift_units.Tie as tie
 room : (k : ℕ) → k ≤ 256 → length (take {A = ℕ} (k / 4) (replicate 64 0)) ≡ k / 4
 room k h = length-take-le (k / 4) (replicate 64 0) (omega arith)
 
+slice-aggregate-shift-block : tie.Need-slice-aggregate-shift-block
+slice-aggregate-shift-block c = sym (room _ (c .before .before .before .before .before .before .pre .0))
+
 shift-block-requires : tie.Need-shift-block-requires
 shift-block-requires c κs =
-    let start = c .before .before .before .before .before .before in
+    let start = c .before .before .before .before .before .before .before in
     let (cells, held, wanted) = start .pre .1 .0 in
     let words = room (length (start .args .units .now)) (start .pre .0) in (
-      (cells, held, omega (arith, words, c .before .before .if1 .taken)),
-      (omega (arith, words), start .pre .1 .1),
+      (cells, held, omega (arith, words, c .before .before .if2 .taken)),
+      ((omega (arith, words, c .before .before .before .before .if1 .left), omega (arith, words)), start .pre .1 .1),
     )
 
 pub shift-units-spec : {M : Type 1} → statement M
 shift-units-spec =
-    tie.close (tie.spec (λ c. search needs) (λ c. search needs) (λ c. search needs)
-    (λ c. sym (room _ (c .before .before .before .before .before .pre .0))) shift-block-requires (λ c. search needs)
-    (λ c. search needs) (λ c. search needs) (λ c. search needs) (λ c. search needs))
+    tie.close (tie.spec (λ c κs. search needs) (λ c. search needs) (λ c. search needs) (λ c. search needs)
+    (λ c. search needs) (λ c. search needs) slice-aggregate-shift-block shift-block-requires (λ c. search needs)
+    (λ c. search needs) (λ c κs. search needs) (λ c. search needs) (λ c. search needs))

@@ -1,0 +1,402 @@
+-- A register whose half cells stand at the top of 64 bits goes on as the register itself: a cell sets the bit below them,
+-- a word that is whole stands in the top places, and leaving it behind moves up what is left. And sixteen cells fill a
+-- register, whatever it held before. Rests on no axiom.
+use Prim.Native.Nat.{ℕ, zero, suc, _+_, _-_, _*_, _/_, _%_, _^_, _≤_, _<_}
+use mathlib.Core.Path.{_≡_, refl, sym, ap, ap₂, _∙_}
+use mathlib.Core.Bool.{Bool, true, false}
+use mathlib.Core.List.{List, [], _∷_, _++_}
+use native.Mathlib.Nat.{add-mul, mul-assoc, mul-comm, one-mul, mod-lt, mod-one, mod-eq-of-lt, mod-add-div'}
+use native.Mathlib.Nat.{add-mul-mod-self-right}
+use native.Mathlib.Numerals.{add-one}
+use native.Mathlib.Decide.{decLt}
+use native.Mathlib.Omega.{arith}
+use mir.Val.{boolByte}
+use borrow.Author.Tests.{lt-ltb, le-ltb, lt-leb, le-leb}
+use lib.Bits.{bitOr, or-lt, or-mod, or-shifted}
+use lib.Dec.{ltb}
+use lib.ListN.{length, take, drop, getD, length-drop, take-append-drop}
+use lib.Seq.{drop-cons, drop-drop, take-add}
+use lib.Pow.{pow-add, pow-lt, pow-pos, shl-shr, shr-shr, high, low, field, mod-pow-add, mod-mod-pow}
+use Rattle.symbols.specs.machine.Step.{AllCells, shifted, shiftedAll, emptyReading, isWhole, surplus, wordOf, eased}
+use Rattle.symbols.specs.declared.Reading.{Reading}
+use Rattle.symbols.proofs.EaseLaws.{shifted-out, held-by-shift}
+use Rattle.intervals.specs.machine.Fours.{Tops, foursFrom}
+use Rattle.intervals.specs.declared.fours.Top.{Top}
+use Rattle.intervals.proofs.FoursLaws.{cells-in-parts}
+
+-- ---- the half cells of a register
+
+-- a number moved up and up again
+moved-twice : (b f g : ℕ) → b * 2 ^ f * 2 ^ g ≡ b * 2 ^ (f + g)
+moved-twice b f g = mul-assoc b (2 ^ f) (2 ^ g) ∙ ap (_*_ b) (sym (pow-add 2 f g))
+
+-- fewer digits of fewer digits
+fewer : (b j k : ℕ) → k ≤ j → b % 2 ^ j % 2 ^ k ≡ b % 2 ^ k
+fewer b j k h =
+    let e : j ≡ j - k + k = omega arith in
+    ap (λ (i : ℕ). b % 2 ^ i % 2 ^ k) e ∙ mod-mod-pow b (j - k) k
+
+-- the lowest digits once others were shifted in: before them stand those of before
+digits-shifted-in
+    : (b u h : ℕ)
+    → 1 ≤ u
+    → h + u ≤ 32
+    → bitOr (b * 2 ^ u % 2 ^ 32) 1 % 2 ^ (h + u) ≡ b % 2 ^ h * 2 ^ u + 1
+digits-shifted-in b u h some room =
+    let one : 1 < 2 ^ u = pow-lt some in
+    let x = b % 2 ^ (32 - u) in
+    let out : bitOr (b * 2 ^ u % 2 ^ 32) 1 ≡ x * 2 ^ u + 1 =
+    ap (λ (n : ℕ). bitOr n 1) (shifted-out 32 b (32 - u) u (omega arith)) ∙ or-shifted x u 1 one in
+    ap (λ (n : ℕ). n % 2 ^ (h + u)) out
+    ∙ mod-pow-add (x * 2 ^ u + 1) h u
+    ∙ ap₂ (λ (n k : ℕ). n % 2 ^ h * 2 ^ u + k) (high x u one) (low x u one)
+    ∙ ap (λ (n : ℕ). n * 2 ^ u + 1) (fewer b (32 - u) h (omega arith))
+
+-- one cell more
+pub top-cell
+    : (t r : Top) (m : Reading) (u : ℕ)
+    → Tops t m
+    → m .held + u ≤ 32
+    → (1 ≤ u) × (u ≤ 4)
+    → r .free < 2 ^ 32
+    → (r .free + u) % 2 ^ 32 ≡ t .free
+    → r .cells ≡ bitOr (t .cells) (1 * 2 ^ (r .free % 64) % 2 ^ 64)
+    → Tops r (shifted m u)
+unfolding shifted
+top-cell t r m u top room (some, few) small wraps set =
+    let h = m .held in
+    let free = top .free in
+    let down : r .free + u ≡ t .free = omega arith in
+    let held : (h + u) % 2 ^ 32 ≡ h + u = omega arith in
+    let by : u % 32 ≡ u = omega arith in
+    let place : r .free % 64 ≡ r .free = omega arith in
+    let fits : 2 ^ r .free < 2 ^ 64 = pow-lt {i = r .free} {j = 64} (omega arith) in
+    let bit : 1 * 2 ^ (r .free % 64) % 2 ^ 64 ≡ 2 ^ r .free =
+    ap (λ (k : ℕ). 1 * 2 ^ k % 2 ^ 64) place
+    ∙ ap (λ (n : ℕ). n % 2 ^ 64) (one-mul (2 ^ r .free))
+    ∙ mod-eq-of-lt fits in
+    let below : 2 ^ r .free < 2 ^ t .free = pow-lt {i = r .free} {j = t .free} (omega arith) in
+    let b = m .bits % 2 ^ h in
+    let cells : r .cells ≡ b * 2 ^ t .free + 2 ^ r .free =
+    set ∙ ap₂ bitOr (top .cells) bit ∙ or-shifted b (t .free) (2 ^ r .free) below in
+    let apart : (b * 2 ^ u + 1) * 2 ^ r .free ≡ b * 2 ^ t .free + 2 ^ r .free =
+    add-mul (b * 2 ^ u) 1 (2 ^ r .free)
+    ∙ ap₂ _+_ (moved-twice b u (r .free)) (one-mul (2 ^ r .free))
+    ∙ ap (λ (f : ℕ). b * 2 ^ f + 2 ^ r .free) (let e : u + r .free ≡ t .free = omega arith in e) in
+    rw (held, by) (record {
+      room = room;
+      free = omega arith;
+      cells = cells ∙ sym (ap (λ (n : ℕ). n * 2 ^ r .free) (digits-shifted-in (m .bits) u h some room) ∙ apart);
+    })
+
+-- before any cell
+pub top-begins
+    : (t : Top) (m : Reading)
+    → m .held ≤ 16
+    → t .free ≡ 64 - m .held
+    → t .cells ≡ m .bits * 2 ^ (t .free - 1) % 2 ^ 64 * 2 ^ 1 % 2 ^ 64
+    → Tops t m
+top-begins t m low free cells =
+    let h = m .held in
+    let f = t .free in
+    let b = m .bits in
+    let first = shifted-out 64 b (h + 1) (f - 1) (omega arith) in
+    let whole : f - 1 + 1 ≡ f = omega arith in
+    record {
+      room = omega arith;
+      free = omega arith;
+      cells =
+          cells
+          ∙ ap (λ (n : ℕ). n * 2 ^ 1 % 2 ^ 64) first
+          ∙ ap (λ (n : ℕ). n % 2 ^ 64) (moved-twice (b % 2 ^ (h + 1)) (f - 1) 1
+          ∙ ap (λ (k : ℕ). b % 2 ^ (h + 1) * 2 ^ k) whole)
+          ∙ shifted-out 64 (b % 2 ^ (h + 1)) h f (omega arith)
+          ∙ ap (λ (n : ℕ). n * 2 ^ f) (fewer b (h + 1) h (omega arith));
+    }
+
+module _ (t : Top) (m : Reading) (top : Tops t m) where
+  abbrev h : ℕ
+  h = m .held
+
+  abbrev b : ℕ
+  b = m .bits % 2 ^ h
+
+  -- the word that is whole
+  pub top-word : 17 ≤ h → t .cells / 2 ^ 47 ≡ wordOf m
+  unfolding wordOf surplus
+  top-word whole =
+      let s = h - 17 in
+      let room = top .room in
+      let free = top .free in
+      let deep : 47 ≡ t .free + s = omega arith in
+      let held : h ≡ 17 + s = omega arith in
+      let same : s % 32 ≡ s = omega arith in
+      ap₂ (λ (n k : ℕ). n / 2 ^ k) (top .cells) deep
+      ∙ sym (shr-shr (b * 2 ^ t .free) (t .free) s)
+      ∙ ap (λ (n : ℕ). n / 2 ^ s) (shl-shr b (t .free))
+      ∙ ap (λ (k : ℕ). m .bits % 2 ^ k / 2 ^ s) held
+      ∙ field (m .bits) 17 s
+      ∙ ap (λ (k : ℕ). m .bits / 2 ^ k % 2 ^ 17) (sym same)
+
+  pub top-whole : ltb (t .free) 48 ≡ isWhole m
+  top-whole =
+      let free = top .free in
+      elim (decLt h 17) [
+        | yes few ↦ le-ltb (t .free) 48 (omega arith) ∙ sym (lt-leb 17 h few)
+        | no many ↦ lt-ltb (t .free) 48 (omega arith) ∙ sym (le-leb 17 h (omega arith))
+      ]
+
+  -- what is left of a word that is whole, if one is
+  pub top-eases
+      : (r : Top) (whole : Bool)
+      → whole ≡ isWhole m
+      → t .cells < 2 ^ 64
+      → r .free ≡ (t .free + 16 * boolByte whole) % 2 ^ 32
+      → r .cells ≡ t .cells * 2 ^ (16 * boolByte whole) % 2 ^ 64
+      → Tops r (eased m)
+  unfolding eased
+  top-eases r whole told small free cells =
+      let sum = top .free in
+      let room = top .room in
+      elim (decLt h 17) [
+        | yes few ↦
+            let none : whole ≡ false = told ∙ lt-leb 17 h few in
+            let held : (h + 2 ^ 32) % 2 ^ 32 ≡ h = omega arith in
+            let same : r .free ≡ t .free = rw none at free ∙ omega arith in
+            rw (lt-leb 17 h few, held) (record {
+              room = room;
+              free = omega arith;
+              cells =
+                  rw none at cells
+                  ∙ ap (λ (n : ℕ). n % 2 ^ 64) (let e : t .cells * 1 ≡ t .cells = omega arith in e)
+                  ∙ mod-eq-of-lt small
+                  ∙ top .cells
+                  ∙ ap (λ (k : ℕ). b * 2 ^ k) (sym same);
+            })
+        | no many ↦
+            let many : 17 ≤ h = omega arith in
+            let one : whole ≡ true = told ∙ le-leb 17 h many in
+            let held : (h + (2 ^ 32 - 16)) % 2 ^ 32 ≡ h - 16 = omega arith in
+            let same : r .free ≡ t .free + 16 = rw one at free ∙ omega arith in
+            rw (le-leb 17 h many, held) (record {
+              room = omega arith;
+              free = omega arith;
+              cells =
+                  rw one at cells
+                  ∙ ap (λ (n : ℕ). n * 2 ^ 16 % 2 ^ 64) (top .cells)
+                  ∙ ap (λ (n : ℕ). n % 2 ^ 64) (moved-twice b (t .free) 16)
+                  ∙ shifted-out 64 b (h - 16) (t .free + 16) (omega arith)
+                  ∙ ap (λ (n : ℕ). n * 2 ^ (t .free + 16)) (fewer (m .bits) h (h - 16) (omega arith))
+                  ∙ ap (λ (k : ℕ). m .bits % 2 ^ (h - 16) * 2 ^ k) (sym same);
+            })
+      ]
+
+-- ---- four cells
+
+element : (us : List ℕ) (k : ℕ) → k < length us → drop k us ≡ getD us k 0 ∷ drop (k + 1) us
+element us k h = rw (add-one k) (drop-cons us k 0 h)
+
+module _ (us : List ℕ) (k : ℕ) (inside : k + 4 ≤ length us) where
+  abbrev cell : ℕ → ℕ
+  cell i = getD us i 0
+
+  pub four-of : take 4 (drop k us) ≡ cell k ∷ cell (k + 1) ∷ cell (k + 2) ∷ cell (k + 3) ∷ []
+  four-of =
+      let two : k + 1 + 1 ≡ k + 2 = omega arith in
+      let three : k + 2 + 1 ≡ k + 3 = omega arith in
+      rw (
+        element us k (omega arith),
+        element us (k + 1) (omega arith),
+        two,
+        element us (k + 2) (omega arith),
+        three,
+        element us (k + 3) (omega arith),
+      )
+
+  -- as one cell after the other is added
+  abbrev Adds : Top → ℕ → Top → Type 0
+  Adds t u r = (m : Reading) → Tops t m → m .held + u ≤ 32 → (1 ≤ u) × (u ≤ 4) → Tops r (shifted m u)
+
+  pub top-four
+      : (t one two three four : Top)
+      → Adds t (cell k) one
+      → Adds one (cell (k + 1)) two
+      → Adds two (cell (k + 2)) three
+      → Adds three (cell (k + 3)) four
+      → (m : Reading)
+      → Tops t m
+      → m .held ≤ 16
+      → AllCells (take 4 (drop k us))
+      → Tops four (shiftedAll m (take 4 (drop k us)))
+  unfolding AllCells shiftedAll
+  top-four t one two three four first second third last m top low cells =
+      let all : AllCells (cell k ∷ cell (k + 1) ∷ cell (k + 2) ∷ cell (k + 3) ∷ []) = rw four-of at cells in
+      let (s₀, f₀, c₁) = all in
+      let (s₁, f₁, c₂) = c₁ in
+      let (s₂, f₂, c₃) = c₂ in
+      let (s₃, f₃, none) = c₃ in
+      let m₁ = shifted m (cell k) in
+      let m₂ = shifted m₁ (cell (k + 1)) in
+      let m₃ = shifted m₂ (cell (k + 2)) in
+      let h₁ = held-by-shift m (cell k) (omega arith) in
+      let h₂ = held-by-shift m₁ (cell (k + 1)) (omega arith) in
+      let h₃ = held-by-shift m₂ (cell (k + 2)) (omega arith) in
+      let t₁ = first m top (omega arith) (omega arith, f₀) in
+      let t₂ = second m₁ t₁ (omega arith) (omega arith, f₁) in
+      let t₃ = third m₂ t₂ (omega arith) (omega arith, f₂) in
+      rw four-of (last m₃ t₃ (omega arith) (omega arith, f₃))
+
+  pub shifted-four
+      : (m : Reading)
+      → shiftedAll m (take 4 (drop k us))
+      ≡ shifted (shifted (shifted (shifted m (cell k)) (cell (k + 1))) (cell (k + 2))) (cell (k + 3))
+  unfolding shiftedAll
+  shifted-four m = rw four-of
+
+-- ---- a register after many cells
+
+pub shifted-append : (xs ys : List ℕ) (m : Reading) → shiftedAll m (xs ++ ys) ≡ shiftedAll (shiftedAll m xs) ys
+unfolding shiftedAll
+shifted-append [] ys m = refl
+shifted-append (x ∷ xs) ys m = shifted-append xs ys (shifted m x)
+
+-- sixteen cells by fours
+four-then
+    : (n k : ℕ) (us : List ℕ) (m : Reading)
+    → shiftedAll m (take (4 + n) (drop k us))
+    ≡ shiftedAll (shiftedAll m (take 4 (drop k us))) (take n (drop (k + 4) us))
+four-then n k us m =
+    ap (shiftedAll m) (take-add 4 n (drop k us)
+    ∙ ap (λ (l : List ℕ). take 4 (drop k us) ++ take n l) (drop-drop 4 k us))
+    ∙ shifted-append (take 4 (drop k us)) (take n (drop (k + 4) us)) m
+
+pub shifted-sixteen
+    : (k : ℕ) (us : List ℕ) (m : Reading)
+    → let fourAt : ℕ → List ℕ = λ i. take 4 (drop i us) in
+    shiftedAll m (take 16 (drop k us))
+    ≡ shiftedAll (shiftedAll (shiftedAll (shiftedAll m (fourAt k)) (fourAt (k + 4))) (fourAt (k + 8))) (fourAt (k + 12))
+shifted-sixteen k us m =
+    let eight : k + 4 + 4 ≡ k + 8 = omega arith in
+    let twelve : k + 8 + 4 ≡ k + 12 = omega arith in
+    let one = shiftedAll m (take 4 (drop k us)) in
+    let two = shiftedAll one (take 4 (drop (k + 4) us)) in
+    let three = shiftedAll two (take 4 (drop (k + 8) us)) in
+    four-then 12 k us m
+    ∙ four-then 8 (k + 4) us one
+    ∙ ap (λ (i : ℕ). shiftedAll two (take 8 (drop i us))) eight
+    ∙ four-then 4 (k + 8) us two
+    ∙ ap (λ (i : ℕ). shiftedAll three (take 4 (drop i us))) twelve
+
+-- place and gaps are left as they were
+shifted-keeps
+    : (us : List ℕ) (m : Reading) → (shiftedAll m us .place ≡ m .place) × (shiftedAll m us .stray ≡ m .stray)
+unfolding shiftedAll shifted
+shifted-keeps [] m = (refl, refl)
+shifted-keeps (u ∷ us) m = shifted-keeps us (shifted m u)
+
+-- half cells go by half cells alone
+shifted-bits : (us : List ℕ) (m n : Reading) → m .bits ≡ n .bits → shiftedAll m us .bits ≡ shiftedAll n us .bits
+unfolding shiftedAll shifted
+shifted-bits [] m n e = e
+shifted-bits (u ∷ us) m n e =
+    shifted-bits us (shifted m u) (shifted n u) (ap (λ (b : ℕ). bitOr (b * 2 ^ (u % 32) % 2 ^ 32) 1) e)
+
+-- so many fours
+pub record Leaves (n : ℕ) (m : Reading) (us : List ℕ) : Type 0 where
+  pub bits : foursFrom n m us .reading .bits ≡ shiftedAll m us .bits
+  pub place : foursFrom n m us .reading .place ≡ m .place
+  pub stray : foursFrom n m us .reading .stray ≡ m .stray
+
+pub fours-leave : (n : ℕ) (m : Reading) (us : List ℕ) → length us ≡ 4 * n → Leaves n m us
+unfolding foursFrom eased shiftedAll
+fours-leave zero m [] size = record { bits = refl; place = refl; stray = refl }
+fours-leave zero m (u ∷ us) size = absurd (omega arith)
+fours-leave (suc n) m us size =
+    let next = shiftedAll m (take 4 us) in
+    let rest = fours-leave n (eased next) (drop 4 us) (length-drop 4 us ∙ omega arith) in
+    let (place, stray) = shifted-keeps (take 4 us) m in
+    record {
+      bits =
+          rest .bits
+          ∙ shifted-bits (drop 4 us) (eased next) next refl
+          ∙ ap (λ (r : Reading). r .bits) (sym (shifted-append (take 4 us) (drop 4 us) m)
+          ∙ ap (shiftedAll m) (take-append-drop 4 us));
+      place = rest .place ∙ place;
+      stray = rest .stray ∙ stray;
+    }
+
+-- ---- sixteen cells
+
+scaled-mod : (a c n : ℕ) → a * c % n ≡ a % n * c % n
+scaled-mod a c n =
+    ap (λ (x : ℕ). x * c % n) (sym (mod-add-div' a n))
+    ∙ ap (λ (x : ℕ). x % n) (add-mul (a % n) (a / n * n) c
+    ∙ ap (λ (x : ℕ). a % n * c + x) (mul-assoc (a / n) n c ∙ ap (_*_ (a / n)) (mul-comm n c)
+    ∙ sym (mul-assoc (a / n) c n)))
+    ∙ add-mul-mod-self-right (a % n * c) (a / n * c) n
+
+-- by two places more than those that were known, since a cell has two half cells at least
+known-places
+    : (a j u : ℕ)
+    → 2 ≤ u
+    → u ≤ 4
+    → j + 2 ≤ 32
+    → bitOr (a * 2 ^ (u % 32) % 2 ^ 32) 1 % 2 ^ (j + 2)
+    ≡ bitOr (a % 2 ^ j * 2 ^ (u - 2) % 2 ^ j * 2 ^ 2) (1 % 2 ^ (j + 2))
+known-places a j u some few room =
+    let by : u % 32 ≡ u - 2 + 2 = omega arith in
+    or-mod (a * 2 ^ (u % 32) % 2 ^ 32) 1 (j + 2)
+    ∙ ap (λ (n : ℕ). bitOr n (1 % 2 ^ (j + 2)))
+    (fewer (a * 2 ^ (u % 32)) 32 (j + 2) room
+    ∙ ap (λ (n : ℕ). n % 2 ^ (j + 2)) (ap (λ (k : ℕ). a * 2 ^ k) by ∙ sym (moved-twice a (u - 2) 2))
+    ∙ shifted-out (j + 2) (a * 2 ^ (u - 2)) j 2 refl
+    ∙ ap (λ (n : ℕ). n * 2 ^ 2) (scaled-mod a (2 ^ (u - 2)) (2 ^ j)))
+
+fill-up
+    : (us : List ℕ) (j : ℕ) (m n : Reading)
+    → AllCells us
+    → j + 2 * length us ≡ 32
+    → m .bits % 2 ^ j ≡ n .bits % 2 ^ j
+    → shiftedAll m us .bits % 2 ^ 32 ≡ shiftedAll n us .bits % 2 ^ 32
+unfolding AllCells shiftedAll shifted
+fill-up [] j m n cells size e = let all : j ≡ 32 = omega arith in rw all at e
+fill-up (u ∷ us) j m n cells size e =
+    let (some, few, later) = cells in
+    let room : j + 2 ≤ 32 = omega arith in
+    fill-up us (j + 2) (shifted m u) (shifted n u) later (omega arith)
+    (known-places (m .bits) j u some few room
+    ∙ ap (λ (x : ℕ). bitOr (x * 2 ^ (u - 2) % 2 ^ j * 2 ^ 2) (1 % 2 ^ (j + 2))) e
+    ∙ sym (known-places (n .bits) j u some few room))
+
+shifted-fits : (m : Reading) (u : ℕ) → shifted m u .bits < 2 ^ 32
+unfolding shifted
+shifted-fits m u =
+    or-lt 32 (m .bits * 2 ^ (u % 32) % 2 ^ 32) 1 (mod-lt (m .bits * 2 ^ (u % 32)) (pow-pos 32)) (omega arith)
+
+bits-fit : (us : List ℕ) (m : Reading) → m .bits < 2 ^ 32 → shiftedAll m us .bits < 2 ^ 32
+unfolding shiftedAll
+bits-fit [] m small = small
+bits-fit (u ∷ us) m small = bits-fit us (shifted m u) (shifted-fits m u)
+
+some-bits-fit : (us : List ℕ) (m : Reading) → 1 ≤ length us → shiftedAll m us .bits < 2 ^ 32
+unfolding shiftedAll
+some-bits-fit [] m some = absurd (omega arith)
+some-bits-fit (u ∷ us) m some = bits-fit us (shifted m u) (shifted-fits m u)
+
+-- whatever the register held before
+pub last-sixteen
+    : (us : List ℕ) (m : Reading)
+    → AllCells us
+    → 16 ≤ length us
+    → shiftedAll m us .bits ≡ shiftedAll emptyReading (drop (length us - 16) us) .bits
+last-sixteen us m cells some =
+    let k = length us - 16 in
+    let last = drop k us in
+    let before = shiftedAll m (take k us) in
+    let size : length last ≡ 16 = length-drop k us ∙ omega arith in
+    let both = fill-up last 0 before emptyReading (cells-in-parts k us cells .1) (omega arith)
+    (mod-one (before .bits) ∙ sym (mod-one 0)) in
+    ap (λ (r : Reading). r .bits) (ap (shiftedAll m) (sym (take-append-drop k us)) ∙ shifted-append (take k us) last m)
+    ∙ sym (mod-eq-of-lt (some-bits-fit last before (omega arith)))
+    ∙ both
+    ∙ mod-eq-of-lt (some-bits-fit last emptyReading (omega arith))

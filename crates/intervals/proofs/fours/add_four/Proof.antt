@@ -1,0 +1,18 @@
+-- Why `fours::add_four` adds the four cells from the place on: it adds one after the other. Rests on no axiom.
+use borrow.Author.Needs.{needs}
+use Rattle.intervals.proofs.TopLaws.{top-four}
+use Rattle.intervals.proofs.fours.add_four.Statement.{statement}
+use Rattle.intervals.proofs.fours.add_four.Tie as tie
+
+returns : tie.Need-returns
+returns c =
+    let start = c .before .before .before .before .before .before .before .before .before in
+    top-four (start .args .units .now) (start .args .k) (start .pre) _ _ _ _ _ (c .before .before .before .before .before .before .add-cell .ensures)
+    (c .before .before .before .before .add-cell2 .ensures) (c .before .before .add-cell3 .ensures) (c .add-cell4 .ensures)
+
+pub add-four-spec : {M : Type 1} → statement M
+add-four-spec =
+    tie.close
+    (tie.spec (λ c. search needs) (λ c κs. search needs) (λ c. search needs) (λ c. search needs) (λ c κs. search needs)
+    (λ c. search needs) (λ c. search needs) (λ c κs. search needs) (λ c. search needs) (λ c. search needs)
+    (λ c κs. search needs) returns)
