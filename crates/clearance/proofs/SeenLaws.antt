@@ -1,5 +1,5 @@
--- Why the extremes of a list tell its least clearance: each interval takes its own from what is left, between the bounds
--- where the classing stands. Those bounds are the same where the pairs are equal. Rests on no axiom.
+-- Why the extremes of a list tell its least clearance: each interval takes its own from what is left, between the
+-- bounds where the classing stands. Those bounds are the same where the pairs are equal. Rests on no axiom.
 use Prim.Native.Nat.{ℕ, suc, _<_}
 use mathlib.Core.Path.{_≡_, refl, sym, ap, ap₂, _∙_}
 use mathlib.Core.Bool.{true}

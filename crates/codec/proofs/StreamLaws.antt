@@ -1,5 +1,5 @@
--- Why the bytes of a list, closed, leave its stream: each window adds the lengths of its cells, behind those stored so far
--- and before one more that the next window is stored over. Rests on no axiom.
+-- Why the bytes of a list, closed, leave its stream: each window adds the lengths of its cells, behind those stored so
+-- far and before one more that the next window is stored over. Rests on no axiom.
 use Prim.Native.Nat.{ℕ, _+_, _*_, _/_, _%_, _≤_, _<_}
 use mathlib.Core.Path.{_≡_, refl, sym, ap, ap₂, _∙_}
 use mathlib.Core.Bool.{Bool, true, false, cond}

@@ -1,5 +1,5 @@
--- Why the lengths of cells go by windows: three data bits tell how the open cell began and which came before it, the bit
--- tells whether it ends, and the next how the cell behind begins. Each is a case of the symbols. Rests on no axiom.
+-- Why the lengths of cells go by windows: three data bits tell how the open cell began and which came before it, the
+-- bit tells whether it ends, and the next how the cell behind begins. Each is a case of the symbols. Rests on no axiom.
 use Prim.Native.Nat.{ℕ, _+_, _/_, _%_, _^_, _<_}
 use mathlib.Core.Path.{_≡_, refl, sym, ap, ap₂, _∙_}
 use mathlib.Core.Bool.{Bool, true, false, cond, not, _&&_}

@@ -1,6 +1,6 @@
-// The pen: written bytes in, lengths out. A data bit ends one cell at most, and a 0 after a 1 none. The length of that cell
-// depends on the three bits before and the one behind, so that two bits have a window of six. A byte's last bit is drawn
-// with the next byte.
+// The pen: written bytes in, lengths out. A data bit ends one cell at most, and a 0 after a 1 none. The length of that
+// cell depends on the three bits before and the one behind, so that two bits have a window of six. A byte's last bit is
+// drawn with the next byte.
 ghost use Prim.Native.Nat.{_+_, _<_};
 ghost use mathlib.Core.Path.{_≡_};
 ghost use lib.ListN.{length};

@@ -1,6 +1,6 @@
--- A register whose half cells stand at the top of 64 bits goes on as the register itself: a cell sets the bit below them,
--- a word that is whole stands in the top places, and leaving it behind moves up what is left. And sixteen cells fill a
--- register, whatever it held before. Rests on no axiom.
+-- A register whose half cells stand at the top of 64 bits goes on as the register itself: a cell sets the bit below
+-- them, a word that is whole stands in the top places, and leaving it behind moves up what is left. And sixteen cells
+-- fill a register, whatever it held before. Rests on no axiom.
 use Prim.Native.Nat.{ℕ, zero, suc, _+_, _-_, _*_, _/_, _%_, _^_, _≤_, _<_}
 use mathlib.Core.Path.{_≡_, refl, sym, ap, ap₂, _∙_}
 use mathlib.Core.Bool.{Bool, true, false}

@@ -100,8 +100,8 @@ fn last_bits(units: &[u8], k: usize) -> u32
     shift_four(shift_four(half, units, k + 8), units, k + 12).bits
 }
 
-// As many fours as there is room for words, and four at least. Each four's half cells are stored, and the next four's in
-// the same place where they made no byte whole.
+// As many fours as there is room for words, and four at least. Each four's half cells are stored, and the next four's
+// in the same place where they made no byte whole.
 pub fn shift_fours(start: Reading, units: &[u8], words: &mut [u32]) -> Fours
     requires { ⌜ AllCells (now units) × (length (now units) ≡ 4 * length (now words)) ⌝ }
     requires { ⌜ (start .held ≤ 16) × (4 ≤ length (now words)) ⌝ }

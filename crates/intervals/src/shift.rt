@@ -15,8 +15,9 @@ use symbols::Reading;
 // So many fours has a block of 256 cells.
 const FOURS: usize = 64;
 
-// Cells of so many units, the first at place `from`, until so many bytes are whole or no cell is left. Bytes are counted
-// only where one is closed, which keeps the loop short. Code words are stored from place `to` on, where there is room.
+// Cells of so many units, the first at place `from`, until so many bytes are whole or no cell is left. Bytes are
+// counted only where one is closed, which keeps the loop short. Code words are stored from place `to` on, where there
+// is room.
 fn shift_in(
     start: Reading,
     units: &[u8],

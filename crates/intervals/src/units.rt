@@ -1,6 +1,6 @@
 // The units of a block of intervals. The class of an interval depends on the one before it, so that they would have to
-// be found one after the other; but nearly always no interval of a block lies between the two B23. Then whether one is of
-// class 2 is told by itself, and all are found at once, in vector instructions.
+// be found one after the other; but nearly always no interval of a block lies between the two B23. Then whether one is
+// of class 2 is told by itself, and all are found at once, in vector instructions.
 ghost use Prim.Native.Nat.{_+_, _-_, _≤_, min, max};
 ghost use mathlib.Core.Path.{_≡_};
 ghost use mathlib.Core.Bool.{Bool, true, false, cond};

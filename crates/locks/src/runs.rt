@@ -82,8 +82,8 @@ fn last_sure(short: Cursor, long: Cursor, intervals: &[u16], from: usize) -> usi
     i
 }
 
-// Where the classing stands at a place: it goes from the last sure place on, and so from the start of the list only where
-// no place before is sure.
+// Where the classing stands at a place: it goes from the last sure place on, and so from the start of the list only
+// where no place before is sure.
 fn cursor_at(p: Profile, intervals: &[u16], from: usize) -> Cursor
     requires { ⌜ profileRule p .number ≡ 0 ⌝ }
     requires { ⌜ from < length (now intervals) ⌝ }

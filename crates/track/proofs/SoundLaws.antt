@@ -1,5 +1,5 @@
--- Why a field does not read of which an interval at the front is no cell: a cell gives two bits at most, so that a field
--- of n bytes uses more than 4 n intervals, and it stops at one that is no cell. Rests on no axiom.
+-- Why a field does not read of which an interval at the front is no cell: a cell gives two bits at most, so that a
+-- field of n bytes uses more than 4 n intervals, and it stops at one that is no cell. Rests on no axiom.
 use Prim.Native.Nat.{ℕ, zero, suc, _+_, _-_, _*_, _%_, _^_, _≤_, _<_, max}
 use mathlib.Core.Path.{_≡_, refl, sym, ap₂, _∙_}
 use mathlib.Core.Bool.{Bool, true, false, _&&_, true≢false}

@@ -46,8 +46,9 @@ fn either(test: bool, yes: u16, no: u16) -> u16
     if test { yes } else { no }
 }
 
-// The same without the table, which is slow to copy where few words are asked for and large where all are. A mark's word
-// is chosen after the other is made: with no jump, so that the words of many bytes are made in vector instructions.
+// The same without the table, which is slow to copy where few words are asked for and large where all are. A mark's
+// word is chosen after the other is made: with no jump, so that the words of many bytes are made in vector
+// instructions.
 pub fn made_word(previous: u16, w: u16) -> u16
     ensures { λ r. ⌜ r ≡ wordOf (lastBit previous) w ⌝ }
 {

@@ -29,8 +29,8 @@ pastBound bound d = (d + (65536 - turned bound)) % 65536
 abbrev pub room : ℕ → ℕ → ℕ → ℕ → ℕ
 room from to first last = min (first - from) (to - last)
 
--- no edge is below the one before it, the first is above 0, and none is among the numbers that come first in that order:
--- so they are under every accepted profile
+-- no edge is below the one before it, the first is above 0, and none is among the numbers that come first in that
+-- order: so they are under every accepted profile
 pub record Reachable (c : Cursor) : Type 0 where
   pub first : 1 ≤ c .min .0
   pub edges : Ascending c

@@ -1,5 +1,5 @@
--- Why `masks::fill` stores `masksFrom`: where no interval lies between the two B23, each but the first is told by itself.
--- Rests on no axiom.
+-- Why `masks::fill` stores `masksFrom`: where no interval lies between the two B23, each but the first is told by
+-- itself. Rests on no axiom.
 use mathlib.Core.Path.{sym, _∙_}
 use borrow.Author.Needs.{needs}
 use Rattle.timing.proofs.EdgeLaws.{ascending-behind}

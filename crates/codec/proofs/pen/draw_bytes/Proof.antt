@@ -1,4 +1,5 @@
--- Why `codec::pen::draw_bytes` draws all bytes: each turn draws one more, and the rest makes the whole. Rests on no axiom.
+-- Why `codec::pen::draw_bytes` draws all bytes: each turn draws one more, and the rest makes the whole. Rests on no
+-- axiom.
 use Prim.Native.Nat.{ℕ, _+_, _-_, _≤_, _<_}
 use mathlib.Core.Path.{_≡_, refl, sym, ap, _∙_}
 use mathlib.Core.List.{List}

@@ -1,5 +1,5 @@
--- Why `codec::pen::draw_closing` closes a list: the window that the two closing 0s end, and the cell behind it. Rests on
--- no axiom.
+-- Why `codec::pen::draw_closing` closes a list: the window that the two closing 0s end, and the cell behind it. Rests
+-- on no axiom.
 use Prim.Native.Nat.{ℕ, _+_, _*_, _%_}
 use mathlib.Core.Path.{_≡_, sym, ap, _∙_}
 use native.Mathlib.Omega.{arith}

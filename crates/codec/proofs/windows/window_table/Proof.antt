@@ -1,5 +1,5 @@
--- Why `codec::windows::window_table` makes the table: each entry is the length of the cell that its window ends, which antt
--- computes over all. Rests on no axiom.
+-- Why `codec::windows::window_table` makes the table: each entry is the length of the cell that its window ends, which
+-- antt computes over all. Rests on no axiom.
 use Prim.Native.Nat.{ℕ}
 use mathlib.Core.Path.{_≡_, refl}
 use mathlib.Core.List.{List, [], _∷_}

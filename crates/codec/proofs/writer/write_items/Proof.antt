@@ -1,5 +1,5 @@
--- Why `codec::writer::write_items` draws all bytes of a list: each turn draws a run and the check order behind it, and the
--- last run is its own bytes. Rests on no axiom.
+-- Why `codec::writer::write_items` draws all bytes of a list: each turn draws a run and the check order behind it, and
+-- the last run is its own bytes. Rests on no axiom.
 use Prim.Native.Nat.{ℕ, _+_, _-_, _≤_, _<_}
 use mathlib.Core.Path.{_≡_, refl, sym, ap, ap₂, _∙_}
 use mathlib.Core.List.{List, _++_}

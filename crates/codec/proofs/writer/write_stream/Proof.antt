@@ -1,5 +1,5 @@
--- Why `codec::writer::write_stream` stores the stream: the bytes, then the two closing 0s, and there are as many places.
--- Rests on no axiom.
+-- Why `codec::writer::write_stream` stores the stream: the bytes, then the two closing 0s, and there are as many
+-- places. Rests on no axiom.
 use borrow.Author.Needs.{needs}
 use Rattle.codec.proofs.WriterLaws.{items-fit, closing-fits, stream-is-written}
 use Rattle.codec.proofs.writer.write_stream.Statement.{statement}

@@ -1,5 +1,5 @@
--- Why `shift::shift_block` gives `passFrom`: where every word fits, four cells at a time are cell after cell, and what is
--- over is the rest of the pass. Rests on no axiom.
+-- Why `shift::shift_block` gives `passFrom`: where every word fits, four cells at a time are cell after cell, and what
+-- is over is the rest of the pass. Rests on no axiom.
 use Prim.Native.Nat.{ℕ, _+_, _-_, _*_, _^_, _≤_, _<_}
 use mathlib.Core.Path.{_≡_, sym, ap, _∙_}
 use mathlib.Core.Bool.{true}

@@ -1,5 +1,5 @@
--- Why `units::units_of` gives `unitsFrom` and `cursorAfter`: each way does, and where both kinds have the same bounds the
--- classing stands where it stood. Rests on no axiom.
+-- Why `units::units_of` gives `unitsFrom` and `cursorAfter`: each way does, and where both kinds have the same bounds
+-- the classing stands where it stood. Rests on no axiom.
 use Prim.Native.Nat.{ℕ, _+_, _≤_}
 use mathlib.Core.Path.{_≡_, sym, _∙_}
 use native.Mathlib.Omega.{arith}

@@ -1,5 +1,5 @@
--- Why `units::units_of_sure` gives `unitsFrom` and `cursorAfter`: where none lies between the two B23, all but the first
--- two are as behind any kind, and the last tells where the classing stands behind. Rests on no axiom.
+-- Why `units::units_of_sure` gives `unitsFrom` and `cursorAfter`: where none lies between the two B23, all but the
+-- first two are as behind any kind, and the last tells where the classing stands behind. Rests on no axiom.
 use Prim.Native.Nat.{ℕ, suc, _+_}
 use mathlib.Core.Path.{_≡_, sym, ap, ap₂, _∙_}
 use mathlib.Core.Bool.{false}

@@ -1,5 +1,5 @@
--- `find_check` scans for the lowest place, from the end of the stretches without a check order on: any other number moves
--- it on by one, the first check order ends it.
+-- `find_check` scans for the lowest place, from the end of the stretches without a check order on: any other number
+-- moves it on by one, the first check order ends it.
 use Prim.Native.Nat.{ℕ, _+_, _-_, _≤_}
 use mathlib.Core.Path.{_≡_, sym, _∙_}
 use mathlib.Core.List.{List}

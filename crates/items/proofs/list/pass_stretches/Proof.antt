@@ -1,4 +1,5 @@
--- Why `list::pass_stretches` passes over no check order: a stretch in which none is counted has none. Rests on no axiom.
+-- Why `list::pass_stretches` passes over no check order: a stretch in which none is counted has none. Rests on no
+-- axiom.
 use Prim.Native.Nat.{_+_, _-_, _≤_, zero-le}
 use mathlib.Core.Path.{_≡_, _∙_}
 use native.Mathlib.Nat.{zero-add}

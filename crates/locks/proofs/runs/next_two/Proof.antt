@@ -1,5 +1,5 @@
--- Why `locks::runs::next_two` finds the next of class 2: where the classing stands tells of the first whether it is, and
--- behind one that is not the next goes by the bounds after any other. Rests on no axiom.
+-- Why `locks::runs::next_two` finds the next of class 2: where the classing stands tells of the first whether it is,
+-- and behind one that is not the next goes by the bounds after any other. Rests on no axiom.
 use Prim.Native.Nat.{ℕ, _+_, _-_, _<_, _≤_}
 use mathlib.Core.Path.{_≡_, sym, ap, _∙_}
 use mathlib.Core.Bool.{Bool, false}

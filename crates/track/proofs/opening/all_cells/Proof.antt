@@ -1,5 +1,5 @@
--- Why `opening::all_cells` tells whether all are cells: the greatest difference from Min is below that of Rpt where each
--- is. Rests on no axiom.
+-- Why `opening::all_cells` tells whether all are cells: the greatest difference from Min is below that of Rpt where
+-- each is. Rests on no axiom.
 use Prim.Native.Nat.{suc, _-_}
 use mathlib.Core.Path.{_≡_, refl, sym, ap, _∙_}
 use mathlib.Core.Bool.{Bool, _&&_, and-true, and-assoc}

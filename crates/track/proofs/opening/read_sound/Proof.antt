@@ -1,5 +1,5 @@
--- Why `opening::read_sound` answers `openedOf`: a field of which an interval at the front is no cell does not read. Rests
--- on no axiom.
+-- Why `opening::read_sound` answers `openedOf`: a field of which an interval at the front is no cell does not read.
+-- Rests on no axiom.
 use mathlib.Core.Path.{sym, _∙_}
 use native.Mathlib.Omega.{arith}
 use lib.Seq.{length-take-le}

@@ -1,5 +1,5 @@
--- Why `Seen::by_masks` is `seenFrom`: each mask chooses the bounds behind its interval, and the last of them tells where
--- the classing stands. Rests on no axiom.
+-- Why `Seen::by_masks` is `seenFrom`: each mask chooses the bounds behind its interval, and the last of them tells
+-- where the classing stands. Rests on no axiom.
 use Prim.Native.Nat.{ℕ, _-_}
 use mathlib.Core.Path.{_≡_, ap, ap₂, _∙_}
 use mathlib.Core.List.{List}

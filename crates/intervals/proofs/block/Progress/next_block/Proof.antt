@@ -1,5 +1,5 @@
--- Why `Progress::next_block` reaches the end of its block: it is the next 256 intervals, or all that are left. Rests on no
--- axiom.
+-- Why `Progress::next_block` reaches the end of its block: it is the next 256 intervals, or all that are left. Rests on
+-- no axiom.
 use Prim.Native.Nat.{ℕ, _+_, _-_, _≤_, min}
 use mathlib.Core.Path.{_≡_, sym, ap, _∙_}
 use mathlib.Core.List.{List}
