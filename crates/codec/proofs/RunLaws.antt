@@ -20,7 +20,8 @@ none-before : (l : List ℕ) → anywhere isCheck (take (lowest isCheck l) l) �
 unfolding anywhere lowest
 none-before [] = refl
 none-before (n ∷ ns) =
-    elim (isCheck n) as (λ t. (isCheck n ≡ t) → anywhere isCheck (take (cond t 0 (suc (lowest isCheck ns))) (n ∷ ns)) ≡ false)
+    elim (isCheck n) as (λ t.
+    (isCheck n ≡ t) → anywhere isCheck (take (cond t 0 (suc (lowest isCheck ns))) (n ∷ ns)) ≡ false)
     [ true ↦ λ e. refl | false ↦ λ e. rw e (none-before ns) ] refl
 
 check-there : (l : List ℕ) → lowest isCheck l < length l → isCheck (getD l (lowest isCheck l) 0) ≡ true

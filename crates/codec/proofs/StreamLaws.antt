@@ -108,7 +108,8 @@ module _ (p : Profile) (table : List ℕ) (tables : table ≡ windowTable p) (ol
   laid-draws c d w small begins drawn =
       rw (first-entry w small, last-entry w small)
       (⊎-elim (λ two. rw (two .0, two .1) (after-two drawn begins _ _))
-      (λ one. rw (one .0, one .1) (after-one drawn begins _ _)) (one-or-two p (bitAt w 32) (bitAt w 16) (bitAt w 8) (bitAt w 4) (bitAt w 2) (bitAt w 1)))
+      (λ one. rw (one .0, one .1) (after-one drawn begins _ _))
+      (one-or-two p (bitAt w 32) (bitAt w 16) (bitAt w 8) (bitAt w 4) (bitAt w 2) (bitAt w 1)))
 
   -- in the first of a list two cells end, the lead's and the next
   two-at-front
@@ -188,7 +189,8 @@ module _ (p : Profile) (table : List ℕ) (tables : table ≡ windowTable p) (ol
   all-small w =
       (elim (ltb 255 w) as (λ t.
       ltb 255 w ≡ t
-      → everywhere small (cond t (cond (eqb w 0x1a1) (41 ∷ 20 ∷ []) (57 ∷ 20 ∷ 41 ∷ [])) (w / 4 ∷ w % 64 ∷ [])) ≡ true) [
+      → everywhere small (cond t (cond (eqb w 0x1a1) (41 ∷ 20 ∷ []) (57 ∷ 20 ∷ 41 ∷ [])) (w / 4 ∷ w % 64 ∷ []))
+      ≡ true) [
         | true ↦
             λ e. elim (eqb w 0x1a1) as (λ t.
             everywhere small (cond t (41 ∷ 20 ∷ []) (57 ∷ 20 ∷ 41 ∷ [])) ≡ true) [ true ↦ refl | false ↦ refl ]
@@ -225,7 +227,9 @@ module _ (p : Profile) (table : List ℕ) (tables : table ≡ windowTable p) (ol
     abbrev q : ℕ
     q = s .pen .previous
 
-    begins-byte : Drawn old (g .c ++ windowLengths p (firstWindow q byte)) (entered table (drawingOf s) (firstWindow q byte))
+    begins-byte
+        : Drawn old (g .c ++ windowLengths p (firstWindow q byte))
+        (entered table (drawingOf s) (firstWindow q byte))
     begins-byte =
         entered-draws (g .c) (drawingOf s) (firstWindow q byte) (omega arith)
         (λ none. (g .fresh none .0, front (g .fresh none .1))) (g .drawn)
@@ -254,7 +258,8 @@ module _ (p : Profile) (table : List ℕ) (tables : table ≡ windowTable p) (ol
       let others = windowsLengths p (windowsAfter q w) in
       let low : w % 256 < 256 = omega arith in
       let smalls : everywhere small (windowsAfter q w) ≡ true =
-      everywhere-of-passing small (secondWindow q (w % 256)) (windowsLeft w) (lt-ltb (secondWindow q (w % 256)) 64 (omega arith))
+      everywhere-of-passing small (secondWindow q (w % 256)) (windowsLeft w)
+      (lt-ltb (secondWindow q (w % 256)) 64 (omega arith))
       ∙ all-small w in
       record {
         c = (g .c ++ first) ++ others;

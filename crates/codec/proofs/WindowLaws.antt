@@ -143,7 +143,8 @@ module _ (p : Profile) (q byte : ℕ) (small : byte < 256) where
       : both p (bitAt byte 128) (bitAt byte 64) (bitAt byte 32) (bitAt byte 16) (bitAt byte 8) (bitAt byte 4)
       ≡ windowLengths p (byte / 4)
   third-bits =
-      by-bits p (byte / 4) (byte / 128 % 2) (byte / 64 % 2) (byte / 32 % 2) (byte / 16 % 2) (byte / 8 % 2) (byte / 4 % 2)
+      by-bits p (byte / 4)
+      (byte / 128 % 2) (byte / 64 % 2) (byte / 32 % 2) (byte / 16 % 2) (byte / 8 % 2) (byte / 4 % 2)
       (omega arith) (omega arith) (omega arith) (omega arith) (omega arith) (omega arith)
 
   fourth-bits
@@ -273,7 +274,8 @@ module _ (p : Profile) (q : ℕ) where
 -- ---- a list
 
 -- the lead 0 counts as if a 0 stood before it: one length more than the list has
-pub stream-behind-lead : (p : Profile) (ws : List ℕ) → drop 1 (lengthsOn p 0 (allBits ws ++ (O ∷ O ∷ []))) ≡ byteStream p ws
+pub stream-behind-lead
+    : (p : Profile) (ws : List ℕ) → drop 1 (lengthsOn p 0 (allBits ws ++ (O ∷ O ∷ []))) ≡ byteStream p ws
 unfolding lengthsOn lengthsAfter unitsBefore lengthsFrom symbolsFrom pairSymbols byteStream lengthsOf writtenSymbols
     symbolsOf bitsOf symbolAfter
 stream-behind-lead p ws = refl

@@ -13,7 +13,8 @@ module _ (entry : tie.Start) where
   start = drawing (entry .args .start .cells) (now (entry .args .out))
 
   abbrev after-first : Drawing
-  after-first = entered (now (entry .args .table)) start (firstWindow (entry .args .start .previous) (entry .args .byte))
+  after-first =
+      entered (now (entry .args .table)) start (firstWindow (entry .args .start .previous) (entry .args .byte))
 
 enter-requires : tie.Need-enter-requires
 unfolding begun
@@ -42,7 +43,8 @@ returns c =
     let entered-so = laid-so .before .before .before .before in
     let entry = entered-so .before .before .before in
     laid-so .lay .ensures
-    ∙ ap (λ (d : Drawing). laid (now (entry .args .table)) d (secondWindow (entry .args .start .previous) (entry .args .byte)))
+    ∙ ap (λ (d : Drawing).
+    laid (now (entry .args .table)) d (secondWindow (entry .args .start .previous) (entry .args .byte)))
     (entered-so .enter .ensures)
 
 pub begin-spec : {M : Type 1} → statement M

@@ -62,6 +62,7 @@ loop-again c =
 pub draw-bytes-spec : {M : Type 1} → statement M
 draw-bytes-spec =
     tie.close
-    (tie.spec Inv-loop μ-loop (λ c. (omega arith, record { same = refl })) (λ c. search needs) (λ c. search needs) draw-byte-requires
+    (tie.spec Inv-loop μ-loop (λ c. (omega arith, record { same = refl })) (λ c. search needs) (λ c. search needs)
+    draw-byte-requires
     (λ c. search needs) (λ c. omega arith) loop-again (λ c. same-length (c .before .loop .inv .1))
     (λ c. at-end (c .before .loop .inv .1) (c .loop-test .left)))

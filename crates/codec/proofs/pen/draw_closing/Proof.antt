@@ -35,7 +35,8 @@ slice-write-out c =
     let entry = entered-so .before .before .before .before in
     let e = rw (as-window entry) at (entered-so .enter .ensures) in
     let cells = ap (λ (d : Drawing). d .cells) e in
-    let same = ap (λ (d : Drawing). length (d .out)) e ∙ entered-length (now (entry .args .table)) (start entry) (window entry) in
+    let same =
+    ap (λ (d : Drawing). length (d .out)) e ∙ entered-length (now (entry .args .table)) (start entry) (window entry) in
     omega (arith, entry .pre)
 
 returns : tie.Need-returns

@@ -24,7 +24,8 @@ unfolding laid
 lay-requires c κs =
     let entry = c .before .before .before in
     let d = drawing (entry .args .at) (now (entry .args .out)) in
-    (entry .pre .0, rw (entered-later (now (entry .args .table)) d (entry .args .window) (c .before .if1 .left)) at (entry .pre .1))
+    let later = entered-later (now (entry .args .table)) d (entry .args .window) (c .before .if1 .left) in
+    (entry .pre .0, rw later at (entry .pre .1))
 
 returns-2 : tie.Need-returns-2
 returns-2 c =

@@ -21,7 +21,9 @@ module _ (entry : tie.Start) where
   abbrev lays : Drawing → ℕ → Drawing
   lays = laid (now (entry .args .table))
 
-  fits : w ≤ 255 → laidAll (now (entry .args .table)) start (w / 4 ∷ w % 64 ∷ []) .cells < length (now (entry .args .out))
+  fits
+      : w ≤ 255
+      → laidAll (now (entry .args .table)) start (w / 4 ∷ w % 64 ∷ []) .cells < length (now (entry .args .out))
   unfolding finished
   fits small = rw (left-of-data w small) at (entry .pre)
 

@@ -6,7 +6,8 @@ use borrow.Author.Needs.{needs}
 use Prim.Native.Nat.{ℕ, _<_}
 use lib.ListN.{length}
 use Rattle.codec.specs.machine.Pen.{Drawing, drawing, laid, laidAll, finished}
-use Rattle.codec.proofs.PenLaws.{laid-length, left-fits, left-of-A1, left-of-C2, bits-of-A1, bits-of-others, left-so}
+use Rattle.codec.proofs.PenLaws.{laid-length, left-fits, left-of-A1, left-of-C2, bits-of-A1, bits-of-others}
+use Rattle.codec.proofs.PenLaws.{left-so}
 use denote.Ref.{now}
 use Rattle.codec.proofs.pen.finish_mark.Statement.{statement}
 use Rattle.codec.proofs.pen.finish_mark.Tie as tie
@@ -18,7 +19,8 @@ module _ (entry : tie.Start) where
   abbrev lays : Drawing → ℕ → Drawing
   lays = laid (now (entry .args .table))
 
-  fits-A1 : entry .args .mark ≡ 0x1a1 → laidAll (now (entry .args .table)) start (41 ∷ 20 ∷ []) .cells < length (now (entry .args .out))
+  fits-A1 : entry .args .mark ≡ 0x1a1
+      → laidAll (now (entry .args .table)) start (41 ∷ 20 ∷ []) .cells < length (now (entry .args .out))
   unfolding finished
   fits-A1 e = rw (left-of-A1 (entry .args .mark) (entry .pre .0) e) at (entry .pre .1)
 

@@ -48,7 +48,8 @@ module _ (p : Profile) where
       → l4s ≡ between p 3 4 2
       → l4l ≡ between p 3 4 3
       → listed s2s s2l s3s s3l s4s s4l l2s l2l l3s l3l l4s l4l ≡ windowTable p
-  made s2s s2l s3s s3l s4s s4l l2s l2l l3s l3l l4s l4l e0 e1 e2 e3 e4 e5 e6 e7 e8 e9 e10 e11 = rw (e0, e1, e2, e3, e4, e5, e6, e7, e8, e9, e10, e11) all-are-listed
+  made s2s s2l s3s s3l s4s s4l l2s l2l l3s l3l l4s l4l e0 e1 e2 e3 e4 e5 e6 e7 e8 e9 e10 e11 =
+      rw (e0, e1, e2, e3, e4, e5, e6, e7, e8, e9, e10, e11) all-are-listed
 
 returns : tie.Need-returns
 unfolding listed

@@ -60,7 +60,8 @@ module _ {table items : List ℕ} {s₀ s : Writing} {check : Check} {from run :
     fits : wrote table s₀ (written items) .pen .cells < length (s₀ .out)
         → wrote table s bytes .pen .cells < length (s .out)
     fits f =
-        let on-move = bytes-move-on table (wrote table s bytes) (writtenFrom check-after (drop (from + run + 1) items)) in
+        let rest = writtenFrom check-after (drop (from + run + 1) items) in
+        let further = bytes-move-on table (wrote table s bytes) rest in
         let same = ap (λ (x : Writing). x .pen .cells) behind in
         omega (arith, same-length)
 
