@@ -7,7 +7,8 @@ ghost use lib.ListN.{length};
 ghost use Rattle.lists.specs.Place.{anywhere, lowest, passed};
 ghost use Rattle.lists.specs.Filled.{filled};
 ghost use Rattle.refusal.specs.Answer.{verdictAnswer, countedAnswer};
-ghost use Rattle.images.specs.Image.{unrulyIn};
+ghost use Rattle.words.specs.Words.{lastBit};
+ghost use Rattle.images.specs.Image.{hasWord, unrulyIn};
 ghost use Rattle.images.specs.Rules.{wordsRule, readImageRule, readImageOutput};
 ghost use Rattle.half_cells.specs.machine.Candidate.{candidate};
 use half_cells::byte_of;
@@ -22,6 +23,11 @@ use words::word_of;
 
 // The most words that an image may have.
 const MAX_WORDS: usize = 6400;
+
+// The words of the marks.
+const WORD_A1: u16 = 0x4489;
+
+const WORD_C2: u16 = 0x5224;
 
 // The place of the lowest word that its candidate does not have after the byte before; the length where there is none.
 fn find_unruly(words: &[u16]) -> usize
@@ -43,6 +49,19 @@ fn find_unruly(words: &[u16]) -> usize
     k
 }
 
+// Whether its candidate has a word: a mark's is told first, so that no test of a mark is left for the others.
+fn is_ruly(previous: u16, word: u16) -> bool
+    ensures { λ r. ⌜ r ≡ hasWord (lastBit previous) word (candidate word) ⌝ }
+{
+    if word == WORD_A1 {
+        return true;
+    }
+    if word == WORD_C2 {
+        return true;
+    }
+    made_word(previous, byte_of(word)) == word
+}
+
 // Whether no word is unruly; a word's last bit is its byte's. Looks at every word: a loop that could end early would go
 // word by word.
 fn all_ruly(words: &[u16]) -> bool
@@ -53,7 +72,7 @@ fn all_ruly(words: &[u16]) -> bool
     let mut k: usize = 0;
     while k < words.len() {
         let word = words[k];
-        all = all & (made_word(previous, byte_of(word)) == word);
+        all = all & is_ruly(previous, word);
         previous = word;
         k += 1;
     }

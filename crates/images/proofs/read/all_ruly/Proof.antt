@@ -1,19 +1,18 @@
 -- `read::all_ruly` tells whether no word is unruly: that none was so far, and that none is in the rest, stay one answer
 -- from turn to turn. Rests on no axiom.
 use Prim.Native.Nat.{ℕ, suc, _+_, _-_, _≤_, _<_}
-use mathlib.Core.Path.{_≡_, refl, sym, ap, ap₂, _∙_}
+use mathlib.Core.Path.{_≡_, refl, ap, _∙_}
 use mathlib.Core.Bool.{Bool, not, _&&_, and-assoc, and-true}
 use mathlib.Core.List.{List}
 use native.Mathlib.Omega.{arith}
 use native.Mathlib.Numerals.{add-one}
 use borrow.Author.Needs.{needs}
-use lib.Dec.{eqb}
 use lib.ListN.{length, getD, drop, drop-of-length-le}
 use lib.Seq.{drop-cons}
 use Rattle.lists.specs.Place.{anywhere, passed}
 use Rattle.half_cells.specs.machine.Candidate.{candidate}
-use Rattle.words.specs.Words.{wordOf, lastBit}
-use Rattle.images.specs.Image.{unrulyFrom, unrulyIn}
+use Rattle.words.specs.Words.{lastBit}
+use Rattle.images.specs.Image.{hasWord, unrulyFrom, unrulyIn}
 use Rattle.images.proofs.WordLaws.{last-bit-is-data}
 use Rattle.images.proofs.ImageLaws.{none-unruly-from}
 use denote.Ref.{now}
@@ -25,15 +24,14 @@ abbrev noneFrom : List ℕ → ℕ → ℕ → Bool
 noneFrom words previous k = not (anywhere passed (unrulyFrom (lastBit previous) (drop k words)))
 
 none-from-here
-    : (words : List ℕ) (previous k byte made : ℕ)
+    : (words : List ℕ) (previous k : ℕ) (test : Bool)
     → k < length words
-    → byte ≡ candidate (getD words k 0)
-    → made ≡ wordOf (lastBit previous) byte
-    → (eqb made (getD words k 0) && noneFrom words (getD words k 0) (k + 1)) ≡ noneFrom words previous k
-none-from-here words previous k byte made h is-candidate is-made =
+    → test ≡ hasWord (lastBit previous) (getD words k 0) (candidate (getD words k 0))
+    → (test && noneFrom words (getD words k 0) (k + 1)) ≡ noneFrom words previous k
+none-from-here words previous k test h e =
     let word = getD words k 0 in
     let here = none-unruly-from (lastBit previous) (last-bit-is-data previous) word (drop (suc k) words) in
-    rw (add-one, drop-cons words k 0, here, is-made, is-candidate)
+    rw (add-one, drop-cons words k 0, here, e)
 
 abbrev Inv-loop : tie.InvT-loop
 Inv-loop words all₀ previous₀ k₀ all previous k =
@@ -48,12 +46,10 @@ loop-holds c = (omega arith, refl)
 
 loop-again : tie.Need-loop-again Inv-loop μ-loop
 loop-again c =
-    let turn = c .before .before .before in
+    let turn = c .before .before in
     let head = turn .before .loop in
     let words = now (turn .before .before .before .args .words) in
-    let here =
-    none-from-here words (head .previous) (head .k) _ _ (turn .loop-test .taken) (c .before .byte-of .ensures)
-    (c .made-word .ensures) in
+    let here = none-from-here words (head .previous) (head .k) _ (turn .loop-test .taken) (c .is-ruly .ensures) in
     (omega arith, and-assoc (head .all) _ _ ∙ ap (λ (t : Bool). head .all && t) here ∙ head .inv .1)
 
 returns : tie.Need-returns Inv-loop μ-loop
@@ -63,4 +59,4 @@ returns c = rw (drop-of-length-le _ (c .loop-test .left), and-true) at (c .befor
 pub all-ruly-spec : {M : Type 1} → statement M
 all-ruly-spec =
     tie.close (tie.spec Inv-loop μ-loop loop-holds (λ c. omega arith) (λ c. omega arith) (λ c κs. search needs)
-    (λ c κs. search needs) (λ c. omega arith) (λ c. omega arith) loop-again returns)
+    (λ c. omega arith) (λ c. omega arith) loop-again returns)
