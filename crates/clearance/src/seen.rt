@@ -14,8 +14,8 @@ use timing::Bounds;
 use timing::Cursor;
 
 // As many intervals as are looked at together, so that it is done in vector instructions: one that goes by the cursor,
-// and 256 behind it.
-const BLOCK: usize = 257;
+// and 128 behind it.
+const BLOCK: usize = 129;
 
 // The mask of class 2.
 const ONES: u16 = 0xffff;
@@ -101,7 +101,7 @@ impl Seen {
 
     fn block(self, intervals: &[u16]) -> Seen
         requires { ⌜ Ascending (self .cursor) ⌝ }
-        requires { ⌜ (1 ≤ length (now intervals)) × (length (now intervals) ≤ 257) ⌝ }
+        requires { ⌜ (1 ≤ length (now intervals)) × (length (now intervals) ≤ 129) ⌝ }
         ensures { λ r. ⌜ r ≡ seenFrom self (now (intervals .entry)) ⌝ }
     {
         let n = intervals.len();

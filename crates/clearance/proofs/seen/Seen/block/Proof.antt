@@ -14,7 +14,7 @@ masked-requires : tie.Need-masked-requires
 masked-requires c κs =
     let entry = c .before .before in
     let n = length (entry .args .intervals .now) in
-    (entry .pre .0, (entry .pre .1 .0, length-take-le {A = ℕ} n (replicate 257 0) (entry .pre .1 .1)))
+    (entry .pre .0, (entry .pre .1 .0, length-take-le {A = ℕ} n (replicate 129 0) (entry .pre .1 .1)))
 
 pub block-spec : {M : Type 1} → statement M
 block-spec =
