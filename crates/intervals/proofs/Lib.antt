@@ -6,3 +6,4 @@ pub mod PassLaws
 pub mod FoursLaws
 pub mod BlockLaws
 pub mod TopLaws
+pub mod SixteenLaws

@@ -39,7 +39,8 @@ fn top_of(m: Reading) -> Top
 }
 
 fn add_cell(t: Top, units: u8) -> Top
-    ensures { λ r. ⌜ ((m : Reading) → Tops t m → m .held + units ≤ 32 → (1 ≤ units) × (units ≤ 4) → Tops r (shifted m units)) ⌝ }
+    ensures { λ r. ⌜
+        ((m : Reading) → Tops t m → m .held + units ≤ 32 → (1 ≤ units) × (units ≤ 4) → Tops r (shifted m units)) ⌝ }
 {
     let free = std::num::wrapping_sub_u32(t.free, units as u32);
     Top {

@@ -6,9 +6,12 @@ use Rattle.intervals.proofs.fours.add_four.Tie as tie
 
 returns : tie.Need-returns
 returns c =
-    let start = c .before .before .before .before .before .before .before .before .before in
-    top-four (start .args .units .now) (start .args .k) (start .pre) _ _ _ _ _ (c .before .before .before .before .before .before .add-cell .ensures)
-    (c .before .before .before .before .add-cell2 .ensures) (c .before .before .add-cell3 .ensures) (c .add-cell4 .ensures)
+    let third = c .before .before in
+    let second = third .before .before in
+    let first = second .before .before in
+    let start = first .before .before .before in
+    top-four (start .args .units .now) (start .args .k) (start .pre) _ _ _ _ _ (first .add-cell .ensures)
+    (second .add-cell2 .ensures) (third .add-cell3 .ensures) (c .add-cell4 .ensures)
 
 pub add-four-spec : {M : Type 1} → statement M
 add-four-spec =

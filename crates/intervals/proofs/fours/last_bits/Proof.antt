@@ -3,7 +3,7 @@ use mathlib.Core.Path.{sym, ap}
 use borrow.Author.Needs.{needs}
 use Rattle.symbols.specs.machine.Step.{emptyReading}
 use Rattle.symbols.specs.declared.Reading.{Reading}
-use Rattle.intervals.proofs.TopLaws.{shifted-sixteen}
+use Rattle.intervals.proofs.SixteenLaws.{shifted-sixteen}
 use Rattle.intervals.proofs.fours.last_bits.Statement.{statement}
 use Rattle.intervals.proofs.fours.last_bits.Tie as tie
 

@@ -49,7 +49,8 @@ loop-again c =
     let start = turn .before .before .before .before in
     let inv = turn .loop .inv in
     top-goes-on _ _ _ _ _ _ _ inv (rw (inv .so-far .size) at (inside .loop-test .taken)) (start .pre .0) _ _ _ _
-    (c .before .before .before .add-four .ensures) (c .before .before .top-word .ensures) (c .before .is-whole .ensures) (c .ease .ensures)
+    (c .before .before .before .add-four .ensures) (c .before .before .top-word .ensures)
+    (c .before .is-whole .ensures) (c .ease .ensures)
 
 sub-last-bits : tie.Need-sub-last-bits Inv-loop μ-loop
 sub-last-bits c =

@@ -12,8 +12,9 @@ use Rattle.intervals.proofs.units.units_of.Tie as tie
 
 returns : tie.Need-returns
 returns c =
-    let start = c .before .before .before .before .before .before .before .before in
-    let steady = sym (c .before .before .before .before .before .is-steady .ensures) ∙ c .before .before .before .before .if1 .taken in
+    let told = c .before .before .before .before in
+    let start = told .before .before .before .before in
+    let steady = sym (told .before .is-steady .ensures) ∙ told .if1 .taken in
     let ds = start .args .intervals .now in
     (steady-cursor _ steady ds, c .before .before .fill-units .ensures ∙ steady-units _ steady ds)
 

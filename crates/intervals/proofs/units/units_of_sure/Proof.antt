@@ -18,7 +18,8 @@ use Rattle.intervals.proofs.units.units_of_sure.Tie as tie
 
 shared-slice-read-units-2 : tie.Need-shared-slice-read-units-2
 shared-slice-read-units-2 c =
-    let start = c .before .before .before .before .before .before .before .before .before .before .before .before .before .before .before .before .before in
+    let first = c .before .before .before .before .before .before .before in
+    let start = first .before .before .before .before .before .before .before .before .before .before in
     omega (arith, start .pre .0 .1)
 
 slice-write-units-2 : tie.Need-slice-write-units-2
@@ -30,12 +31,14 @@ slice-write-units-2 c =
 
 last-of-requires : tie.Need-last-of-requires
 last-of-requires c κs =
-    let start = c .before .before .before .before .before .before .before .before .before .before .before .before .before .before .before .before .before .before .before in
+    let filled = c .before .before .before .before .before .before .before .before .before in
+    let start = filled .before .before .before .before .before .before .before .before .before .before in
     omega (arith, start .pre .0 .1)
 
 same-length : tie.Need-same-length
 same-length c =
-    let marked = c .before .before .before .before .before .before .before .before .before .before .before .before .before .before .before .before in
+    let filled = c .before .before .before .before .before .before .before .before .before .before .before in
+    let marked = filled .before .before .before .before .before in
     let start = marked .before .before .before .before .before in
     let ds = start .args .intervals .now in
     let room : suc (length ds) ≡ length (start .args .kinds .now) = omega (arith, start .pre .1 .0) in

@@ -18,7 +18,7 @@ use Rattle.symbols.proofs.EaseLaws.{eased-low}
 use Rattle.intervals.specs.machine.Fours.{Fours, foursFrom, Tops}
 use Rattle.intervals.specs.declared.fours.Top.{Top}
 use Rattle.intervals.proofs.FoursLaws.{shifts, cells-in-parts}
-use Rattle.intervals.proofs.TopLaws.{fours-leave, last-sixteen}
+use Rattle.intervals.proofs.SixteenLaws.{fours-leave, last-sixteen}
 use mir.Val.{boolByte}
 
 -- kept, if a byte is whole, or to be stored over
