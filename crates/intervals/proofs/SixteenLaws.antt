@@ -1,5 +1,5 @@
--- A register after many cells: by fours as cell after cell; and sixteen cells fill it, whatever it held before, since each
--- has two half cells at least. Rests on no axiom.
+-- A register after many cells: by fours as cell after cell; and sixteen cells fill it, whatever it held before, since
+-- each has two half cells at least. Rests on no axiom.
 use Prim.Native.Nat.{ℕ, zero, suc, _+_, _-_, _*_, _/_, _%_, _^_, _≤_, _<_}
 use mathlib.Core.Path.{_≡_, refl, sym, ap, _∙_}
 use mathlib.Core.List.{List, [], _∷_, _++_}
