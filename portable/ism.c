@@ -198,6 +198,12 @@ struct array_u16_256 {
     uint16_t a[256];
 };
 
+/* merge::span::Span, crates/merge/src/span.rt */
+struct merge_span_Span {
+    uint64_t low;
+    uint64_t high;
+};
+
 /* merge::Merged, crates/merge/src/lib.rt */
 enum { merge_Merged_Set, merge_Merged_Refused };
 struct merge_Merged {
@@ -284,6 +290,12 @@ struct timing_cursor_Classed {
     struct timing_cursor_Cursor next;
 };
 
+/* intervals::fours::Top, crates/intervals/src/fours.rt */
+struct intervals_fours_Top {
+    uint64_t cells;
+    uint32_t free;
+};
+
 struct slice_u32 {
     const uint32_t *at;
     uint64_t len;
@@ -312,20 +324,20 @@ struct slice_u32_mut {
     uint64_t len;
 };
 
-struct array_u32_16 {
-    uint32_t a[16];
+struct array_u32_64 {
+    uint32_t a[64];
 };
 
-struct array_u8_64 {
-    uint8_t a[64];
+struct array_u16_257 {
+    uint16_t a[257];
+};
+
+struct array_u8_256 {
+    uint8_t a[256];
 };
 
 struct array_u16_10 {
     uint16_t a[10];
-};
-
-struct array_u16_64 {
-    uint16_t a[64];
 };
 
 /* best::Writing, crates/best/src/lib.rt */
@@ -515,34 +527,27 @@ struct images_count_Part {
     struct items_Check check;
 };
 
+struct array_u16_128 {
+    uint16_t a[128];
+};
+
 /* codec::pen::Pen, crates/codec/src/pen.rt */
 struct codec_pen_Pen {
-    uint32_t since;
-    uint32_t window;
+    uint64_t previous;
     uint64_t cells;
-};
-
-/* codec::bytes::Track, crates/codec/src/bytes.rt */
-struct codec_bytes_Track {
-    struct codec_pen_Pen pen;
-    uint16_t previous;
-};
-
-/* codec::pen::Rest, crates/codec/src/pen.rt */
-struct codec_pen_Rest {
-    uint32_t last;
-    uint32_t window;
-    uint64_t cells;
-    uint32_t ones;
 };
 
 struct array_u16_0 {
     uint16_t a[1];
 };
 
+struct array_u16_2 {
+    uint16_t a[2];
+};
+
 /* codec::writer::Part, crates/codec/src/writer.rt */
 struct codec_writer_Part {
-    struct codec_bytes_Track track;
+    struct codec_pen_Pen pen;
     struct items_Check check;
 };
 
@@ -558,6 +563,10 @@ struct clearance_extremes_Extremes {
 struct clearance_seen_Seen {
     struct clearance_extremes_Extremes extremes;
     struct timing_cursor_Cursor cursor;
+};
+
+struct array_u16_129 {
+    uint16_t a[129];
 };
 
 struct array_u16_1 {
@@ -644,6 +653,10 @@ struct speed_gather_BlockRead {
     struct items_Check check;
 };
 
+struct array_u8_64 {
+    uint8_t a[64];
+};
+
 struct array_u16_17 {
     uint16_t a[17];
 };
@@ -654,6 +667,10 @@ struct speed_gather_Along {
     struct items_Check check;
     struct refusal_Verdict edges;
     struct clearance_seen_Seen seen;
+};
+
+struct array_u16_64 {
+    uint16_t a[64];
 };
 
 /* speed::gather::Gathered, crates/speed/src/gather.rt */
@@ -993,6 +1010,21 @@ static uint64_t items_bytes_of(uint16_t n) {
     return 1;
 }
 
+/*
+ * items::list::count_checks, crates/items/src/list.rt
+ * How many check orders stand from a place up to another, so few that 16 bits count them: added with no jump for any,
+ * eight at a time.
+ */
+static uint16_t items_list_count_checks(struct slice_u16 items, uint64_t from, uint64_t end) {
+    uint16_t count = 0;
+    uint64_t k = from;
+    while (k < end) {
+        count += (uint16_t)items_is_check(items.at[k]);
+        k++;
+    }
+    return count;
+}
+
 /* items::is_mark, crates/items/src/lib.rt */
 static bool items_is_mark(uint16_t n) {
     return n == 417 || n == 450;
@@ -1050,6 +1082,17 @@ static bool items_is_item(uint16_t n) {
     return items_is_check(n);
 }
 
+/* items::list::all_items, crates/items/src/list.rt: Whether all numbers are items, told with no jump for any. */
+static bool items_list_all_items(struct slice_u16 items) {
+    bool all = true;
+    uint64_t k = 0;
+    while (k < items.len) {
+        all = all & items_is_item(items.at[k]);
+        k++;
+    }
+    return all;
+}
+
 /*
  * items::list::find_foreign, crates/items/src/list.rt
  * The place of the lowest number that is no item; the length where there is none.
@@ -1069,6 +1112,30 @@ static uint64_t items_list_find_foreign(struct slice_u16 items) {
 /* items::Check::low, crates/items/src/lib.rt */
 static uint16_t items_Check_low(struct items_Check self) {
     return self.register_ % 256;
+}
+
+/* items::list::pass_stretches, crates/items/src/list.rt: Passes over whole stretches with no check order. */
+static uint64_t items_list_pass_stretches(struct slice_u16 items) {
+    uint64_t k = 0;
+    while (32 <= items.len - k) {
+        uint64_t end = k + 32;
+        if (0 < items_list_count_checks(items, k, end)) return k;
+        k = end;
+    }
+    return k;
+}
+
+/*
+ * items::list::find_check, crates/items/src/list.rt
+ * The place of the lowest check order; the length where there is none.
+ */
+static uint64_t items_list_find_check(struct slice_u16 items) {
+    uint64_t k = items_list_pass_stretches(items);
+    while (k < items.len) {
+        if (items_is_check(items.at[k])) return k;
+        k++;
+    }
+    return k;
 }
 
 /* items::list::put_item, crates/items/src/list.rt: Stores an item's bytes from `at` on. */
@@ -1108,11 +1175,13 @@ static struct items_list_Stored items_list_write_each(struct items_Check start, 
 static uint64_t items_list_written_bytes(struct slice_u16 items) {
     uint64_t count = 0;
     uint64_t k = 0;
-    while (k < items.len) {
-        count += items_bytes_of(items.at[k]);
-        k++;
+    while (32768 <= items.len - k) {
+        uint64_t end = k + 32768;
+        count += 32768 + (uint64_t)items_list_count_checks(items, k, end);
+        k = end;
     }
-    return count;
+    uint64_t end_2 = items.len;
+    return count + (end_2 - k) + (uint64_t)items_list_count_checks(items, k, end_2);
 }
 
 /* items::list::check_list, crates/items/src/list.rt: Whether the list may be written: 4, then 3. */
@@ -1123,12 +1192,9 @@ static struct refusal_Verdict items_list_check_list(struct slice_u16 items) {
     if (6400 < items_list_written_bytes(items)) {
         return (struct refusal_Verdict){.tag = refusal_Verdict_Refused, .u.Refused = {.tag = refusal_Refusal_TooLong}};
     }
-    uint64_t k = items_list_find_foreign(items);
-    if (k < items.len) {
-        return (struct refusal_Verdict){.tag = refusal_Verdict_Refused,
-                .u.Refused = {.tag = refusal_Refusal_NotAnItem, .u.NotAnItem = (uint32_t)k}};
-    }
-    return (struct refusal_Verdict){.tag = refusal_Verdict_Accepted};
+    if (items_list_all_items(items)) return (struct refusal_Verdict){.tag = refusal_Verdict_Accepted};
+    return (struct refusal_Verdict){.tag = refusal_Verdict_Refused,
+            .u.Refused = {.tag = refusal_Refusal_NotAnItem, .u.NotAnItem = (uint32_t)items_list_find_foreign(items)}};
 }
 
 /*
@@ -1347,6 +1413,12 @@ static struct refusal_Counted sectors_make_sector(uint8_t track, uint8_t side, u
 
 /* The crate merge */
 
+/* merge::span::at_least, crates/merge/src/span.rt */
+static uint64_t merge_span_at_least(uint64_t least, uint64_t number) {
+    if (least < number) return number;
+    return least;
+}
+
 /* merge::check_counts, crates/merge/src/lib.rt */
 static struct refusal_Verdict merge_check_counts(uint64_t first, uint64_t second) {
     if (32 < first) {
@@ -1380,32 +1452,39 @@ static bool merge_index_in_either(uint16_t a, uint16_t b) {
 }
 
 /* merge::index::count_numbers, crates/merge/src/index.rt: How many different numbers two sets have. */
-static uint64_t merge_index_count_numbers(const struct array_u16_256 *a, const struct array_u16_256 *b) {
+static uint64_t merge_index_count_numbers(const struct array_u16_256 *a, const struct array_u16_256 *b,
+        struct merge_span_Span span) {
     uint64_t count = 0;
-    uint64_t n = 0;
-    while (n < 256) {
+    uint64_t n = span.low;
+    while (n < span.high) {
         if (merge_index_in_either(a->a[n], b->a[n])) count++;
         n++;
     }
     return count;
 }
 
+/* merge::span::join, crates/merge/src/span.rt: The span of the numbers of either. */
+static struct merge_span_Span merge_span_join(struct merge_span_Span a, struct merge_span_Span b) {
+    uint64_t t3 = lists_at_most(a.low, b.low);
+    return (struct merge_span_Span){.low = t3, .high = merge_span_at_least(a.high, b.high)};
+}
+
 /*
  * merge::index::index_set, crates/merge/src/index.rt
- * Whether a number is there twice. 32 sectors have at most 32,864 bytes, so a place fits 16 bits and is not 65,535.
+ * Answers the span of the numbers. 32 sectors have at most 32,864 bytes, so a place fits 16 bits and is not 65,535.
  */
-static bool merge_index_index_set(struct slice_u8 set, struct array_u16_256 *index) {
-    bool twice = false;
+static struct merge_span_Span merge_index_index_set(struct slice_u8 set, struct array_u16_256 *index) {
+    struct merge_span_Span span = {.low = 256, .high = 0};
     uint64_t start = 0;
     while (start < set.len) {
         uint64_t code = start + 1;
         uint64_t number = (uint64_t)set.at[start];
-        uint16_t old = index->a[number];
-        twice = twice | (old != 0);
-        index->a[number] = merge_index_entry(old, (uint16_t)code);
+        index->a[number] = merge_index_entry(index->a[number], (uint16_t)code);
+        struct merge_span_Span here = {.low = number, .high = number + 1};
+        span = merge_span_join(span, here);
         start = code + 2 + sectors_sector_size(set.at[code]);
     }
-    return twice;
+    return span;
 }
 
 /*
@@ -1452,13 +1531,13 @@ static bool merge_choice_at_odds(struct slice_u8 first, uint16_t a, struct slice
  * The lowest number at which the sets are at odds; 256 where there is none.
  */
 static uint64_t merge_choice_lowest_at_odds(struct slice_u8 first, const struct array_u16_256 *a,
-        struct slice_u8 second, const struct array_u16_256 *b) {
-    uint64_t n = 0;
-    while (n < 256) {
+        struct slice_u8 second, const struct array_u16_256 *b, struct merge_span_Span span) {
+    uint64_t n = span.low;
+    while (n < span.high) {
         if (merge_choice_at_odds(first, a->a[n], second, b->a[n])) return n;
         n++;
     }
-    return n;
+    return 256;
 }
 
 /*
@@ -1466,13 +1545,13 @@ static uint64_t merge_choice_lowest_at_odds(struct slice_u8 first, const struct 
  * 15 for more than 32 different numbers, then 17; else how many there are.
  */
 static struct refusal_Counted merge_check_numbers(struct slice_u8 first, const struct array_u16_256 *a,
-        struct slice_u8 second, const struct array_u16_256 *b) {
-    uint64_t count = merge_index_count_numbers(a, b);
+        struct slice_u8 second, const struct array_u16_256 *b, struct merge_span_Span span) {
+    uint64_t count = merge_index_count_numbers(a, b, span);
     if (32 < count) {
         return (struct refusal_Counted){.tag = refusal_Counted_Refused,
                 .u.Refused = {.tag = refusal_Refusal_TooManySectors}};
     }
-    uint64_t lowest = merge_choice_lowest_at_odds(first, a, second, b);
+    uint64_t lowest = merge_choice_lowest_at_odds(first, a, second, b, span);
     if (lowest < 256) {
         return (struct refusal_Counted){.tag = refusal_Counted_Refused,
                 .u.Refused = {.tag = refusal_Refusal_SectorsAtOdds, .u.SectorsAtOdds = (uint32_t)lowest}};
@@ -1586,10 +1665,10 @@ static uint64_t merge_output_taken_size(struct slice_u8 first, uint16_t a, struc
 
 /* merge::ascending::merged_size, crates/merge/src/ascending.rt */
 static uint64_t merge_ascending_merged_size(struct slice_u8 first, const struct array_u16_256 *a,
-        struct slice_u8 second, const struct array_u16_256 *b) {
+        struct slice_u8 second, const struct array_u16_256 *b, struct merge_span_Span span) {
     uint64_t size = 0;
-    uint64_t n = 0;
-    while (n < 256) {
+    uint64_t n = span.low;
+    while (n < span.high) {
         size += merge_output_taken_size(first, a->a[n], second, b->a[n]);
         n++;
     }
@@ -1598,10 +1677,10 @@ static uint64_t merge_ascending_merged_size(struct slice_u8 first, const struct 
 
 /* merge::ascending::write_merged, crates/merge/src/ascending.rt */
 static void merge_ascending_write_merged(struct slice_u8 first, const struct array_u16_256 *a, struct slice_u8 second,
-        const struct array_u16_256 *b, struct slice_u8_mut out) {
+        const struct array_u16_256 *b, struct merge_span_Span span, struct slice_u8_mut out) {
     uint64_t start = 0;
-    uint64_t n = 0;
-    while (n < 256) {
+    uint64_t n = span.low;
+    while (n < span.high) {
         start = merge_output_put_taken(first, a->a[n], second, b->a[n], out, start);
         n++;
     }
@@ -1609,12 +1688,12 @@ static void merge_ascending_write_merged(struct slice_u8 first, const struct arr
 
 /* merge::deliver, crates/merge/src/lib.rt: 9, or the merged set at the front of the output. */
 static struct merge_Merged merge_deliver(struct slice_u8 first, const struct array_u16_256 *a, struct slice_u8 second,
-        const struct array_u16_256 *b, uint64_t count, struct slice_u8_mut out) {
-    uint64_t bytes = merge_ascending_merged_size(first, a, second, b);
+        const struct array_u16_256 *b, struct merge_span_Span span, uint64_t count, struct slice_u8_mut out) {
+    uint64_t bytes = merge_ascending_merged_size(first, a, second, b, span);
     if (out.len < bytes) {
         return (struct merge_Merged){.tag = merge_Merged_Refused, .u.Refused = {.tag = refusal_Refusal_OutputTooShort}};
     }
-    merge_ascending_write_merged(first, a, second, b, out);
+    merge_ascending_write_merged(first, a, second, b, span, out);
     return (struct merge_Merged){.tag = merge_Merged_Set, .u.Set = {.count = count, .bytes = bytes}};
 }
 
@@ -1622,13 +1701,14 @@ static struct merge_Merged merge_deliver(struct slice_u8 first, const struct arr
 static struct merge_Merged merge_merge_checked(struct slice_u8 first, struct slice_u8 second, struct slice_u8_mut out) {
     struct array_u16_256 a = {0};
     struct array_u16_256 b = {0};
-    merge_index_index_set(first, &a);
-    merge_index_index_set(second, &b);
-    struct refusal_Counted t11 = merge_check_numbers(first, &a, second, &b);
-    if (t11.tag == refusal_Counted_Refused) {
-        return (struct merge_Merged){.tag = merge_Merged_Refused, .u.Refused = t11.u.Refused};
+    struct merge_span_Span one = merge_index_index_set(first, &a);
+    struct merge_span_Span other = merge_index_index_set(second, &b);
+    struct merge_span_Span span = merge_span_join(one, other);
+    struct refusal_Counted t13 = merge_check_numbers(first, &a, second, &b, span);
+    if (t13.tag == refusal_Counted_Refused) {
+        return (struct merge_Merged){.tag = merge_Merged_Refused, .u.Refused = t13.u.Refused};
     }
-    return merge_deliver(first, &a, second, &b, t11.u.Count, out);
+    return merge_deliver(first, &a, second, &b, span, t13.u.Count, out);
 }
 
 /*
@@ -1669,15 +1749,6 @@ static struct symbols_Reading symbols_Reading_empty(void) {
 }
 
 /*
- * symbols::Reading::half_cells, crates/symbols/src/lib.rt
- * The same with the data bit before it; where none is whole, other half cells.
- */
-static uint32_t symbols_Reading_half_cells(struct symbols_Reading self) {
-    uint32_t surplus = std_num_wrapping_sub_u32(self.held, 17) % 32;
-    return (self.bits >> surplus) % 131072;
-}
-
-/*
  * symbols::Reading::is_stray, crates/symbols/src/lib.rt
  * A gap was out of place, also one on the last bit, which no later byte has shown.
  */
@@ -1691,27 +1762,6 @@ static bool symbols_Reading_is_stray(struct symbols_Reading self) {
  */
 static bool symbols_Reading_is_whole(struct symbols_Reading self) {
     return 17 <= self.held;
-}
-
-/*
- * symbols::Reading::ease, crates/symbols/src/lib.rt
- * On to the next byte where one is whole, without a jump. Its gaps are not looked at.
- */
-static struct symbols_Reading symbols_Reading_ease(struct symbols_Reading self) {
-    uint32_t whole = (uint32_t)symbols_Reading_is_whole(self);
-    self.held = std_num_wrapping_sub_u32(self.held, 16 * whole);
-    self.words = std_num_wrapping_add_u32(self.words, whole);
-    return self;
-}
-
-/*
- * symbols::Reading::join, crates/symbols/src/lib.rt
- * Cells that were shifted into an empty register, with one shift.
- */
-static struct symbols_Reading symbols_Reading_join(struct symbols_Reading self, struct symbols_Reading cells) {
-    self.bits = (uint32_t)(self.bits << (cells.held % 32)) | cells.bits;
-    self.held = std_num_wrapping_add_u32(self.held, cells.held);
-    return self;
 }
 
 /*
@@ -1993,6 +2043,22 @@ static uint8_t timing_cursor_Cursor_units(struct timing_cursor_Cursor self, uint
 
 /* The crate intervals */
 
+/* intervals::fours::add_cell, crates/intervals/src/fours.rt */
+static struct intervals_fours_Top intervals_fours_add_cell(struct intervals_fours_Top t, uint8_t units) {
+    uint32_t free = std_num_wrapping_sub_u32(t.free, (uint32_t)units);
+    return (struct intervals_fours_Top){.cells = t.cells | (uint64_t)((uint64_t)1 << (uint64_t)(free % 64)),
+            .free = free};
+}
+
+/* intervals::fours::add_four, crates/intervals/src/fours.rt: The four cells from a place on. */
+static struct intervals_fours_Top intervals_fours_add_four(struct intervals_fours_Top t, struct slice_u8 units,
+        uint64_t k) {
+    struct intervals_fours_Top t5 = intervals_fours_add_cell(t, units.at[k]);
+    struct intervals_fours_Top two = intervals_fours_add_cell(t5, units.at[k + 1]);
+    t5 = intervals_fours_add_cell(two, units.at[k + 2]);
+    return intervals_fours_add_cell(t5, units.at[k + 3]);
+}
+
 /*
  * intervals::edges::all_cells, crates/intervals/src/edges.rt
  * Whether all are, with no jump for any, so that it is told in vector instructions.
@@ -2022,6 +2088,12 @@ static bool intervals_fours_all_fit(struct slice_u32 words) {
         k++;
     }
     return all;
+}
+
+/* intervals::units::choose, crates/intervals/src/units.rt */
+static uint16_t intervals_units_choose(uint16_t mask, uint16_t short_, uint16_t long_) {
+    uint16_t gap = std_num_wrapping_sub_u16(short_, long_);
+    return std_num_wrapping_add_u16(long_, gap & mask);
 }
 
 /*
@@ -2064,19 +2136,6 @@ static struct refusal_Verdict intervals_edges_check_edges(struct timing_Profile 
 }
 
 /*
- * intervals::fours::four_cells, crates/intervals/src/fours.rt
- * The half cells of the four cells from a place on, in a register of their own: so the reading's own register waits
- * for one shift, not for four.
- */
-static struct symbols_Reading intervals_fours_four_cells(struct slice_u8 units, uint64_t k) {
-    struct symbols_Reading t5 = symbols_Reading_empty();
-    struct symbols_Reading t4 = symbols_Reading_shift(t5, units.at[k]);
-    struct symbols_Reading two = symbols_Reading_shift(t4, units.at[k + 1]);
-    t4 = symbols_Reading_shift(two, units.at[k + 2]);
-    return symbols_Reading_shift(t4, units.at[k + 3]);
-}
-
-/*
  * intervals::block::Progress::goes_on, crates/intervals/src/block.rt
  * Whether bytes are wanted, and intervals are left to read them from.
  */
@@ -2092,10 +2151,34 @@ static uint16_t intervals_units_greater(uint16_t a, uint16_t b) {
 
 /*
  * intervals::units::is_clear, crates/intervals/src/units.rt
- * Whether an interval does not lie between two bounds, told as above.
+ * Whether an interval does not lie between two bounds. One compare for it: between them it is less past the lower than
+ * the upper is; below both the difference wraps, and is no less.
  */
 static bool intervals_units_is_clear(uint16_t low, uint16_t high, uint16_t interval) {
     return high - low <= std_num_wrapping_sub_u16(interval, low);
+}
+
+/*
+ * intervals::units::is_two, crates/intervals/src/units.rt
+ * Whether an interval is of class 2, where that is told by itself.
+ */
+static bool intervals_units_is_two(struct timing_cursor_Cursor c, uint16_t interval) {
+    return (c.min.f0 <= interval) & (interval < c.short_.b23.f0);
+}
+
+/* intervals::fours::is_whole, crates/intervals/src/fours.rt */
+static bool intervals_fours_is_whole(struct intervals_fours_Top t) {
+    return t.free < 48;
+}
+
+/*
+ * intervals::fours::ease, crates/intervals/src/fours.rt
+ * On to the next byte where one is whole, without a jump.
+ */
+static struct intervals_fours_Top intervals_fours_ease(struct intervals_fours_Top t) {
+    uint32_t more = 16 * (uint32_t)intervals_fours_is_whole(t);
+    return (struct intervals_fours_Top){.cells = (uint64_t)(t.cells << (uint64_t)more),
+            .free = std_num_wrapping_add_u32(t.free, more)};
 }
 
 /* intervals::units::last_of, crates/intervals/src/units.rt */
@@ -2136,41 +2219,45 @@ static bool intervals_units_all_sure(struct timing_Bounds short_, struct timing_
     return all;
 }
 
-/* intervals::units::lower, crates/intervals/src/units.rt: The lesser of both kinds of each bound. */
-static struct timing_Bounds intervals_units_lower(struct timing_Bounds short_, struct timing_Bounds long_) {
-    struct timing_HalfClocks t4 = {.f0 = intervals_units_lesser(short_.b23.f0, long_.b23.f0)};
-    return (struct timing_Bounds){.b23 = t4, .b34 = {.f0 = intervals_units_lesser(short_.b34.f0, long_.b34.f0)}};
+/*
+ * intervals::units::mask_of, crates/intervals/src/units.rt
+ * All ones or none, by which to choose without a jump.
+ */
+static uint16_t intervals_units_mask_of(bool two) {
+    if (two) return 65535;
+    return 0;
 }
 
 /*
- * intervals::units::same_side, crates/intervals/src/units.rt
- * Whether two kinds of bounds, the lower and the upper of each, stand on the same side of an interval. One compare for
- * each: between them an interval is less past the lower than the upper is; below both the difference wraps, and is no
- * less.
+ * intervals::units::mark_kinds, crates/intervals/src/units.rt
+ * The kind of each at the place behind it; the first is as behind another than class 2.
  */
-static bool intervals_units_same_side(struct timing_Bounds low, struct timing_Bounds high, uint16_t interval) {
-    bool t6 = high.b23.f0 - low.b23.f0 <= std_num_wrapping_sub_u16(interval, low.b23.f0);
-    return t6 & (high.b34.f0 - low.b34.f0 <= std_num_wrapping_sub_u16(interval, low.b34.f0));
-}
-
-/*
- * intervals::fours::shift_fours, crates/intervals/src/fours.rt
- * As many fours as there is room for words. Each four's half cells are stored, and the next four's in the same place
- * where they made no byte whole.
- */
-static struct intervals_fours_Fours intervals_fours_shift_fours(struct symbols_Reading start, struct slice_u8 units,
-        struct slice_u32_mut words) {
-    struct symbols_Reading m = start;
-    uint64_t count = 0;
-    uint64_t i = 0;
-    while (i < words.len) {
-        struct symbols_Reading next = symbols_Reading_join(m, intervals_fours_four_cells(units, 4 * i));
-        words.at[count] = symbols_Reading_half_cells(next);
-        count += (uint64_t)symbols_Reading_is_whole(next);
-        m = symbols_Reading_ease(next);
-        i++;
+static void intervals_units_mark_kinds(struct timing_cursor_Cursor c, struct slice_u16 intervals,
+        struct slice_u16_mut kinds) {
+    kinds.at[0] = 0;
+    uint64_t k = 0;
+    while (k < intervals.len) {
+        kinds.at[k + 1] = intervals_units_mask_of(intervals_units_is_two(c, intervals.at[k]));
+        k++;
     }
-    return (struct intervals_fours_Fours){.reading = m, .count = count};
+}
+
+/* intervals::fours::shift_four, crates/intervals/src/fours.rt */
+static struct symbols_Reading intervals_fours_shift_four(struct symbols_Reading m, struct slice_u8 units, uint64_t k) {
+    struct symbols_Reading t5 = symbols_Reading_shift(m, units.at[k]);
+    struct symbols_Reading two = symbols_Reading_shift(t5, units.at[k + 1]);
+    t5 = symbols_Reading_shift(two, units.at[k + 2]);
+    return symbols_Reading_shift(t5, units.at[k + 3]);
+}
+
+/*
+ * intervals::fours::last_bits, crates/intervals/src/fours.rt
+ * The register after sixteen cells, which have all its half cells.
+ */
+static uint32_t intervals_fours_last_bits(struct slice_u8 units, uint64_t k) {
+    struct symbols_Reading t4 = intervals_fours_shift_four(symbols_Reading_empty(), units, k);
+    struct symbols_Reading half = intervals_fours_shift_four(t4, units, k + 4);
+    return intervals_fours_shift_four(intervals_fours_shift_four(half, units, k + 8), units, k + 12).bits;
 }
 
 /*
@@ -2219,6 +2306,45 @@ static void intervals_fours_store(struct slice_u32 words, uint64_t at, struct sl
     }
 }
 
+/* intervals::fours::top_of, crates/intervals/src/fours.rt */
+static struct intervals_fours_Top intervals_fours_top_of(struct symbols_Reading m) {
+    uint32_t free = 64 - m.held;
+    return (struct intervals_fours_Top){.cells = (uint64_t)((uint64_t)((uint64_t)m.bits << (uint64_t)(free - 1)) << 1),
+            .free = free};
+}
+
+/*
+ * intervals::fours::top_word, crates/intervals/src/fours.rt
+ * The half cells of the byte that is whole, with the data bit before it; where none is whole, other half cells.
+ */
+static uint32_t intervals_fours_top_word(struct intervals_fours_Top t) {
+    return (uint32_t)(t.cells >> 47);
+}
+
+/*
+ * intervals::fours::shift_fours, crates/intervals/src/fours.rt
+ * As many fours as there is room for words, and four at least. Each four's half cells are stored, and the next four's
+ * in the same place where they made no byte whole.
+ */
+static struct intervals_fours_Fours intervals_fours_shift_fours(struct symbols_Reading start, struct slice_u8 units,
+        struct slice_u32_mut words) {
+    struct intervals_fours_Top t = intervals_fours_top_of(start);
+    uint64_t count = 0;
+    uint64_t i = 0;
+    while (i < words.len) {
+        struct intervals_fours_Top next = intervals_fours_add_four(t, units, 4 * i);
+        words.at[count] = intervals_fours_top_word(next);
+        count += (uint64_t)intervals_fours_is_whole(next);
+        t = intervals_fours_ease(next);
+        i++;
+    }
+    struct symbols_Reading reading = start;
+    reading.bits = intervals_fours_last_bits(units, units.len - 16);
+    reading.held = 64 - t.free;
+    reading.words = std_num_wrapping_add_u32(start.words, (uint32_t)(count % 4294967296ull));
+    return (struct intervals_fours_Fours){.reading = reading, .count = count};
+}
+
 /*
  * intervals::shift::shift_block, crates/intervals/src/shift.rt
  * Cells that leave bytes to read: by fours, for whose words there is room, and cell by cell what is over and, for its
@@ -2238,12 +2364,16 @@ static struct intervals_Pass intervals_shift_shift_block(struct symbols_Reading 
     return intervals_shift_shift_in(m, units, from, most, to, out);
 }
 
-/* intervals::shift::shift_units, crates/intervals/src/shift.rt: The end of a field cell by cell. */
+/*
+ * intervals::shift::shift_units, crates/intervals/src/shift.rt
+ * A few cells, and the end of a field, cell by cell.
+ */
 static struct intervals_Pass intervals_shift_shift_units(struct symbols_Reading m, struct slice_u8 units, uint64_t from,
         uint32_t most, uint64_t to, struct slice_u16_mut out) {
     uint64_t n = units.len / 4;
+    if (n < 4) return intervals_shift_shift_in(m, units, from, most, to, out);
     if (n < (uint64_t)(most - m.words)) {
-        struct array_u32_16 words = {0};
+        struct array_u32_64 words = {0};
         return intervals_shift_shift_block(m, units, slice_u32_mut(words.a, n), from, most, to, out);
     }
     return intervals_shift_shift_in(m, units, from, most, to, out);
@@ -2252,6 +2382,22 @@ static struct intervals_Pass intervals_shift_shift_units(struct symbols_Reading 
 /* intervals::units::units_by, crates/intervals/src/units.rt: By given bounds. */
 static uint8_t intervals_units_units_by(struct timing_Bounds bounds, uint16_t interval) {
     return 2 + (uint8_t)(bounds.b23.f0 <= interval) + (uint8_t)(bounds.b34.f0 <= interval);
+}
+
+/*
+ * intervals::units::fill_behind, crates/intervals/src/units.rt
+ * Each by the kind of the one before it, the first as behind another than class 2. All stand on the same side of both
+ * B23, so that B34 alone is chosen.
+ */
+static void intervals_units_fill_behind(struct timing_cursor_Cursor c, struct slice_u16 intervals,
+        struct slice_u16 kinds, struct slice_u8_mut units) {
+    uint64_t k = 0;
+    while (k < intervals.len) {
+        uint16_t b34 = intervals_units_choose(kinds.at[k], c.short_.b34.f0, c.long_.b34.f0);
+        struct timing_Bounds bounds = {.b23 = {.f0 = c.short_.b23.f0}, .b34 = {.f0 = b34}};
+        units.at[k] = intervals_units_units_by(bounds, intervals.at[k]);
+        k++;
+    }
 }
 
 /* intervals::units::fill_units, crates/intervals/src/units.rt: At once, all by the same bounds. */
@@ -2278,43 +2424,36 @@ static struct timing_cursor_Cursor intervals_units_units_in_turn(struct timing_c
     return cursor;
 }
 
-/* intervals::units::upper, crates/intervals/src/units.rt: The greater. */
-static struct timing_Bounds intervals_units_upper(struct timing_Bounds short_, struct timing_Bounds long_) {
-    struct timing_HalfClocks t4 = {.f0 = intervals_units_greater(short_.b23.f0, long_.b23.f0)};
-    return (struct timing_Bounds){.b23 = t4, .b34 = {.f0 = intervals_units_greater(short_.b34.f0, long_.b34.f0)}};
-}
-
 /*
- * intervals::units::all_same, crates/intervals/src/units.rt
- * Of each interval. Where both kinds are the same bounds, nothing has to be looked at.
+ * intervals::units::units_of_sure, crates/intervals/src/units.rt
+ * Where none lies between the two B23. The first two go by where the classing stands.
  */
-static bool intervals_units_all_same(struct timing_Bounds short_, struct timing_Bounds long_,
-        struct slice_u16 intervals) {
-    if ((short_.b23.f0 == long_.b23.f0) & (short_.b34.f0 == long_.b34.f0)) return true;
-    struct timing_Bounds low = intervals_units_lower(short_, long_);
-    struct timing_Bounds high = intervals_units_upper(short_, long_);
-    bool all = true;
-    uint64_t k = 0;
-    while (k < intervals.len) {
-        all = all & intervals_units_same_side(low, high, intervals.at[k]);
-        k++;
-    }
-    return all;
+static struct timing_cursor_Cursor intervals_units_units_of_sure(struct timing_cursor_Cursor start,
+        struct slice_u16 intervals, struct slice_u16_mut kinds, struct slice_u8_mut units) {
+    intervals_units_mark_kinds(start, intervals, kinds);
+    intervals_units_fill_behind(start, intervals, slice_u16(kinds.at, kinds.len), units);
+    units.at[0] = timing_cursor_Cursor_units(start, intervals.at[0]);
+    struct timing_cursor_Cursor next = timing_cursor_Cursor_past(start, intervals.at[0]);
+    units.at[1] = timing_cursor_Cursor_units(next, intervals.at[1]);
+    struct timing_cursor_Cursor t20 = timing_cursor_Cursor_behind(start, true);
+    return timing_cursor_Cursor_past(t20, intervals_units_last_of(intervals));
 }
 
 /*
  * intervals::units::units_of, crates/intervals/src/units.rt
- * The units of intervals, each as a cell. The first is classed where the classing stands, the others after either
- * kind.
+ * The units of intervals, each as a cell, from where the classing stands on.
  */
 static struct timing_cursor_Cursor intervals_units_units_of(struct timing_cursor_Cursor start,
         struct slice_u16 intervals, struct slice_u8_mut units) {
+    if (timing_cursor_Cursor_is_steady(start)) {
+        intervals_units_fill_units(start.bounds, intervals, units);
+        return start;
+    }
     if (intervals.len < 2) return intervals_units_units_in_turn(start, intervals, units);
-    if (intervals_units_all_same(start.short_, start.long_, intervals)) {
-        intervals_units_fill_units(start.short_, intervals, units);
-        units.at[0] = timing_cursor_Cursor_units(start, intervals.at[0]);
-        struct timing_cursor_Cursor t16 = timing_cursor_Cursor_behind(start, true);
-        return timing_cursor_Cursor_past(t16, intervals_units_last_of(intervals));
+    if (intervals_units_all_sure(start.short_, start.long_, intervals)) {
+        uint64_t n = intervals.len + 1;
+        struct array_u16_257 kinds = {0};
+        return intervals_units_units_of_sure(start, intervals, slice_u16_mut(kinds.a, n), units);
     }
     return intervals_units_units_in_turn(start, intervals, units);
 }
@@ -2337,8 +2476,8 @@ static struct intervals_block_Progress intervals_block_pass_block(struct interva
 static struct intervals_block_Progress intervals_block_Progress_next_block(struct intervals_block_Progress self,
         struct slice_u16 intervals, uint32_t most, uint64_t to, struct slice_u16_mut out) {
     uint64_t from = self.pass.used;
-    uint64_t n = lists_at_most(64, intervals.len - from);
-    struct array_u8_64 units = {0};
+    uint64_t n = lists_at_most(256, intervals.len - from);
+    struct array_u8_256 units = {0};
     struct slice_u16 t14 = slice_u16(intervals.at + from, from + n - from);
     return intervals_block_pass_block(self, t14, slice_u8_mut(units.a, n), most, to, out);
 }
@@ -2478,22 +2617,6 @@ static struct timing_HalfClocks lengths_table_length_between(struct timing_Profi
     struct timing_Clocks end = lengths_table_point(p, zeros == 0, after == 0);
     struct timing_HalfClocks t12 = timing_Clocks_in_half_clocks(start);
     return lengths_table_shifted(nominal, t12, timing_Clocks_in_half_clocks(end));
-}
-
-/*
- * lengths::table::length_table, crates/lengths/src/table.rt
- * The lengths of all cells of 2 to 5 units between two of 2 to 5 units: at 16 × the units of the cell before + 4 ×
- * those of the cell + those of the cell after, modulo 64.
- */
-static struct array_u16_64 lengths_table_length_table(struct timing_Profile p) {
-    struct array_u16_64 table = {0};
-    uint16_t k = 0;
-    while (k < 64) {
-        uint16_t zeros = (k + 22) % 64;
-        table.a[(uint64_t)k] = lengths_table_length_between(p, zeros / 16, (zeros / 4) % 4, zeros % 4).f0;
-        k++;
-    }
-    return table;
 }
 
 /* The crate best */
@@ -2658,6 +2781,24 @@ static uint64_t locks_runs_last_sure(struct timing_cursor_Cursor short_, struct 
     return i;
 }
 
+/*
+ * locks::runs::cursor_at, crates/locks/src/runs.rt
+ * Where the classing stands at a place: it goes from the last sure place on, and so from the start of the list only
+ * where no place before is sure.
+ */
+static struct timing_cursor_Cursor locks_runs_cursor_at(struct timing_Profile p, struct slice_u16 intervals,
+        uint64_t from) {
+    struct timing_cursor_Cursor short_ = timing_cursor_Cursor_after(p, true);
+    struct timing_cursor_Cursor long_ = timing_cursor_Cursor_after(p, false);
+    struct timing_cursor_Cursor cursor = short_;
+    uint64_t i = locks_runs_last_sure(short_, long_, intervals, from);
+    while (i < from) {
+        cursor = timing_cursor_Cursor_past(cursor, intervals.at[i]);
+        i++;
+    }
+    return cursor;
+}
+
 /* locks::finder::later, crates/locks/src/finder.rt: The later of two places. */
 static uint64_t locks_finder_later(uint64_t a, uint64_t b) {
     if (a < b) return b;
@@ -2674,20 +2815,13 @@ static bool locks_finder_mark_ahead(struct timing_cursor_Cursor cursor, struct s
 
 /*
  * locks::runs::next_two, crates/locks/src/runs.rt
- * The first place from `from` on whose interval is of class 2; the length of the list where there is none. The
- * classing goes from the last sure place on, and so from the start of the list only where no place before is sure.
+ * The first place from `from` on whose interval is of class 2; the length of the list where there is none.
  */
 static uint64_t locks_runs_next_two(struct timing_Profile p, struct slice_u16 intervals, uint64_t from) {
-    struct timing_cursor_Cursor short_ = timing_cursor_Cursor_after(p, true);
-    struct timing_cursor_Cursor long_ = timing_cursor_Cursor_after(p, false);
-    struct timing_cursor_Cursor cursor = short_;
-    uint64_t i = locks_runs_last_sure(short_, long_, intervals, from);
-    while (i < from) {
-        cursor = timing_cursor_Cursor_past(cursor, intervals.at[i]);
-        i++;
-    }
+    struct timing_cursor_Cursor cursor = locks_runs_cursor_at(p, intervals, from);
     if (timing_cursor_Cursor_meets_two(cursor, intervals.at[from])) return from;
-    i = from + 1;
+    struct timing_cursor_Cursor long_ = timing_cursor_Cursor_after(p, false);
+    uint64_t i = from + 1;
     while (i < intervals.len) {
         if (timing_cursor_Cursor_meets_two(long_, intervals.at[i])) return i;
         i++;
@@ -3191,6 +3325,28 @@ static bool track_order_goes_before(ism_index_entry a, ism_index_entry b) {
     return a.sector < b.sector;
 }
 
+/* track::opening::greater, crates/track/src/opening.rt */
+static uint16_t track_opening_greater(uint16_t a, uint16_t b) {
+    if (a < b) return b;
+    return a;
+}
+
+/*
+ * track::opening::all_cells, crates/track/src/opening.rt
+ * Whether all are cells: none is further past Min than Rpt is, where one below Min wraps to above all others. With no
+ * jump for any, so that it is told in vector instructions.
+ */
+static bool track_opening_all_cells(struct timing_Profile p, struct slice_u16 intervals) {
+    uint16_t min = p.min.f0;
+    uint16_t most = 0;
+    uint64_t k = 0;
+    while (k < intervals.len) {
+        most = track_opening_greater(most, std_num_wrapping_sub_u16(intervals.at[k], min));
+        k++;
+    }
+    return most < p.rpt.f0 - min;
+}
+
 /* track::opening::opens_with, crates/track/src/opening.rt */
 static bool track_opening_opens_with(struct slice_u16 items, uint16_t kind) {
     return (items.at[0] == 417) & (items.at[1] == 417) & (items.at[2] == 417) & (items.at[3] == kind);
@@ -3228,13 +3384,27 @@ static struct track_opening_Opened track_opening_read_marked(struct timing_Profi
 }
 
 /*
+ * track::opening::read_sound, crates/track/src/opening.rt
+ * A field uses 4 n intervals at least, as a cell gives two bits at most. Where one of so many is no cell it does not
+ * read, which is told in a small part of the time that reading takes.
+ */
+static struct track_opening_Opened track_opening_read_sound(struct timing_Profile p, struct slice_u16 intervals,
+        uint64_t n, uint16_t kind, struct slice_u16_mut items) {
+    uint64_t front = lists_at_most(4 * n, intervals.len);
+    if (track_opening_all_cells(p, slice_u16(intervals.at, front))) {
+        return track_opening_read_marked(p, intervals, n, kind, items);
+    }
+    return (struct track_opening_Opened){.tag = track_opening_Opened_NoField};
+}
+
+/*
  * track::opening::read_opened, crates/track/src/opening.rt
  * Most of what a lock precedes on a worn track is seen to be no field of a sector by its first intervals.
  */
 static struct track_opening_Opened track_opening_read_opened(struct timing_Profile p, struct slice_u16 intervals,
         uint64_t n, uint16_t kind, struct slice_u16_mut items) {
     if (locks_finder_three_marks_ahead(p, intervals)) {
-        return track_opening_read_marked(p, intervals, n, kind, items);
+        return track_opening_read_sound(p, intervals, n, kind, items);
     }
     return (struct track_opening_Opened){.tag = track_opening_Opened_NoField};
 }
@@ -3474,6 +3644,12 @@ static struct array_u16_512 words_table_code_words(void) {
             21842, 21841, 21844, 21845}};
 }
 
+/* words::either, crates/words/src/lib.rt */
+static uint16_t words_either(bool test, uint16_t yes, uint16_t no) {
+    if (test) return yes;
+    return no;
+}
+
 /*
  * words::spread_word, crates/words/src/lib.rt
  * The bits of a data byte at every second place, and a clock bit between each two that are 0.
@@ -3488,12 +3664,13 @@ static uint16_t words_spread_word(uint16_t previous, uint16_t byte) {
 
 /*
  * words::made_word, crates/words/src/lib.rt
- * The same without the table, which is slow to copy where few words are asked for and large where all are.
+ * The same without the table, which is slow to copy where few words are asked for and large where all are. A mark's
+ * word is chosen after the other is made: with no jump, so that the words of many bytes are made in vector
+ * instructions.
  */
 static uint16_t words_made_word(uint16_t previous, uint16_t w) {
-    if (w == 417) return 17545;
-    if (w == 450) return 21028;
-    return words_spread_word(previous % 2, w % 256);
+    uint16_t word = words_spread_word(previous % 2, w % 256);
+    return words_either(w == 417, 17545, words_either(w == 450, 21028, word));
 }
 
 /*
@@ -3595,17 +3772,57 @@ static uint64_t images_read_find_unruly(struct slice_u16 words) {
     return k;
 }
 
+/*
+ * images::read::is_ruly, crates/images/src/read.rt
+ * Whether its candidate has a word: a mark's is told first, so that no test of a mark is left for the others.
+ */
+static bool images_read_is_ruly(uint16_t previous, uint16_t word) {
+    if (word == 17545) return true;
+    if (word == 21028) return true;
+    return words_made_word(previous, half_cells_byte_of(word)) == word;
+}
+
+/*
+ * images::read::all_ruly, crates/images/src/read.rt
+ * Whether no word is unruly; a word's last bit is its byte's. Looks at every word: a loop that could end early would
+ * go word by word.
+ */
+static bool images_read_all_ruly(struct slice_u16 words) {
+    bool all = true;
+    uint16_t previous = 0;
+    uint64_t k = 0;
+    while (k < words.len) {
+        uint16_t word = words.at[k];
+        all = all & images_read_is_ruly(previous, word);
+        previous = word;
+        k++;
+    }
+    return all;
+}
+
 /* images::read::check_words, crates/images/src/read.rt: Whether the words are an image: 4, then 16. */
 static struct refusal_Verdict images_read_check_words(struct slice_u16 words) {
     if (6400 < words.len) {
         return (struct refusal_Verdict){.tag = refusal_Verdict_Refused, .u.Refused = {.tag = refusal_Refusal_TooLong}};
     }
+    if (images_read_all_ruly(words)) return (struct refusal_Verdict){.tag = refusal_Verdict_Accepted};
     uint64_t k = images_read_find_unruly(words);
-    if (k < words.len) {
-        return (struct refusal_Verdict){.tag = refusal_Verdict_Refused,
-                .u.Refused = {.tag = refusal_Refusal_UnrulyWord, .u.UnrulyWord = (uint32_t)k}};
+    return (struct refusal_Verdict){.tag = refusal_Verdict_Refused,
+            .u.Refused = {.tag = refusal_Refusal_UnrulyWord, .u.UnrulyWord = (uint32_t)k}};
+}
+
+/*
+ * images::make::piece_end, crates/images/src/make.rt
+ * Where a piece of the list that is written at once ends: after a check order, or before the next one.
+ */
+static uint64_t images_make_piece_end(struct slice_u16 items, uint64_t from) {
+    uint64_t end = from + 1;
+    if (items_is_check(items.at[from])) return end;
+    while (end < items.len) {
+        if (items_is_check(items.at[end])) return end;
+        end++;
     }
-    return (struct refusal_Verdict){.tag = refusal_Verdict_Accepted};
+    return end;
 }
 
 /*
@@ -3640,8 +3857,53 @@ static struct refusal_Counted images_read_read_image(struct slice_u16 words, str
     return images_read_read_words(words, out);
 }
 
-/* images::make::turn_into_words, crates/images/src/make.rt: Written bytes become their words where they stand. */
-static void images_make_turn_into_words(struct slice_u16_mut bytes) {
+/*
+ * images::make::store_pieces, crates/images/src/make.rt
+ * Piece by piece, so that the bytes between check orders pass the register at once.
+ */
+static void images_make_store_pieces(struct slice_u16 items, struct slice_u16_mut out) {
+    struct items_Check check = items_Check_fresh();
+    uint64_t at = 0;
+    uint64_t from = 0;
+    while (from < items.len) {
+        uint64_t end = images_make_piece_end(items, from);
+        struct slice_u16_mut t18 = slice_u16_mut(out.at + at, out.len - at);
+        struct items_list_Stored stored = items_list_write_bytes(check, slice_u16(items.at + from, end - from), t18);
+        check = stored.check;
+        at += stored.count;
+        from = end;
+    }
+}
+
+/*
+ * images::make::store_written, crates/images/src/make.rt
+ * A list with no check order is its own bytes, and needs no register.
+ */
+static void images_make_store_written(struct slice_u16 items, uint64_t bytes, struct slice_u16_mut out) {
+    if (bytes == items.len) {
+        lists_store(items, 0, out);
+        return;
+    }
+    images_make_store_pieces(items, out);
+}
+
+/*
+ * images::make::turn_few, crates/images/src/make.rt
+ * Written bytes become their words where they stand, by the rule.
+ */
+static void images_make_turn_few(struct slice_u16_mut bytes) {
+    uint16_t previous = 0;
+    uint64_t k = 0;
+    while (k < bytes.len) {
+        uint16_t byte = bytes.at[k];
+        bytes.at[k] = words_made_word(previous, byte);
+        previous = byte;
+        k++;
+    }
+}
+
+/* images::make::turn_many, crates/images/src/make.rt: The same by the table. */
+static void images_make_turn_many(struct slice_u16_mut bytes) {
     struct array_u16_512 table = words_table_code_words();
     uint16_t previous = 0;
     uint64_t k = 0;
@@ -3653,14 +3915,23 @@ static void images_make_turn_into_words(struct slice_u16_mut bytes) {
     }
 }
 
+/* images::make::turn_into_words, crates/images/src/make.rt */
+static void images_make_turn_into_words(struct slice_u16_mut bytes) {
+    if (bytes.len < 12) {
+        images_make_turn_few(bytes);
+        return;
+    }
+    images_make_turn_many(bytes);
+}
+
 /* images::make::make_words, crates/images/src/make.rt: An accepted list: 9, or its image. */
 static struct refusal_Counted images_make_make_words(struct slice_u16 items, struct slice_u16_mut out) {
-    if (out.len < items_list_written_bytes(items)) {
+    uint64_t n = items_list_written_bytes(items);
+    if (out.len < n) {
         return (struct refusal_Counted){.tag = refusal_Counted_Refused,
                 .u.Refused = {.tag = refusal_Refusal_OutputTooShort}};
     }
-    struct items_list_Stored stored = items_list_write_bytes(items_Check_fresh(), items, out);
-    uint64_t n = stored.count;
+    images_make_store_written(items, n, out);
     images_make_turn_into_words(slice_u16_mut(out.at, n));
     return (struct refusal_Counted){.tag = refusal_Counted_Count, .u.Count = n};
 }
@@ -3679,14 +3950,9 @@ static struct refusal_Counted images_make_make_image(struct slice_u16 items, str
 
 /* The crate codec */
 
-/*
- * codec::bytes::closing_word, crates/codec/src/bytes.rt
- * The half cells of the two closing 0s up to the last transition, and a cell of 2 units behind it, since after the
- * last transition the symbol counts as 1.
- */
-static uint16_t codec_bytes_closing_word(uint16_t previous) {
-    if (previous % 2 == 1) return 10240;
-    return 43008;
+/* codec::pen::cells_in, crates/codec/src/pen.rt */
+static uint64_t codec_pen_cells_in(uint64_t window) {
+    return 1 + (13893535373986873551ull >> window) % 2;
 }
 
 /*
@@ -3711,15 +3977,6 @@ static struct refusal_Counted codec_reader_conclude(struct symbols_Reading m, ui
 }
 
 /*
- * codec::bytes::fresh_track, crates/codec/src/bytes.rt
- * After the lead 0, whose half cells are 1 0: the first half cell stands two after the one. A missing cell before
- * counts as one of 2 units.
- */
-static struct codec_bytes_Track codec_bytes_fresh_track(void) {
-    return (struct codec_bytes_Track){.pen = {.since = 2, .window = 10, .cells = 0}, .previous = 0};
-}
-
-/*
  * codec::writer::has_room, crates/codec/src/writer.rt
  * Whether an accepted list's stream has room in an output of so many places. A byte ends eight cells at most and the
  * closing 0s two: only where there is less room they are counted.
@@ -3729,15 +3986,93 @@ static bool codec_writer_has_room(struct slice_u16 items, uint64_t bytes, uint64
     return images_count_count_cells(items, bytes) <= room;
 }
 
-/* codec::pen::highest_one, crates/codec/src/pen.rt */
-static uint32_t codec_pen_highest_one(uint32_t ones) {
-    return 31 - leading_zeros(ones);
+/*
+ * codec::pen::lay, crates/codec/src/pen.rt
+ * Stores two lengths. Where one cell ends, the next window's are stored over the second.
+ */
+static uint64_t codec_pen_lay(const struct array_u16_128 *table, uint64_t window, uint64_t at,
+        struct slice_u16_mut out) {
+    uint16_t first = table->a[2 * window];
+    uint16_t last = table->a[2 * window + 1];
+    out.at[at] = first;
+    out.at[at + 1] = last;
+    return at + codec_pen_cells_in(window);
 }
 
-/* codec::pen::pass_one, crates/codec/src/pen.rt */
-static struct codec_pen_Rest codec_pen_pass_one(struct codec_pen_Rest rest, uint32_t place, uint32_t window) {
-    return (struct codec_pen_Rest){.last = place, .window = window, .cells = rest.cells + 1,
-            .ones = rest.ones - (uint32_t)((uint32_t)1 << place)};
+/*
+ * codec::pen::enter, crates/codec/src/pen.rt
+ * At the front of a list the lead 0 ends no cell, but the bit behind it does.
+ */
+static uint64_t codec_pen_enter(const struct array_u16_128 *table, uint64_t window, uint64_t at,
+        struct slice_u16_mut out) {
+    if (at == 0) {
+        out.at[0] = table->a[2 * window + 1];
+        return 1;
+    }
+    return codec_pen_lay(table, window, at, out);
+}
+
+/* codec::pen::begin, crates/codec/src/pen.rt: The last bit of the byte before, and a byte's first three. */
+static uint64_t codec_pen_begin(const struct array_u16_128 *table, struct codec_pen_Pen start, uint64_t byte,
+        struct slice_u16_mut out) {
+    uint64_t previous = start.previous;
+    uint64_t at = codec_pen_enter(table, (previous % 16) * 4 + byte / 64, start.cells, out);
+    return codec_pen_lay(table, (previous % 4) * 16 + byte / 16, at, out);
+}
+
+/*
+ * codec::pen::draw_closing, crates/codec/src/pen.rt
+ * The two closing 0s behind the last bit. Answers the number of cells.
+ */
+static uint64_t codec_pen_draw_closing(const struct array_u16_128 *table, struct codec_pen_Pen pen,
+        struct slice_u16_mut out) {
+    uint64_t at = codec_pen_enter(table, (pen.previous % 16) * 4, pen.cells, out);
+    out.at[at] = table->a[(pen.previous % 4) * 32];
+    return at + 1;
+}
+
+/*
+ * codec::pen::finish_mark, crates/codec/src/pen.rt
+ * What is left of a mark: behind the missing clock bit the cells are those of other data, and mark A1 leaves the next
+ * byte's as 1001 would.
+ */
+static struct codec_pen_Pen codec_pen_finish_mark(const struct array_u16_128 *table, uint64_t mark, uint64_t at,
+        struct slice_u16_mut out) {
+    if (mark == 417) {
+        uint64_t fifth = codec_pen_lay(table, 41, at, out);
+        return (struct codec_pen_Pen){.previous = 9, .cells = codec_pen_lay(table, 20, fifth, out)};
+    }
+    uint64_t fourth = codec_pen_lay(table, 57, at, out);
+    uint64_t fifth_2 = codec_pen_lay(table, 20, fourth, out);
+    return (struct codec_pen_Pen){.previous = mark, .cells = codec_pen_lay(table, 41, fifth_2, out)};
+}
+
+/* codec::pen::finish, crates/codec/src/pen.rt: What is left of a byte. */
+static struct codec_pen_Pen codec_pen_finish(const struct array_u16_128 *table, uint64_t byte, uint64_t at,
+        struct slice_u16_mut out) {
+    if (255 < byte) return codec_pen_finish_mark(table, byte, at, out);
+    uint64_t third = codec_pen_lay(table, byte / 4, at, out);
+    return (struct codec_pen_Pen){.previous = byte, .cells = codec_pen_lay(table, byte % 64, third, out)};
+}
+
+/* codec::pen::draw_byte, crates/codec/src/pen.rt */
+static struct codec_pen_Pen codec_pen_draw_byte(const struct array_u16_128 *table, struct codec_pen_Pen start,
+        uint16_t byte, struct slice_u16_mut out) {
+    uint64_t w = (uint64_t)byte;
+    uint64_t at = codec_pen_begin(table, start, w % 256, out);
+    return codec_pen_finish(table, w, at, out);
+}
+
+/* codec::pen::draw_bytes, crates/codec/src/pen.rt */
+static struct codec_pen_Pen codec_pen_draw_bytes(const struct array_u16_128 *table, struct codec_pen_Pen start,
+        struct slice_u16 bytes, struct slice_u16_mut out) {
+    struct codec_pen_Pen pen = start;
+    uint64_t k = 0;
+    while (k < bytes.len) {
+        pen = codec_pen_draw_byte(table, pen, bytes.at[k], out);
+        k++;
+    }
+    return pen;
 }
 
 /*
@@ -3794,140 +4129,70 @@ static struct refusal_Counted codec_reader_read(struct timing_Profile p, struct 
 }
 
 /*
- * codec::pen::window_at, crates/codec/src/pen.rt
- * The highest one ends a cell, whose units are the half cells since the one before.
+ * codec::windows::window_table, crates/codec/src/windows.rt
+ * At 2 × the window the first length, and behind it the last. A name tells whether the cell before is short or longer,
+ * the units of the cell, and whether the cell after is short or longer.
  */
-static uint32_t codec_pen_window_at(struct codec_pen_Rest rest, uint32_t place) {
-    return ((rest.window % 16) * 4 + (rest.last - place)) % 64;
+static struct array_u16_128 codec_windows_window_table(struct timing_Profile p) {
+    uint16_t s2s = lengths_table_length_between(p, 0, 0, 0).f0;
+    uint16_t s2l = lengths_table_length_between(p, 0, 0, 1).f0;
+    uint16_t s3s = lengths_table_length_between(p, 0, 1, 0).f0;
+    uint16_t s3l = lengths_table_length_between(p, 0, 1, 1).f0;
+    uint16_t s4s = lengths_table_length_between(p, 0, 2, 0).f0;
+    uint16_t s4l = lengths_table_length_between(p, 0, 2, 1).f0;
+    uint16_t l2s = lengths_table_length_between(p, 1, 0, 0).f0;
+    uint16_t l2l = lengths_table_length_between(p, 1, 0, 1).f0;
+    uint16_t l3s = lengths_table_length_between(p, 1, 1, 0).f0;
+    uint16_t l3l = lengths_table_length_between(p, 1, 1, 1).f0;
+    uint16_t l4s = lengths_table_length_between(p, 1, 2, 0).f0;
+    uint16_t l4l = lengths_table_length_between(p, 1, 2, 1).f0;
+    struct array_u16_128 result = {{s2s, s2s, s2s, s2l, s2l, s3l, s2l, s3s, s3l, s3l, s3l, s3l, s3s, l2l, s3s, l2s, l3s,
+            l3s, l3l, l3l, l4l, l4l, l4s, l4s, l2l, l2l, l2l, l2l, l2s, s2l, l2s, s2s, l3s, l2s, l3s, l2l, l3l, l3l,
+            l3l, l3s, l4l, l4l, l4l, l4l, l4s, l2l, l4s, l2s, s3s, s3s, s3l, s3l, s4l, s4l, s4s, s4s, s2l, s2l, s2l,
+            s2l, s2s, s2l, s2s, s2s, l2s, s2s, l2s, s2l, l2l, s3l, l2l, s3s, l3l, l3l, l3l, l3l, l3s, l2l, l3s, l2s,
+            l3s, l3s, l3l, l3l, l4l, l4l, l4s, l4s, l2l, l2l, l2l, l2l, l2s, s2l, l2s, s2s, s3s, l2s, s3s, l2l, s3l,
+            l3l, s3l, l3s, s4l, s4l, s4l, s4l, s4s, l2l, s4s, l2s, s3s, s3s, s3l, s3l, s4l, s4l, s4s, s4s, s2l, s2l,
+            s2l, s2l, s2s, s2l, s2s, s2s}};
+    return result;
 }
 
-/*
- * codec::pen::begin, crates/codec/src/pen.rt
- * The ones before the first is stored. With a track's first one no length is known: it is passed here, so that the
- * others are stored without a test.
- */
-static struct codec_pen_Rest codec_pen_begin(struct codec_pen_Pen start, uint32_t word, uint32_t width) {
-    struct codec_pen_Rest rest =
-            {.last = start.since + width - 1, .window = start.window, .cells = start.cells, .ones = word};
-    if (0 < start.cells) return rest;
-    if (0 < word) {
-        uint32_t place = codec_pen_highest_one(word);
-        return codec_pen_pass_one(rest, place, codec_pen_window_at(rest, place));
-    }
-    return rest;
-}
-
-/* codec::pen::draw, crates/codec/src/pen.rt: The ones of so many half cells, the highest first. */
-static struct codec_pen_Pen codec_pen_draw(const struct array_u16_64 *table, struct codec_pen_Pen start, uint32_t word,
-        uint32_t width, struct slice_u16_mut out) {
-    struct codec_pen_Rest rest = codec_pen_begin(start, word, width);
-    while (0 < rest.ones) {
-        uint32_t place = codec_pen_highest_one(rest.ones);
-        uint32_t window = codec_pen_window_at(rest, place);
-        out.at[rest.cells - 1] = table->a[(uint64_t)window];
-        rest = codec_pen_pass_one(rest, place, window);
-    }
-    return (struct codec_pen_Pen){.since = rest.last + 1, .window = rest.window, .cells = rest.cells};
-}
-
-/* codec::bytes::write_byte, crates/codec/src/bytes.rt */
-static struct codec_bytes_Track codec_bytes_write_byte(const struct array_u16_64 *table, struct codec_bytes_Track start,
-        uint16_t byte, struct slice_u16_mut out) {
-    uint16_t word = words_made_word(start.previous, byte);
-    struct codec_pen_Pen pen = codec_pen_draw(table, start.pen, (uint32_t)word, 16, out);
-    return (struct codec_bytes_Track){.pen = pen, .previous = byte};
-}
-
-/*
- * codec::bytes::write_closing, crates/codec/src/bytes.rt
- * The end of a track. The cell behind the last transition has no length.
- */
-static uint64_t codec_bytes_write_closing(const struct array_u16_64 *table, struct codec_bytes_Track track,
-        struct slice_u16_mut out) {
-    struct codec_pen_Pen pen =
-            codec_pen_draw(table, track.pen, (uint32_t)codec_bytes_closing_word(track.previous), 16, out);
-    return pen.cells - 1;
-}
-
-/* codec::writer::write_item, crates/codec/src/writer.rt */
-static struct codec_writer_Part codec_writer_write_item(const struct array_u16_64 *table,
-        struct codec_writer_Part start, uint16_t item, struct slice_u16_mut out) {
-    struct items_Check check = items_Check_after_item(start.check, item);
-    if (items_is_check(item)) {
-        struct codec_bytes_Track high = codec_bytes_write_byte(table, start.track, items_Check_high(start.check), out);
-        struct codec_bytes_Track low = codec_bytes_write_byte(table, high, items_Check_low(start.check), out);
-        return (struct codec_writer_Part){.track = low, .check = check};
-    }
-    return (struct codec_writer_Part){.track = codec_bytes_write_byte(table, start.track, item, out), .check = check};
-}
-
-/*
- * codec::writer::write_each, crates/codec/src/writer.rt
- * Item by item, so that a check order finds the register as it is then.
- */
-static struct codec_bytes_Track codec_writer_write_each(const struct array_u16_64 *table, struct slice_u16 items,
-        struct slice_u16_mut out) {
-    struct codec_bytes_Track t6 = codec_bytes_fresh_track();
-    struct codec_writer_Part part = {.track = t6, .check = items_Check_fresh()};
-    uint64_t k = 0;
-    while (k < items.len) {
-        part = codec_writer_write_item(table, part, items.at[k], out);
-        k++;
-    }
-    return part.track;
-}
-
-/*
- * codec::bytes::write_two, crates/codec/src/bytes.rt
- * Two bytes at once: that the pen has drawn all ones is told half as often.
- */
-static struct codec_bytes_Track codec_bytes_write_two(const struct array_u16_64 *table, struct codec_bytes_Track start,
-        uint16_t first, uint16_t second, struct slice_u16_mut out) {
-    uint16_t high = words_made_word(start.previous, first);
-    uint16_t low = words_made_word(first, second);
-    struct codec_pen_Pen pen =
-            codec_pen_draw(table, start.pen, (uint32_t)((uint32_t)high << 16) | (uint32_t)low, 32, out);
-    return (struct codec_bytes_Track){.pen = pen, .previous = second};
-}
-
-/* codec::bytes::write_bytes, crates/codec/src/bytes.rt */
-static struct codec_bytes_Track codec_bytes_write_bytes(const struct array_u16_64 *table,
-        struct codec_bytes_Track start, struct slice_u16 bytes, struct slice_u16_mut out) {
-    uint64_t pairs = bytes.len / 2;
-    struct codec_bytes_Track track = start;
-    uint64_t i = 0;
-    while (i < pairs) {
-        uint64_t k = 2 * i;
-        track = codec_bytes_write_two(table, track, bytes.at[k], bytes.at[k + 1], out);
-        i++;
-    }
-    uint64_t k_2 = 2 * i;
-    if (k_2 < bytes.len) return codec_bytes_write_byte(table, track, bytes.at[k_2], out);
-    return track;
+/* codec::writer::write_run, crates/codec/src/writer.rt: A run of bytes, and the check order behind it. */
+static struct codec_writer_Part codec_writer_write_run(const struct array_u16_128 *table,
+        struct codec_writer_Part start, struct slice_u16 run, struct slice_u16_mut out) {
+    struct items_Check check = items_Check_after_bytes(start.check, run);
+    struct codec_pen_Pen pen = codec_pen_draw_bytes(table, start.pen, run, out);
+    uint16_t t10 = items_Check_high(check);
+    struct array_u16_2 bytes = {{t10, items_Check_low(check)}};
+    struct codec_pen_Pen t12 = codec_pen_draw_bytes(table, pen, slice_u16(bytes.a, 2), out);
+    return (struct codec_writer_Part){.pen = t12, .check = items_Check_after_check(check)};
 }
 
 /*
  * codec::writer::write_items, crates/codec/src/writer.rt
- * The cells of a list's written bytes, from the front of the output on. A list with no check order is its own bytes,
- * and needs no register.
+ * Run by run, so that a check order finds the register as it is then. Behind the last no register is asked for.
  */
-static struct codec_bytes_Track codec_writer_write_items(const struct array_u16_64 *table, struct slice_u16 items,
-        uint64_t bytes, struct slice_u16_mut out) {
-    if (bytes == items.len) {
-        return codec_bytes_write_bytes(table, codec_bytes_fresh_track(), items, out);
+static struct codec_pen_Pen codec_writer_write_items(const struct array_u16_128 *table, struct slice_u16 items,
+        struct slice_u16_mut out) {
+    struct codec_writer_Part part = {.pen = {.previous = 0, .cells = 0}, .check = items_Check_fresh()};
+    uint64_t from = 0;
+    uint64_t run = items_list_find_check(items);
+    while (run < items.len - from) {
+        uint64_t end = from + run;
+        part = codec_writer_write_run(table, part, slice_u16(items.at + from, end - from), out);
+        from = end + 1;
+        run = items_list_find_check(slice_u16(items.at + from, items.len - from));
     }
-    return codec_writer_write_each(table, items, out);
+    return codec_pen_draw_bytes(table, part.pen, slice_u16(items.at + from, items.len - from), out);
 }
 
 /*
  * codec::writer::write_stream, crates/codec/src/writer.rt
  * The stream of a list, where it has room. Answers its length.
  */
-static uint64_t codec_writer_write_stream(struct timing_Profile p, struct slice_u16 items, uint64_t bytes,
-        struct slice_u16_mut out) {
-    struct array_u16_64 table = lengths_table_length_table(p);
-    struct codec_bytes_Track track = codec_writer_write_items(&table, items, bytes, out);
-    return codec_bytes_write_closing(&table, track, out);
+static uint64_t codec_writer_write_stream(struct timing_Profile p, struct slice_u16 items, struct slice_u16_mut out) {
+    struct array_u16_128 table = codec_windows_window_table(p);
+    struct codec_pen_Pen pen = codec_writer_write_items(&table, items, out);
+    return codec_pen_draw_closing(&table, pen, out);
 }
 
 /*
@@ -3938,7 +4203,7 @@ static struct refusal_Counted codec_writer_write_list(struct timing_Profile p, s
         struct slice_u16_mut out) {
     uint64_t bytes = items_list_written_bytes(items);
     if (codec_writer_has_room(items, bytes, out.len)) {
-        uint64_t count = codec_writer_write_stream(p, items, bytes, out);
+        uint64_t count = codec_writer_write_stream(p, items, out);
         return (struct refusal_Counted){.tag = refusal_Counted_Count, .u.Count = count};
     }
     return (struct refusal_Counted){.tag = refusal_Counted_Refused,
@@ -3964,11 +4229,39 @@ static struct refusal_Counted codec_writer_write(struct timing_Profile p, struct
 
 /* The crate clearance */
 
-/* clearance::seen::either, crates/clearance/src/seen.rt */
-static struct timing_HalfClocks clearance_seen_either(bool two, struct timing_HalfClocks short_,
+/*
+ * clearance::masks::below, crates/clearance/src/masks.rt
+ * All ones where a number is below another, by what their difference borrows: a compare becomes a jump in a loop whose
+ * next turn waits for it.
+ */
+static uint16_t clearance_masks_below(uint16_t a, uint16_t b) {
+    return (uint16_t)(std_num_wrapping_sub_u32((uint32_t)a, (uint32_t)b) >> 16);
+}
+
+/* clearance::masks::chosen, crates/clearance/src/masks.rt */
+static struct timing_HalfClocks clearance_masks_chosen(uint16_t mask, struct timing_HalfClocks short_,
         struct timing_HalfClocks long_) {
-    if (two) return short_;
-    return long_;
+    uint16_t change = std_num_wrapping_sub_u16(short_.f0, long_.f0);
+    return (struct timing_HalfClocks){.f0 = std_num_wrapping_add_u16(long_.f0, change & mask)};
+}
+
+/*
+ * clearance::masks::bounds_by, crates/clearance/src/masks.rt
+ * The bounds behind an interval of this mask, each chosen by itself.
+ */
+static struct timing_Bounds clearance_masks_bounds_by(uint16_t mask, struct timing_Bounds short_,
+        struct timing_Bounds long_) {
+    struct timing_HalfClocks t4 = clearance_masks_chosen(mask, short_.b23, long_.b23);
+    return (struct timing_Bounds){.b23 = t4, .b34 = clearance_masks_chosen(mask, short_.b34, long_.b34)};
+}
+
+/* clearance::masks::behind_mask, crates/clearance/src/masks.rt */
+static struct timing_cursor_Cursor clearance_masks_behind_mask(struct timing_cursor_Cursor cursor, uint16_t mask) {
+    struct timing_Bounds short_ = cursor.short_;
+    struct timing_Bounds long_ = cursor.long_;
+    struct timing_cursor_Cursor next = cursor;
+    next.bounds = clearance_masks_bounds_by(mask, short_, long_);
+    return next;
 }
 
 /* clearance::extremes::lesser, crates/clearance/src/extremes.rt */
@@ -3983,6 +4276,55 @@ static uint16_t clearance_extremes_lesser(uint16_t a, uint16_t b) {
  */
 static uint16_t clearance_extremes_above(uint16_t a, uint16_t b) {
     return a - clearance_extremes_lesser(a, b);
+}
+
+/* clearance::masks::mask_in, crates/clearance/src/masks.rt: Of an interval where the classing stands. */
+static uint16_t clearance_masks_mask_in(struct timing_cursor_Cursor cursor, uint16_t interval) {
+    uint16_t past = std_num_wrapping_sub_u16(interval, cursor.min.f0);
+    return clearance_masks_below(past, cursor.bounds.b23.f0 - cursor.min.f0);
+}
+
+/* clearance::masks::fill_in_turn, crates/clearance/src/masks.rt: One after the other. */
+static void clearance_masks_fill_in_turn(struct timing_cursor_Cursor start, struct slice_u16 intervals,
+        struct slice_u16_mut masks) {
+    struct timing_cursor_Cursor cursor = start;
+    uint64_t k = 0;
+    while (k < intervals.len) {
+        uint16_t mask = clearance_masks_mask_in(cursor, intervals.at[k]);
+        masks.at[k] = mask;
+        cursor = clearance_masks_behind_mask(cursor, mask);
+        k++;
+    }
+}
+
+/* clearance::masks::mask_of, crates/clearance/src/masks.rt */
+static uint16_t clearance_masks_mask_of(bool two) {
+    return std_num_wrapping_sub_u16(0, (uint16_t)two);
+}
+
+/* clearance::masks::fill_alike, crates/clearance/src/masks.rt: All where the classing stands the same. */
+static void clearance_masks_fill_alike(struct timing_cursor_Cursor cursor, struct slice_u16 intervals,
+        struct slice_u16_mut masks) {
+    uint64_t k = 0;
+    while (k < intervals.len) {
+        masks.at[k] = clearance_masks_mask_of(timing_cursor_Cursor_meets_two(cursor, intervals.at[k]));
+        k++;
+    }
+}
+
+/*
+ * clearance::masks::fill, crates/clearance/src/masks.rt
+ * Of a block that has some. Where no interval lies between the two B23, what stands before one does not matter, but
+ * for the first, which goes by the cursor.
+ */
+static void clearance_masks_fill(struct timing_cursor_Cursor cursor, struct slice_u16 intervals,
+        struct slice_u16_mut masks) {
+    if (intervals_units_all_sure(cursor.short_, cursor.long_, intervals)) {
+        clearance_masks_fill_alike(timing_cursor_Cursor_behind(cursor, true), intervals, masks);
+        masks.at[0] = clearance_masks_mask_in(cursor, intervals.at[0]);
+        return;
+    }
+    clearance_masks_fill_in_turn(cursor, intervals, masks);
 }
 
 /* clearance::extremes::Extremes::none, crates/clearance/src/extremes.rt: Before any interval. */
@@ -4069,21 +4411,16 @@ static struct clearance_extremes_Extremes clearance_seen_extremes_alike(struct c
 }
 
 /*
- * clearance::seen::extremes_behind, crates/clearance/src/seen.rt
- * Each but the first, between the bounds for what the one before it is behind class 2. The two bounds are chosen one
- * by one, so that it is done in vector instructions.
+ * clearance::seen::extremes_by, crates/clearance/src/seen.rt
+ * Each between the bounds for the mask of the one before it.
  */
-static struct clearance_extremes_Extremes clearance_seen_extremes_behind(struct clearance_extremes_Extremes start,
-        struct timing_cursor_Cursor cursor, struct slice_u16 intervals) {
-    struct timing_Bounds short_ = cursor.short_;
-    struct timing_Bounds long_ = cursor.long_;
+static struct clearance_extremes_Extremes clearance_seen_extremes_by(struct clearance_extremes_Extremes start,
+        struct timing_Bounds short_, struct timing_Bounds long_, struct slice_u16 intervals, struct slice_u16 masks) {
     struct clearance_extremes_Extremes extremes = start;
-    uint64_t k = 1;
+    uint64_t k = 0;
     while (k < intervals.len) {
-        bool two = timing_cursor_Cursor_meets_two(cursor, intervals.at[k - 1]);
-        struct timing_HalfClocks t15 = clearance_seen_either(two, short_.b23, long_.b23);
-        struct timing_Bounds bounds = {.b23 = t15, .b34 = clearance_seen_either(two, short_.b34, long_.b34)};
-        extremes = clearance_extremes_Extremes_with(extremes, bounds, intervals.at[k]);
+        struct timing_Bounds chosen = clearance_masks_bounds_by(masks.at[k], short_, long_);
+        extremes = clearance_extremes_Extremes_with(extremes, chosen, intervals.at[k]);
         k++;
     }
     return extremes;
@@ -4098,45 +4435,38 @@ static struct clearance_seen_Seen clearance_seen_Seen_past(struct clearance_seen
     return (struct clearance_seen_Seen){.extremes = t6, .cursor = timing_cursor_Cursor_past(cursor, interval)};
 }
 
-/* clearance::seen::Seen::in_turn, crates/clearance/src/seen.rt: One after the other. */
-static struct clearance_seen_Seen clearance_seen_Seen_in_turn(struct clearance_seen_Seen self,
-        struct slice_u16 intervals) {
-    struct clearance_seen_Seen seen = self;
-    uint64_t k = 0;
-    while (k < intervals.len) {
-        seen = clearance_seen_Seen_past(seen, intervals.at[k]);
-        k++;
-    }
-    return seen;
+/*
+ * clearance::seen::Seen::by_masks, crates/clearance/src/seen.rt
+ * With a block that has some, by its masks: the first interval goes by the cursor, each other by the one before it.
+ */
+static struct clearance_seen_Seen clearance_seen_Seen_by_masks(struct clearance_seen_Seen self,
+        struct slice_u16 intervals, struct slice_u16 masks) {
+    struct timing_cursor_Cursor cursor = self.cursor;
+    struct clearance_seen_Seen first = clearance_seen_Seen_past(self, intervals.at[0]);
+    struct clearance_extremes_Extremes extremes = first.extremes;
+    uint16_t last = masks.at[masks.len - 1];
+    struct slice_u16 t17 = slice_u16(intervals.at + 1, intervals.len - 1);
+    struct clearance_extremes_Extremes t14 =
+            clearance_seen_extremes_by(extremes, cursor.short_, cursor.long_, t17, masks);
+    return (struct clearance_seen_Seen){.extremes = t14, .cursor = timing_cursor_Cursor_behind(cursor, last == 65535)};
 }
 
 /*
- * clearance::seen::Seen::sure, crates/clearance/src/seen.rt
- * Where no interval lies between the two B23, the one before an interval tells its bounds, whatever stands before
- * that; but for the first two, which go by the cursor.
+ * clearance::seen::Seen::masked, crates/clearance/src/seen.rt
+ * The masks first, and then the extremes, in vector instructions.
  */
-static struct clearance_seen_Seen clearance_seen_Seen_sure(struct clearance_seen_Seen self,
-        struct slice_u16 intervals) {
-    struct clearance_seen_Seen t7 = clearance_seen_Seen_past(self, intervals.at[0]);
-    struct clearance_seen_Seen two = clearance_seen_Seen_past(t7, intervals.at[1]);
-    struct clearance_extremes_Extremes extremes = two.extremes;
-    struct timing_cursor_Cursor behind = timing_cursor_Cursor_behind(self.cursor, true);
-    uint16_t last = intervals.at[intervals.len - 1];
-    struct clearance_extremes_Extremes t16 =
-            clearance_seen_extremes_behind(extremes, behind, slice_u16(intervals.at + 1, intervals.len - 1));
-    return (struct clearance_seen_Seen){.extremes = t16, .cursor = timing_cursor_Cursor_past(behind, last)};
+static struct clearance_seen_Seen clearance_seen_Seen_masked(struct clearance_seen_Seen self,
+        struct slice_u16 intervals, struct slice_u16_mut masks) {
+    clearance_masks_fill(self.cursor, intervals, masks);
+    return clearance_seen_Seen_by_masks(self, intervals, slice_u16(masks.at, masks.len));
 }
 
-/* clearance::seen::Seen::block, crates/clearance/src/seen.rt: Nearly always a block is sure. */
+/* clearance::seen::Seen::block, crates/clearance/src/seen.rt */
 static struct clearance_seen_Seen clearance_seen_Seen_block(struct clearance_seen_Seen self,
         struct slice_u16 intervals) {
-    if (intervals.len < 2) return clearance_seen_Seen_in_turn(self, intervals);
-    struct timing_Bounds short_ = self.cursor.short_;
-    struct timing_Bounds long_ = self.cursor.long_;
-    if (intervals_units_all_sure(short_, long_, intervals)) {
-        return clearance_seen_Seen_sure(self, intervals);
-    }
-    return clearance_seen_Seen_in_turn(self, intervals);
+    uint64_t n = intervals.len;
+    struct array_u16_129 masks = {0};
+    return clearance_seen_Seen_masked(self, intervals, slice_u16_mut(masks.a, n));
 }
 
 /* clearance::seen::Seen::all, crates/clearance/src/seen.rt: Block by block. */
@@ -4144,7 +4474,7 @@ static struct clearance_seen_Seen clearance_seen_Seen_all(struct clearance_seen_
     struct clearance_seen_Seen seen = self;
     uint64_t from = 0;
     while (from < intervals.len) {
-        uint64_t n = lists_at_most(258, intervals.len - from);
+        uint64_t n = lists_at_most(129, intervals.len - from);
         seen = clearance_seen_Seen_block(seen, slice_u16(intervals.at + from, from + n - from));
         from += n;
     }

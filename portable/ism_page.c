@@ -86,6 +86,12 @@ struct refusal_Counted {
     } u;
 };
 
+/* merge::span::Span, crates/merge/src/span.rt */
+struct merge_span_Span {
+    uint64_t low;
+    uint64_t high;
+};
+
 struct array_u16_256 {
     uint16_t a[256];
 };
@@ -128,6 +134,12 @@ static uint32_t count_ones(uint32_t bits) {
 }
 
 /* The crate lists */
+
+/* lists::at_most, crates/lists/src/lib.rt: As many as there are, or so many. */
+static uint64_t lists_at_most(uint64_t most, uint64_t count) {
+    if (count < most) return count;
+    return most;
+}
 
 /* lists::copy, crates/lists/src/lib.rt: Bytes from a place on, where all have room. */
 static void lists_copy(struct slice_u8 bytes, uint64_t at, struct slice_u8_mut out) {
@@ -227,41 +239,53 @@ static uint64_t sectors_sector_size(uint8_t code) {
 
 /* The crate merge */
 
+/* merge::span::at_least, crates/merge/src/span.rt */
+static uint64_t merge_span_at_least(uint64_t least, uint64_t number) {
+    if (least < number) return number;
+    return least;
+}
+
 /* merge::index::entry, crates/merge/src/index.rt */
 static uint16_t merge_index_entry(uint16_t old, uint16_t place) {
     if (old == 0) return place;
     return 65535;
 }
 
+/* merge::span::join, crates/merge/src/span.rt: The span of the numbers of either. */
+static struct merge_span_Span merge_span_join(struct merge_span_Span a, struct merge_span_Span b) {
+    uint64_t t3 = lists_at_most(a.low, b.low);
+    return (struct merge_span_Span){.low = t3, .high = merge_span_at_least(a.high, b.high)};
+}
+
 /*
  * merge::index::index_set, crates/merge/src/index.rt
- * Whether a number is there twice. 32 sectors have at most 32,864 bytes, so a place fits 16 bits and is not 65,535.
+ * Answers the span of the numbers. 32 sectors have at most 32,864 bytes, so a place fits 16 bits and is not 65,535.
  */
-static bool merge_index_index_set(struct slice_u8 set, struct array_u16_256 *index) {
-    bool twice = false;
+static struct merge_span_Span merge_index_index_set(struct slice_u8 set, struct array_u16_256 *index) {
+    struct merge_span_Span span = {.low = 256, .high = 0};
     uint64_t start = 0;
     while (start < set.len) {
         uint64_t code = start + 1;
         uint64_t number = (uint64_t)set.at[start];
-        uint16_t old = index->a[number];
-        twice = twice | (old != 0);
-        index->a[number] = merge_index_entry(old, (uint16_t)code);
+        index->a[number] = merge_index_entry(index->a[number], (uint16_t)code);
+        struct merge_span_Span here = {.low = number, .high = number + 1};
+        span = merge_span_join(span, here);
         start = code + 2 + sectors_sector_size(set.at[code]);
     }
-    return twice;
+    return span;
 }
 
 /*
  * merge::alone::lowest_twice, crates/merge/src/alone.rt
  * The lowest number that an index shows twice; 256 where there is none.
  */
-static uint64_t merge_alone_lowest_twice(const struct array_u16_256 *index) {
-    uint64_t n = 0;
-    while (n < 256) {
+static uint64_t merge_alone_lowest_twice(const struct array_u16_256 *index, struct merge_span_Span span) {
+    uint64_t n = span.low;
+    while (n < span.high) {
         if (index->a[n] == 65535) return n;
         n++;
     }
-    return n;
+    return 256;
 }
 
 /* merge::index::sector_end, crates/merge/src/index.rt: The place after the sector that begins at a place. */
@@ -307,17 +331,18 @@ static struct refusal_Counted merge_index_count_sectors(struct slice_u8 set) {
  * 13, 15, 17; else how many sectors there are, and their index.
  */
 static struct refusal_Counted merge_alone_index_alone(struct slice_u8 set, struct array_u16_256 *index) {
-    struct refusal_Counted t6 = merge_index_count_sectors(set);
-    if (t6.tag == refusal_Counted_Refused) {
-        return (struct refusal_Counted){.tag = refusal_Counted_Refused, .u.Refused = t6.u.Refused};
+    struct refusal_Counted t7 = merge_index_count_sectors(set);
+    if (t7.tag == refusal_Counted_Refused) {
+        return (struct refusal_Counted){.tag = refusal_Counted_Refused, .u.Refused = t7.u.Refused};
     }
-    uint64_t count = t6.u.Count;
+    uint64_t count = t7.u.Count;
     if (32 < count) {
         return (struct refusal_Counted){.tag = refusal_Counted_Refused,
                 .u.Refused = {.tag = refusal_Refusal_TooManySectors}};
     }
-    if (merge_index_index_set(set, index)) {
-        uint64_t lowest = merge_alone_lowest_twice(index);
+    struct merge_span_Span span = merge_index_index_set(set, index);
+    uint64_t lowest = merge_alone_lowest_twice(index, span);
+    if (lowest < 256) {
         return (struct refusal_Counted){.tag = refusal_Counted_Refused,
                 .u.Refused = {.tag = refusal_Refusal_SectorsAtOdds, .u.SectorsAtOdds = (uint32_t)lowest}};
     }
