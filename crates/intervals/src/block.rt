@@ -17,7 +17,7 @@ use timing::Profile;
 
 // As many intervals as are classed at once, so that it is done in vector instructions, and what a block costs besides
 // weighs little.
-const BLOCK: usize = 256;
+const BLOCK: usize = 128;
 
 // How far a pass by blocks came, and where the classing stands.
 pub struct Progress {
@@ -35,7 +35,7 @@ pub fn pass_block(
     out: &mut [u16],
 ) -> Progress
     requires { ⌜ (at .pass .reading .words < most) × (at .pass .reading .held ≤ 16) ⌝ }
-    requires { ⌜ (length (now units) ≡ length (now intervals)) × (length (now units) ≤ 256) ⌝ }
+    requires { ⌜ (length (now units) ≡ length (now intervals)) × (length (now units) ≤ 128) ⌝ }
     requires { ⌜ (at .pass .used + length (now intervals) < 2 ^ 64) × (to + length (now intervals) < 2 ^ 64) ⌝ }
     ensures pass { λ r. ⌜ r .pass ≡ passOn most at (now (intervals .entry)) .end ⌝ }
     ensures cursor { λ r. ⌜ r .cursor ≡ cursorAfter (at .cursor) (now (intervals .entry)) ⌝ }
@@ -74,9 +74,9 @@ impl Progress {
     fn next_block(self, intervals: &[u16], most: u32, to: usize, out: &mut [u16]) -> Self
         requires { ⌜ (self .pass .used ≤ length (now intervals)) × (self .pass .reading .held ≤ 16) ⌝ }
         requires { ⌜ (self .pass .reading .words < most) × (to < 2 ^ 32) ⌝ }
-        ensures next { λ r. ⌜ Reaches 256 most (now (intervals .entry)) self r ⌝ }
+        ensures next { λ r. ⌜ Reaches 128 most (now (intervals .entry)) self r ⌝ }
         ensures output { λ _. ⌜
-            now (out .exit) ≡ storedAt (now (out .entry)) to (wordsOf 256 most (now (intervals .entry)) self) ⌝ }
+            now (out .exit) ≡ storedAt (now (out .entry)) to (wordsOf 128 most (now (intervals .entry)) self) ⌝ }
     {
         let from = self.pass.used;
         let n = at_most(BLOCK, intervals.len() - from);

@@ -12,8 +12,8 @@ use crate::fours::store;
 use lists::put;
 use symbols::Reading;
 
-// So many fours has a block of 256 cells.
-const FOURS: usize = 64;
+// So many fours has a block of 128 cells.
+const FOURS: usize = 32;
 
 // Cells of so many units, the first at place `from`, until so many bytes are whole or no cell is left. Bytes are
 // counted only where one is closed, which keeps the loop short. Code words are stored from place `to` on, where there
@@ -104,7 +104,7 @@ pub fn shift_units(
     to: usize,
     out: &mut [u16],
 ) -> Pass
-    requires { ⌜ length (now units) ≤ 256 ⌝ }
+    requires { ⌜ length (now units) ≤ 128 ⌝ }
     requires { ⌜ AllCells (now units) × (m .held ≤ 16) × (m .words < most) ⌝ }
     requires { ⌜ (from + length (now units) < 2 ^ 64) × (to + length (now units) < 2 ^ 64) ⌝ }
     ensures end { λ r. ⌜ r ≡ passFrom most from m (now (units .entry)) .end ⌝ }

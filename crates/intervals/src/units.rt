@@ -15,7 +15,7 @@ use timing::Cursor;
 use timing::HalfClocks;
 
 // A kind for each interval of a block, at the place behind it.
-const KINDS: usize = 257;
+const KINDS: usize = 129;
 
 // By given bounds.
 fn units_by(bounds: Bounds, interval: u16) -> u8
@@ -169,7 +169,7 @@ fn units_of_sure(start: Cursor, intervals: &[u16], kinds: &mut [u16], units: &mu
 
 // The units of intervals, each as a cell, from where the classing stands on.
 pub fn units_of(start: Cursor, intervals: &[u16], units: &mut [u8]) -> Cursor
-    requires { ⌜ (length (now units) ≡ length (now intervals)) × (length (now units) ≤ 256) ⌝ }
+    requires { ⌜ (length (now units) ≡ length (now intervals)) × (length (now units) ≤ 128) ⌝ }
     ensures cursor { λ r. ⌜ r ≡ cursorAfter start (now (intervals .entry)) ⌝ }
     ensures units { λ _. ⌜ now (units .exit) ≡ unitsFrom start (now (intervals .entry)) ⌝ }
 {

@@ -8,8 +8,8 @@ use borrow.Author.Needs.{needs}
 use Rattle.intervals.proofs.shift.shift_units.Statement.{statement}
 use Rattle.intervals.proofs.shift.shift_units.Tie as tie
 
-room : (k : ℕ) → k ≤ 256 → length (take {A = ℕ} (k / 4) (replicate 64 0)) ≡ k / 4
-room k h = length-take-le (k / 4) (replicate 64 0) (omega arith)
+room : (k : ℕ) → k ≤ 128 → length (take {A = ℕ} (k / 4) (replicate 32 0)) ≡ k / 4
+room k h = length-take-le (k / 4) (replicate 32 0) (omega arith)
 
 slice-aggregate-shift-block : tie.Need-slice-aggregate-shift-block
 slice-aggregate-shift-block c = sym (room _ (c .before .before .before .before .before .before .pre .0))

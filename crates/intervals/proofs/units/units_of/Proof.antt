@@ -18,8 +18,8 @@ returns c =
     let ds = start .args .intervals .now in
     (steady-cursor _ steady ds, c .before .before .fill-units .ensures ∙ steady-units _ steady ds)
 
-room : (k m : ℕ) → (m ≡ k) × (m ≤ 256) → length (take {A = ℕ} (k + 1) (replicate 257 0)) ≡ k + 1
-room k m h = length-take-le (k + 1) (replicate 257 0) (omega (arith, h .0, h .1))
+room : (k m : ℕ) → (m ≡ k) × (m ≤ 128) → length (take {A = ℕ} (k + 1) (replicate 129 0)) ≡ k + 1
+room k m h = length-take-le (k + 1) (replicate 129 0) (omega (arith, h .0, h .1))
 
 slice-aggregate-units-of-sure : tie.Need-slice-aggregate-units-of-sure
 slice-aggregate-units-of-sure c = sym (room _ _ (c .before .before .before .before .before .before .before .before .pre))

@@ -1,4 +1,4 @@
--- Why `Progress::next_block` reaches the end of its block: it is the next 256 intervals, or all that are left. Rests on
+-- Why `Progress::next_block` reaches the end of its block: it is the next 128 intervals, or all that are left. Rests on
 -- no axiom.
 use Prim.Native.Nat.{ℕ, _+_, _-_, _≤_, min}
 use mathlib.Core.Path.{_≡_, sym, ap, _∙_}
@@ -12,18 +12,18 @@ use Rattle.intervals.proofs.BlockLaws.{take-taken}
 use Rattle.intervals.proofs.block.Progress.next_block.Statement.{statement}
 use Rattle.intervals.proofs.block.Progress.next_block.Tie as tie
 
-module _ (ds : List ℕ) (from n : ℕ) (count : n ≡ min 256 (length ds - from)) where
+module _ (ds : List ℕ) (from n : ℕ) (count : n ≡ min 128 (length ds - from)) where
   abbrev part : List ℕ
   part = take (from + n - from) (drop from ds)
 
-  block-is : part ≡ take 256 (drop from ds)
+  block-is : part ≡ take 128 (drop from ds)
   block-is =
-      let same : from + n - from ≡ length (take 256 (drop from ds)) =
-      omega (arith, length-take 256 (drop from ds), length-drop from ds) in
-      ap (λ (k : ℕ). take k (drop from ds)) same ∙ take-taken 256 (drop from ds)
+      let same : from + n - from ≡ length (take 128 (drop from ds)) =
+      omega (arith, length-take 128 (drop from ds), length-drop from ds) in
+      ap (λ (k : ℕ). take k (drop from ds)) same ∙ take-taken 128 (drop from ds)
 
   block-count : length part ≡ n
-  block-count = ap length block-is ∙ omega (arith, length-take 256 (drop from ds), length-drop from ds)
+  block-count = ap length block-is ∙ omega (arith, length-take 128 (drop from ds), length-drop from ds)
 
 slice-aggregate-pass-block : tie.Need-slice-aggregate-pass-block
 slice-aggregate-pass-block c = sym (length-take-le _ _ (omega (arith, c .before .before .at-most .ensures)))
@@ -34,9 +34,9 @@ pass-block-requires c κs =
     let start = cut .before .before .before in
     let ds = start .args .intervals .now in
     let n = cut .at-most .result in
-    let small : n ≤ 256 = omega (arith, cut .at-most .ensures) in
+    let small : n ≤ 128 = omega (arith, cut .at-most .ensures) in
     let part = block-count ds (start .args .self .pass .used) n (cut .at-most .ensures) in
-    let room : length (take {A = ℕ} n (replicate 256 0)) ≡ n = length-take-le n (replicate 256 0) small in (
+    let room : length (take {A = ℕ} n (replicate 128 0)) ≡ n = length-take-le n (replicate 128 0) small in (
       (start .pre .1 .0, start .pre .0 .1),
       (
         (room ∙ sym part, omega (arith, room)),

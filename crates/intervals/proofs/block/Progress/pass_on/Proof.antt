@@ -103,7 +103,7 @@ loop-less c =
     let turn = told .before .before in
     let (left, wanted) = wants told in
     rw (up-to (turn .before .before) .0) at
-    (comes-nearer _ _ (turn .loop .at) 256 _ (c .before .before .next-block .ensures .0)
+    (comes-nearer _ _ (turn .loop .at) 128 _ (c .before .before .next-block .ensures .0)
     (turn .before .before .before .before .before .before .fits .most .fits) (turn .loop .inv .0) (omega arith) wanted
     left)
 
@@ -114,14 +114,14 @@ loop-again c =
     let small = turn .before .before .before .before .before .before .fits .most .fits in
     let (fair, low, same, end, stored, cursor) = turn .loop .inv in
     let at = turn .loop .at in
-    let goes-on = rest-goes-on _ _ at 256 _ reached small fair in
-    let more = words-more _ _ at 256 _ reached small fair in (
-      fair-after _ _ at 256 _ reached small fair,
+    let goes-on = rest-goes-on _ _ at 128 _ reached small fair in
+    let more = words-more _ _ at 128 _ reached small fair in (
+      fair-after _ _ at 128 _ reached small fair,
       omega (arith, more, low),
       ap length output ∙ stored-length _ _ _ ∙ same,
       rw goes-on at end,
       stored-next _ _ (turn .loop .out) _ _ _ output (omega (arith, more, low)) ∙ rw goes-on at stored,
-      λ h. cursor-goes-on _ _ at 256 _ reached small fair h ∙ cursor (omega (arith, more, h)),
+      λ h. cursor-goes-on _ _ at 128 _ reached small fair h ∙ cursor (omega (arith, more, h)),
     )
 
 returns : tie.Need-returns Inv-loop μ-loop
