@@ -324,16 +324,16 @@ struct slice_u32_mut {
     uint64_t len;
 };
 
-struct array_u32_64 {
-    uint32_t a[64];
+struct array_u32_32 {
+    uint32_t a[32];
 };
 
-struct array_u16_257 {
-    uint16_t a[257];
+struct array_u16_129 {
+    uint16_t a[129];
 };
 
-struct array_u8_256 {
-    uint8_t a[256];
+struct array_u8_128 {
+    uint8_t a[128];
 };
 
 struct array_u16_10 {
@@ -563,10 +563,6 @@ struct clearance_extremes_Extremes {
 struct clearance_seen_Seen {
     struct clearance_extremes_Extremes extremes;
     struct timing_cursor_Cursor cursor;
-};
-
-struct array_u16_129 {
-    uint16_t a[129];
 };
 
 struct array_u16_1 {
@@ -2373,7 +2369,7 @@ static struct intervals_Pass intervals_shift_shift_units(struct symbols_Reading 
     uint64_t n = units.len / 4;
     if (n < 4) return intervals_shift_shift_in(m, units, from, most, to, out);
     if (n < (uint64_t)(most - m.words)) {
-        struct array_u32_64 words = {0};
+        struct array_u32_32 words = {0};
         return intervals_shift_shift_block(m, units, slice_u32_mut(words.a, n), from, most, to, out);
     }
     return intervals_shift_shift_in(m, units, from, most, to, out);
@@ -2452,7 +2448,7 @@ static struct timing_cursor_Cursor intervals_units_units_of(struct timing_cursor
     if (intervals.len < 2) return intervals_units_units_in_turn(start, intervals, units);
     if (intervals_units_all_sure(start.short_, start.long_, intervals)) {
         uint64_t n = intervals.len + 1;
-        struct array_u16_257 kinds = {0};
+        struct array_u16_129 kinds = {0};
         return intervals_units_units_of_sure(start, intervals, slice_u16_mut(kinds.a, n), units);
     }
     return intervals_units_units_in_turn(start, intervals, units);
@@ -2476,8 +2472,8 @@ static struct intervals_block_Progress intervals_block_pass_block(struct interva
 static struct intervals_block_Progress intervals_block_Progress_next_block(struct intervals_block_Progress self,
         struct slice_u16 intervals, uint32_t most, uint64_t to, struct slice_u16_mut out) {
     uint64_t from = self.pass.used;
-    uint64_t n = lists_at_most(256, intervals.len - from);
-    struct array_u8_256 units = {0};
+    uint64_t n = lists_at_most(128, intervals.len - from);
+    struct array_u8_128 units = {0};
     struct slice_u16 t14 = slice_u16(intervals.at + from, from + n - from);
     return intervals_block_pass_block(self, t14, slice_u8_mut(units.a, n), most, to, out);
 }
