@@ -4361,6 +4361,63 @@ static uint16_t clearance_extremes_past(uint16_t bound, uint16_t interval) {
 }
 
 /*
+ * clearance::extremes::first_past, crates/clearance/src/extremes.rt
+ * Of the ways past either bound, the first and the last.
+ */
+static uint16_t clearance_extremes_first_past(struct timing_Bounds bounds, uint16_t interval) {
+    uint16_t t3 = clearance_extremes_past(bounds.b23.f0, interval);
+    return clearance_extremes_first(t3, clearance_extremes_past(bounds.b34.f0, interval));
+}
+
+/* clearance::extremes::last_past, crates/clearance/src/extremes.rt */
+static uint16_t clearance_extremes_last_past(struct timing_Bounds bounds, uint16_t interval) {
+    uint16_t t3 = clearance_extremes_past(bounds.b23.f0, interval);
+    return clearance_extremes_last(t3, clearance_extremes_past(bounds.b34.f0, interval));
+}
+
+/* clearance::blocks::extremes_alike, crates/clearance/src/blocks.rt: All between the same bounds. */
+static struct clearance_extremes_Extremes clearance_blocks_extremes_alike(struct clearance_extremes_Extremes start,
+        struct timing_Bounds bounds, struct slice_u16 intervals) {
+    uint16_t shortest = start.shortest;
+    uint16_t longest = start.longest;
+    uint16_t from = start.from;
+    uint16_t below = start.below;
+    uint64_t k = 0;
+    while (k < intervals.len) {
+        uint16_t interval = intervals.at[k];
+        shortest = clearance_extremes_first(shortest, interval);
+        longest = clearance_extremes_last(longest, interval);
+        from = clearance_extremes_first(from, clearance_extremes_first_past(bounds, interval));
+        below = clearance_extremes_last(below, clearance_extremes_last_past(bounds, interval));
+        k++;
+    }
+    return (struct clearance_extremes_Extremes){.shortest = shortest, .longest = longest, .from = from, .below = below};
+}
+
+/*
+ * clearance::blocks::extremes_by, crates/clearance/src/blocks.rt
+ * Each between the bounds for the mask of the one before it.
+ */
+static struct clearance_extremes_Extremes clearance_blocks_extremes_by(struct clearance_extremes_Extremes start,
+        struct timing_Bounds short_, struct timing_Bounds long_, struct slice_u16 intervals, struct slice_u16 masks) {
+    uint16_t shortest = start.shortest;
+    uint16_t longest = start.longest;
+    uint16_t from = start.from;
+    uint16_t below = start.below;
+    uint64_t k = 0;
+    while (k < intervals.len) {
+        uint16_t interval = intervals.at[k];
+        struct timing_Bounds bounds = clearance_masks_bounds_by(masks.at[k], short_, long_);
+        shortest = clearance_extremes_first(shortest, interval);
+        longest = clearance_extremes_last(longest, interval);
+        from = clearance_extremes_first(from, clearance_extremes_first_past(bounds, interval));
+        below = clearance_extremes_last(below, clearance_extremes_last_past(bounds, interval));
+        k++;
+    }
+    return (struct clearance_extremes_Extremes){.shortest = shortest, .longest = longest, .from = from, .below = below};
+}
+
+/*
  * clearance::extremes::room, crates/clearance/src/extremes.rt
  * How far the places of a first and a last number are inside two others; 0 where one is outside.
  */
@@ -4385,41 +4442,11 @@ static uint16_t clearance_extremes_Extremes_least(struct clearance_extremes_Extr
  */
 static struct clearance_extremes_Extremes clearance_extremes_Extremes_with(struct clearance_extremes_Extremes self,
         struct timing_Bounds bounds, uint16_t interval) {
-    uint16_t past_b23 = clearance_extremes_past(bounds.b23.f0, interval);
-    uint16_t past_b34 = clearance_extremes_past(bounds.b34.f0, interval);
-    uint16_t t6 = clearance_extremes_first(self.shortest, interval);
-    uint16_t t7 = clearance_extremes_last(self.longest, interval);
-    uint16_t t8 = clearance_extremes_first(clearance_extremes_first(self.from, past_b23), past_b34);
-    return (struct clearance_extremes_Extremes){.shortest = t6, .longest = t7, .from = t8,
-            .below = clearance_extremes_last(clearance_extremes_last(self.below, past_b23), past_b34)};
-}
-
-/* clearance::seen::extremes_alike, crates/clearance/src/seen.rt: All between the same bounds. */
-static struct clearance_extremes_Extremes clearance_seen_extremes_alike(struct clearance_extremes_Extremes start,
-        struct timing_Bounds bounds, struct slice_u16 intervals) {
-    struct clearance_extremes_Extremes extremes = start;
-    uint64_t k = 0;
-    while (k < intervals.len) {
-        extremes = clearance_extremes_Extremes_with(extremes, bounds, intervals.at[k]);
-        k++;
-    }
-    return extremes;
-}
-
-/*
- * clearance::seen::extremes_by, crates/clearance/src/seen.rt
- * Each between the bounds for the mask of the one before it.
- */
-static struct clearance_extremes_Extremes clearance_seen_extremes_by(struct clearance_extremes_Extremes start,
-        struct timing_Bounds short_, struct timing_Bounds long_, struct slice_u16 intervals, struct slice_u16 masks) {
-    struct clearance_extremes_Extremes extremes = start;
-    uint64_t k = 0;
-    while (k < intervals.len) {
-        struct timing_Bounds chosen = clearance_masks_bounds_by(masks.at[k], short_, long_);
-        extremes = clearance_extremes_Extremes_with(extremes, chosen, intervals.at[k]);
-        k++;
-    }
-    return extremes;
+    uint16_t t4 = clearance_extremes_first(self.shortest, interval);
+    uint16_t t5 = clearance_extremes_last(self.longest, interval);
+    uint16_t t6 = clearance_extremes_first(self.from, clearance_extremes_first_past(bounds, interval));
+    return (struct clearance_extremes_Extremes){.shortest = t4, .longest = t5, .from = t6,
+            .below = clearance_extremes_last(self.below, clearance_extremes_last_past(bounds, interval))};
 }
 
 /* clearance::seen::Seen::past, crates/clearance/src/seen.rt: With one interval more. */
@@ -4443,7 +4470,7 @@ static struct clearance_seen_Seen clearance_seen_Seen_by_masks(struct clearance_
     uint16_t last = masks.at[masks.len - 1];
     struct slice_u16 t17 = slice_u16(intervals.at + 1, intervals.len - 1);
     struct clearance_extremes_Extremes t14 =
-            clearance_seen_extremes_by(extremes, cursor.short_, cursor.long_, t17, masks);
+            clearance_blocks_extremes_by(extremes, cursor.short_, cursor.long_, t17, masks);
     return (struct clearance_seen_Seen){.extremes = t14, .cursor = timing_cursor_Cursor_behind(cursor, last == 65535)};
 }
 
@@ -4487,7 +4514,7 @@ static struct clearance_seen_Seen clearance_seen_Seen_with_all(struct clearance_
     if (timing_cursor_Cursor_is_steady(cursor)) {
         struct clearance_extremes_Extremes extremes = self.extremes;
         struct timing_Bounds bounds = cursor.bounds;
-        return (struct clearance_seen_Seen){.extremes = clearance_seen_extremes_alike(extremes, bounds, intervals),
+        return (struct clearance_seen_Seen){.extremes = clearance_blocks_extremes_alike(extremes, bounds, intervals),
                 .cursor = cursor};
     }
     return clearance_seen_Seen_all(self, intervals);

@@ -1,7 +1,7 @@
 -- Why what is kept of the intervals gives their least clearance: an interval more takes the lesser at each bound, and of
 -- one interval by itself it is the clearance, since no other edge is nearer than those of its window. Rests on no axiom.
 use Prim.Native.Nat.{ℕ, _+_, _-_, _%_, _≤_, _<_, min, max}
-use mathlib.Core.Path.{_≡_, refl, ap, ap₂, _∙_}
+use mathlib.Core.Path.{_≡_, refl, sym, ap, ap₂, _∙_}
 use native.Mathlib.Decide.{decLt}
 use native.Mathlib.Omega.{arith}
 use borrow.Author.Tests.{lt-ltb, le-ltb}
@@ -65,6 +65,21 @@ less-of-greater b x n = omega arith
 lesser-of-lessers : (a x b y : ℕ) → min (min a x) (min b y) ≡ min (min a b) (min x y)
 lesser-of-lessers a x b y = omega arith
 
+least-of-three : (w y z : ℕ) → min (min w y) z ≡ min w (min y z)
+least-of-three w y z = omega arith
+
+greatest-of-three : (w y z : ℕ) → max w (max y z) ≡ max (max w y) z
+greatest-of-three w y z = omega arith
+
+-- an order of three does not depend on which two come first
+first-of-three
+    : (a p q : ℕ) → turned (firstOf a (firstOf p q)) ≡ min (min (turned a) (turned p)) (turned q)
+first-of-three a p q = rw (turned-first a (firstOf p q), turned-first p q) (sym (least-of-three _ _ _))
+
+last-of-three
+    : (a p q : ℕ) → turned (lastOf a (lastOf p q)) ≡ max (max (turned a) (turned p)) (turned q)
+last-of-three a p q = rw (turned-last a (lastOf p q), turned-last p q) (greatest-of-three _ _ _)
+
 room-with
     : (from to first last a b x : ℕ)
     → first ≡ min a x
@@ -72,9 +87,6 @@ room-with
     → room from to first last ≡ min (room from to a b) (room from to x x)
 room-with from to first last a b x f l =
     rw (f, l, less-of-lesser a x from, less-of-greater b x to) (lesser-of-lessers _ _ _ _)
-
-least-of-three : (w y z : ℕ) → min (min w y) z ≡ min w (min y z)
-least-of-three w y z = omega arith
 
 sorted-out : (l h w y z : ℕ) → min (min l h) (min (min w y) z) ≡ min (min l w) (min h (min y z))
 sorted-out l h w y z = cc (least-of-three w y z, lesser-of-lessers l h w (min y z))
@@ -158,8 +170,8 @@ module _ (c : Cursor) (a : Reachable c) (d : ℕ) (fits : d < 65536) where
   unfolding leastMet metWith
   met-with m =
       ap₂ min (room-with _ _ _ _ _ _ _ (turned-first _ _) (turned-last _ _))
-      (room-with 0 65535 _ _ _ _ _ (turned-first _ _) (turned-last _ _)
-      ∙ ap₂ min (room-with 0 65535 _ _ _ _ _ (turned-first _ _) (turned-last _ _)) refl)
+      (room-with 0 65535 _ _ _ _ _ (first-of-three _ _ _) (last-of-three _ _ _)
+      ∙ ap₂ min (room-with 0 65535 _ _ _ _ _ refl refl) refl)
       ∙ sorted-out _ _ _ _ _
       ∙ ap (min _) one-met
 

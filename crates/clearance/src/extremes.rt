@@ -2,7 +2,8 @@
 // decide, at the bounds between them the nearest from a bound up and the nearest below one.
 ghost use Prim.Native.Nat.{_-_, _≤_, min};
 ghost use mathlib.Core.Path.{_≡_};
-ghost use Rattle.clearance.specs.machine.Nearest.{turned, firstOf, lastOf, pastBound, room, noneMet, metWith, leastMet};
+ghost use Rattle.clearance.specs.machine.Nearest.{turned, firstOf, lastOf, pastBound, room, noneMet};
+ghost use Rattle.clearance.specs.machine.Nearest.{firstPast, lastPast, metWith, leastMet};
 use timing::Bounds;
 
 // Lengths are compared in the order of signed numbers, in which those from 32,768 on come first: for that order the
@@ -13,7 +14,7 @@ fn turned(x: u16) -> u16
     std::num::wrapping_add_u16(x, 32768)
 }
 
-fn first(a: u16, b: u16) -> u16
+pub fn first(a: u16, b: u16) -> u16
     ensures { λ r. ⌜ r ≡ firstOf a b ⌝ }
 {
     if turned(b) < turned(a) {
@@ -22,7 +23,7 @@ fn first(a: u16, b: u16) -> u16
     a
 }
 
-fn last(a: u16, b: u16) -> u16
+pub fn last(a: u16, b: u16) -> u16
     ensures { λ r. ⌜ r ≡ lastOf a b ⌝ }
 {
     if turned(a) < turned(b) {
@@ -36,6 +37,19 @@ fn past(bound: u16, interval: u16) -> u16
     ensures { λ r. ⌜ r ≡ pastBound bound interval ⌝ }
 {
     std::num::wrapping_sub_u16(interval, turned(bound))
+}
+
+// Of the ways past either bound, the first and the last.
+pub fn first_past(bounds: Bounds, interval: u16) -> u16
+    ensures { λ r. ⌜ r ≡ firstPast bounds interval ⌝ }
+{
+    first(past(bounds.b23.0, interval), past(bounds.b34.0, interval))
+}
+
+pub fn last_past(bounds: Bounds, interval: u16) -> u16
+    ensures { λ r. ⌜ r ≡ lastPast bounds interval ⌝ }
+{
+    last(past(bounds.b23.0, interval), past(bounds.b34.0, interval))
 }
 
 fn lesser(a: u16, b: u16) -> u16
@@ -86,13 +100,11 @@ impl Extremes {
     pub fn with(self, bounds: Bounds, interval: u16) -> Extremes
         ensures { λ r. ⌜ r ≡ metWith self bounds interval ⌝ }
     {
-        let past_b23 = past(bounds.b23.0, interval);
-        let past_b34 = past(bounds.b34.0, interval);
         Extremes {
             shortest: first(self.shortest, interval),
             longest: last(self.longest, interval),
-            from: first(first(self.from, past_b23), past_b34),
-            below: last(last(self.below, past_b23), past_b34),
+            from: first(self.from, first_past(bounds, interval)),
+            below: last(self.below, last_past(bounds, interval)),
         }
     }
 

@@ -10,6 +10,7 @@ use fields::reader::FieldRead;
 use refusal::Counted;
 use timing::Profile;
 
+mod blocks;
 pub mod extremes;
 mod least;
 mod masks;

@@ -3,14 +3,13 @@ ghost use Prim.Native.Nat.{_≤_};
 ghost use mathlib.Core.Path.{_≡_};
 ghost use lib.ListN.{length};
 ghost use Rattle.timing.specs.Class.{Ascending};
-ghost use Rattle.clearance.specs.machine.Nearest.{alikeFrom};
-ghost use Rattle.clearance.specs.machine.Masks.{AreMasks, masksFrom, maskedFrom};
+ghost use Rattle.clearance.specs.machine.Masks.{masksFrom};
 ghost use Rattle.clearance.specs.machine.Seen.{seenPast, seenFrom};
+use crate::blocks::extremes_alike;
+use crate::blocks::extremes_by;
 use crate::extremes::Extremes;
-use crate::masks::bounds_by;
 use crate::masks::fill;
 use lists::at_most;
-use timing::Bounds;
 use timing::Cursor;
 
 // As many intervals as are looked at together, so that it is done in vector instructions: one that goes by the cursor,
@@ -23,40 +22,6 @@ const ONES: u16 = 0xffff;
 pub struct Seen {
     pub extremes: Extremes,
     pub cursor: Cursor,
-}
-
-// All between the same bounds.
-fn extremes_alike(start: Extremes, bounds: Bounds, intervals: &[u16]) -> Extremes
-    ensures { λ r. ⌜ r ≡ alikeFrom start bounds (now (intervals .entry)) ⌝ }
-{
-    let mut extremes = start;
-    let mut k: usize = 0;
-    while k < intervals.len() {
-        extremes = extremes.with(bounds, intervals[k]);
-        k += 1;
-    }
-    extremes
-}
-
-// Each between the bounds for the mask of the one before it.
-fn extremes_by(
-    start: Extremes,
-    short: Bounds,
-    long: Bounds,
-    intervals: &[u16],
-    masks: &[u16],
-) -> Extremes
-    requires { ⌜ (length (now intervals) ≤ length (now masks)) × AreMasks (now masks) ⌝ }
-    ensures { λ r. ⌜ r ≡ maskedFrom start short long (now (intervals .entry)) (now (masks .entry)) ⌝ }
-{
-    let mut extremes = start;
-    let mut k: usize = 0;
-    while k < intervals.len() {
-        let chosen = bounds_by(masks[k], short, long);
-        extremes = extremes.with(chosen, intervals[k]);
-        k += 1;
-    }
-    extremes
 }
 
 impl Seen {

@@ -40,14 +40,21 @@ pub record Reachable (c : Cursor) : Type 0 where
 unfoldable pub noneMet : Extremes
 noneMet = record { shortest = 32767; longest = 32768; from = 32767; below = 32768 }
 
+-- of the ways past either bound, the first and the last
+abbrev pub firstPast : Bounds → ℕ → ℕ
+firstPast b d = firstOf (pastBound (b .b23 .0) d) (pastBound (b .b34 .0) d)
+
+abbrev pub lastPast : Bounds → ℕ → ℕ
+lastPast b d = lastOf (pastBound (b .b23 .0) d) (pastBound (b .b34 .0) d)
+
 -- with one interval more, and the bounds about it
 unfoldable pub metWith : Extremes → Bounds → ℕ → Extremes
 metWith m b d =
     record {
       shortest = firstOf (m .shortest) d;
       longest = lastOf (m .longest) d;
-      from = firstOf (firstOf (m .from) (pastBound (b .b23 .0) d)) (pastBound (b .b34 .0) d);
-      below = lastOf (lastOf (m .below) (pastBound (b .b23 .0) d)) (pastBound (b .b34 .0) d);
+      from = firstOf (m .from) (firstPast b d);
+      below = lastOf (m .below) (lastPast b d);
     }
 
 -- the least clearance of the intervals met: at Min and Rpt, and at the bounds between them
