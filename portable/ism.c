@@ -417,39 +417,9 @@ struct array_u16_1030 {
     uint16_t a[1030];
 };
 
-struct array_u64_4 {
-    uint64_t a[4];
-};
-
-struct array_u64_4_5 {
-    struct array_u64_4 a[5];
-};
-
-/* track::DataField, crates/track/src/lib.rt */
-enum { track_DataField_Found, track_DataField_Missing };
-struct track_DataField {
-    uint8_t tag;
-    union {
-        struct {
-            uint64_t place;
-            bool holds;
-        } Found;
-    } u;
-};
-
-/* track::Entry, crates/track/src/lib.rt */
-struct track_Entry {
-    uint8_t track;
-    uint8_t side;
-    uint8_t sector;
-    uint8_t code;
-    uint64_t place;
-    struct track_DataField field;
-};
-
-/* track::id::IdRead, crates/track/src/id.rt */
-enum { track_id_IdRead_Id, track_id_IdRead_NoId };
-struct track_id_IdRead {
+/* entries::id::IdRead, crates/entries/src/id.rt */
+enum { entries_id_IdRead_Id, entries_id_IdRead_NoId };
+struct entries_id_IdRead {
     uint8_t tag;
     union {
         struct {
@@ -462,9 +432,9 @@ struct track_id_IdRead {
     } u;
 };
 
-/* track::opening::Opened, crates/track/src/opening.rt */
-enum { track_opening_Opened_Field, track_opening_Opened_NoField };
-struct track_opening_Opened {
+/* entries::opening::Opened, crates/entries/src/opening.rt */
+enum { entries_opening_Opened_Field, entries_opening_Opened_NoField };
+struct entries_opening_Opened {
     uint8_t tag;
     union {
         struct {
@@ -478,32 +448,62 @@ struct array_u16_4 {
     uint16_t a[4];
 };
 
-/* track::content::Sought, crates/track/src/content.rt */
-struct track_content_Sought {
-    struct track_DataField field;
+/* entries::DataField, crates/entries/src/lib.rt */
+enum { entries_DataField_Found, entries_DataField_Missing };
+struct entries_DataField {
+    uint8_t tag;
+    union {
+        struct {
+            uint64_t place;
+            bool holds;
+        } Found;
+    } u;
+};
+
+/* entries::content::Sought, crates/entries/src/content.rt */
+struct entries_content_Sought {
+    struct entries_DataField field;
     uint64_t end;
 };
 
-/* track::Step, crates/track/src/lib.rt */
-enum { track_Step_End, track_Step_Other, track_Step_Begins };
-struct track_Step {
+/* entries::Entry, crates/entries/src/lib.rt */
+struct entries_Entry {
+    uint8_t track;
+    uint8_t side;
+    uint8_t sector;
+    uint8_t code;
+    uint64_t place;
+    struct entries_DataField field;
+};
+
+/* entries::Step, crates/entries/src/lib.rt */
+enum { entries_Step_End, entries_Step_Other, entries_Step_Begins };
+struct entries_Step {
     uint8_t tag;
     union {
         struct {
             uint64_t next;
         } Other;
         struct {
-            struct track_Entry entry;
+            struct entries_Entry entry;
             uint64_t next;
         } Begins;
     } u;
+};
+
+struct array_u64_4 {
+    uint64_t a[4];
+};
+
+struct array_u64_4_5 {
+    struct array_u64_4 a[5];
 };
 
 struct array_track_index_IndexEntry_32 {
     ism_index_entry a[32];
 };
 
-/* track::set::TrackSet, crates/track/src/set.rt */
+/* track_set::TrackSet, crates/track_set/src/lib.rt */
 struct track_set_TrackSet {
     uint32_t number;
     uint32_t place;
@@ -3133,6 +3133,170 @@ static struct fields_reader_FieldRead fields_reader_read_field(struct timing_Pro
     return fields_reader_read_checked(p, intervals, n, out);
 }
 
+/* The crate entries */
+
+/* entries::id::four_bytes, crates/entries/src/id.rt: The four bytes fit a byte each, since they are data bytes. */
+static struct entries_id_IdRead entries_id_four_bytes(struct slice_u16 items, uint64_t used) {
+    return (struct entries_id_IdRead){.tag = entries_id_IdRead_Id,
+            .u.Id = {.track = (uint8_t)items.at[4], .side = (uint8_t)items.at[5], .sector = (uint8_t)items.at[6],
+            .code = (uint8_t)items.at[7], .used = used}};
+}
+
+/* entries::opening::greater, crates/entries/src/opening.rt */
+static uint16_t entries_opening_greater(uint16_t a, uint16_t b) {
+    if (a < b) return b;
+    return a;
+}
+
+/*
+ * entries::opening::all_cells, crates/entries/src/opening.rt
+ * Whether all are cells: none is further past Min than Rpt is, where one below Min wraps to above all others. With no
+ * jump for any, so that it is told in vector instructions.
+ */
+static bool entries_opening_all_cells(struct timing_Profile p, struct slice_u16 intervals) {
+    uint16_t min = p.min.f0;
+    uint16_t most = 0;
+    uint64_t k = 0;
+    while (k < intervals.len) {
+        most = entries_opening_greater(most, std_num_wrapping_sub_u16(intervals.at[k], min));
+        k++;
+    }
+    return most < p.rpt.f0 - min;
+}
+
+/* entries::opening::opens_with, crates/entries/src/opening.rt */
+static bool entries_opening_opens_with(struct slice_u16 items, uint16_t kind) {
+    return (items.at[0] == 417) & (items.at[1] == 417) & (items.at[2] == 417) & (items.at[3] == kind);
+}
+
+/* entries::id::is_identity, crates/entries/src/id.rt: FE and four data bytes, the last a length code. */
+static bool entries_id_is_identity(struct slice_u16 items) {
+    bool t2 = entries_opening_opens_with(items, 254);
+    return t2 & (items.at[4] < 256) & (items.at[5] < 256) & (items.at[6] < 256) & (items.at[7] <= 3);
+}
+
+/* entries::id::identify, crates/entries/src/id.rt */
+static struct entries_id_IdRead entries_id_identify(struct slice_u16 items, uint64_t used) {
+    if (entries_id_is_identity(items)) return entries_id_four_bytes(items, used);
+    return (struct entries_id_IdRead){.tag = entries_id_IdRead_NoId};
+}
+
+/*
+ * entries::opening::read_marked, crates/entries/src/opening.rt
+ * A field of n bytes, the first of which are handed over; the intervals begin at a lock.
+ */
+static struct entries_opening_Opened entries_opening_read_marked(struct timing_Profile p, struct slice_u16 intervals,
+        uint64_t n, uint16_t kind, struct slice_u16_mut items) {
+    struct fields_reader_FieldRead t8 = fields_reader_read_in_place(p, intervals, n, items);
+    if (t8.tag == fields_reader_FieldRead_Refused) {
+        return (struct entries_opening_Opened){.tag = entries_opening_Opened_NoField};
+    }
+    uint64_t used = t8.u.Field.used;
+    bool holds = t8.u.Field.holds;
+    if (entries_opening_opens_with(slice_u16(items.at, items.len), kind)) {
+        return (struct entries_opening_Opened){.tag = entries_opening_Opened_Field,
+                .u.Field = {.used = used, .holds = holds}};
+    }
+    return (struct entries_opening_Opened){.tag = entries_opening_Opened_NoField};
+}
+
+/*
+ * entries::opening::read_sound, crates/entries/src/opening.rt
+ * A field uses 4 n intervals at least, as a cell gives two bits at most. Where one of so many is no cell it does not
+ * read, which is told in a small part of the time that reading takes.
+ */
+static struct entries_opening_Opened entries_opening_read_sound(struct timing_Profile p, struct slice_u16 intervals,
+        uint64_t n, uint16_t kind, struct slice_u16_mut items) {
+    uint64_t front = lists_at_most(4 * n, intervals.len);
+    if (entries_opening_all_cells(p, slice_u16(intervals.at, front))) {
+        return entries_opening_read_marked(p, intervals, n, kind, items);
+    }
+    return (struct entries_opening_Opened){.tag = entries_opening_Opened_NoField};
+}
+
+/*
+ * entries::opening::read_opened, crates/entries/src/opening.rt
+ * Most of what a lock precedes on a worn track is seen to be no field of a sector by its first intervals.
+ */
+static struct entries_opening_Opened entries_opening_read_opened(struct timing_Profile p, struct slice_u16 intervals,
+        uint64_t n, uint16_t kind, struct slice_u16_mut items) {
+    if (locks_finder_three_marks_ahead(p, intervals)) {
+        return entries_opening_read_sound(p, intervals, n, kind, items);
+    }
+    return (struct entries_opening_Opened){.tag = entries_opening_Opened_NoField};
+}
+
+/*
+ * entries::content::read_data, crates/entries/src/content.rt
+ * As many bytes as three marks, FB, the data of the code and two check bytes are. The first four tell what it is.
+ */
+static struct entries_opening_Opened entries_content_read_data(struct timing_Profile p, struct slice_u16 intervals,
+        uint8_t code) {
+    uint64_t n = sectors_sector_size(code) + 6;
+    struct array_u16_4 items = {0};
+    return entries_opening_read_opened(p, intervals, n, 251, slice_u16_mut(items.a, 4));
+}
+
+/*
+ * entries::content::find_data, crates/entries/src/content.rt
+ * Searched after the intervals that the ID used, from `start` on.
+ */
+static struct entries_content_Sought entries_content_find_data(struct timing_Profile p, struct slice_u16 intervals,
+        uint64_t start, uint8_t code) {
+    struct refusal_Counted t8 = locks_finder_search(p, intervals, start);
+    if (t8.tag == refusal_Counted_Refused) {
+        return (struct entries_content_Sought){.field = {.tag = entries_DataField_Missing}, .end = start};
+    }
+    uint64_t k = t8.u.Count;
+    struct entries_opening_Opened t11 =
+            entries_content_read_data(p, slice_u16(intervals.at + k, intervals.len - k), code);
+    if (t11.tag == entries_opening_Opened_NoField) {
+        return (struct entries_content_Sought){.field = {.tag = entries_DataField_Missing}, .end = start};
+    }
+    return (struct entries_content_Sought){.field = {.tag = entries_DataField_Found,
+            .u.Found = {.place = k, .holds = t11.u.Field.holds}}, .end = k + t11.u.Field.used};
+}
+
+/* entries::id::read_id, crates/entries/src/id.rt: The intervals begin at a lock. */
+static struct entries_id_IdRead entries_id_read_id(struct timing_Profile p, struct slice_u16 intervals) {
+    struct array_u16_10 items = {0};
+    struct entries_opening_Opened t6 = entries_opening_read_opened(p, intervals, 10, 254, slice_u16_mut(items.a, 10));
+    if (t6.tag == entries_opening_Opened_NoField) {
+        return (struct entries_id_IdRead){.tag = entries_id_IdRead_NoId};
+    }
+    uint64_t used = t6.u.Field.used;
+    if (t6.u.Field.holds) return entries_id_identify(slice_u16(items.a, 10), used);
+    return (struct entries_id_IdRead){.tag = entries_id_IdRead_NoId};
+}
+
+/*
+ * entries::look_at, crates/entries/src/lib.rt
+ * What begins at the lock at k. The next search starts after the last field of the entry, or else at the place after
+ * the lock.
+ */
+static struct entries_Step entries_look_at(struct timing_Profile p, struct slice_u16 intervals, uint64_t k) {
+    struct entries_id_IdRead t12 = entries_id_read_id(p, slice_u16(intervals.at + k, intervals.len - k));
+    if (t12.tag == entries_id_IdRead_NoId) {
+        return (struct entries_Step){.tag = entries_Step_Other, .u.Other = {.next = k + 1}};
+    }
+    uint8_t code = t12.u.Id.code;
+    struct entries_content_Sought sought = entries_content_find_data(p, intervals, k + t12.u.Id.used, code);
+    struct entries_DataField field = sought.field;
+    struct entries_Entry entry = {.track = t12.u.Id.track, .side = t12.u.Id.side, .sector = t12.u.Id.sector,
+            .code = code, .place = k, .field = field};
+    return (struct entries_Step){.tag = entries_Step_Begins, .u.Begins = {.entry = entry, .next = sought.end}};
+}
+
+/*
+ * entries::find_entry, crates/entries/src/lib.rt
+ * One search, from `start` on. The next starts at least 64 intervals after this one, so that they come to an end.
+ */
+static struct entries_Step entries_find_entry(struct timing_Profile p, struct slice_u16 intervals, uint64_t start) {
+    struct refusal_Counted t5 = locks_finder_search(p, intervals, start);
+    if (t5.tag == refusal_Counted_Refused) return (struct entries_Step){.tag = entries_Step_End};
+    return entries_look_at(p, intervals, t5.u.Count);
+}
+
 /* The crate report */
 
 /* report::check_list, crates/report/src/lib.rt: Whether a list of intervals has a report: 1, 2, 4. */
@@ -3291,9 +3455,9 @@ static struct array_u64_4_5 report_report_list(struct timing_Profile p, struct s
 /* The crate track */
 
 /* track::index::converted, crates/track/src/index.rt */
-static ism_index_entry track_index_converted(struct track_Entry entry) {
-    struct track_DataField field = entry.field;
-    if (field.tag == track_DataField_Found) {
+static ism_index_entry track_index_converted(struct entries_Entry entry) {
+    struct entries_DataField field = entry.field;
+    if (field.tag == entries_DataField_Found) {
         return (ism_index_entry){.id_place = entry.place, .data_place = field.u.Found.place, .track = entry.track,
                 .side = entry.side, .sector = entry.sector, .code = entry.code, .found = 1,
                 .holds = (uint8_t)field.u.Found.holds};
@@ -3302,177 +3466,10 @@ static ism_index_entry track_index_converted(struct track_Entry entry) {
             .sector = entry.sector, .code = entry.code, .found = 0, .holds = 0};
 }
 
-/* track::set::entry_size, crates/track/src/set.rt */
-static uint64_t track_set_entry_size(ism_index_entry entry) {
-    if (entry.found == 0) return 0;
-    return 3 + sectors_sector_size(entry.code);
-}
-
-/* track::id::four_bytes, crates/track/src/id.rt: The four bytes fit a byte each, since they are data bytes. */
-static struct track_id_IdRead track_id_four_bytes(struct slice_u16 items, uint64_t used) {
-    return (struct track_id_IdRead){.tag = track_id_IdRead_Id,
-            .u.Id = {.track = (uint8_t)items.at[4], .side = (uint8_t)items.at[5], .sector = (uint8_t)items.at[6],
-            .code = (uint8_t)items.at[7], .used = used}};
-}
-
 /* track::order::goes_before, crates/track/src/order.rt */
 static bool track_order_goes_before(ism_index_entry a, ism_index_entry b) {
     if (a.sector == b.sector) return a.id_place < b.id_place;
     return a.sector < b.sector;
-}
-
-/* track::opening::greater, crates/track/src/opening.rt */
-static uint16_t track_opening_greater(uint16_t a, uint16_t b) {
-    if (a < b) return b;
-    return a;
-}
-
-/*
- * track::opening::all_cells, crates/track/src/opening.rt
- * Whether all are cells: none is further past Min than Rpt is, where one below Min wraps to above all others. With no
- * jump for any, so that it is told in vector instructions.
- */
-static bool track_opening_all_cells(struct timing_Profile p, struct slice_u16 intervals) {
-    uint16_t min = p.min.f0;
-    uint16_t most = 0;
-    uint64_t k = 0;
-    while (k < intervals.len) {
-        most = track_opening_greater(most, std_num_wrapping_sub_u16(intervals.at[k], min));
-        k++;
-    }
-    return most < p.rpt.f0 - min;
-}
-
-/* track::opening::opens_with, crates/track/src/opening.rt */
-static bool track_opening_opens_with(struct slice_u16 items, uint16_t kind) {
-    return (items.at[0] == 417) & (items.at[1] == 417) & (items.at[2] == 417) & (items.at[3] == kind);
-}
-
-/* track::id::is_identity, crates/track/src/id.rt: FE and four data bytes, the last a length code. */
-static bool track_id_is_identity(struct slice_u16 items) {
-    bool t2 = track_opening_opens_with(items, 254);
-    return t2 & (items.at[4] < 256) & (items.at[5] < 256) & (items.at[6] < 256) & (items.at[7] <= 3);
-}
-
-/* track::id::identify, crates/track/src/id.rt */
-static struct track_id_IdRead track_id_identify(struct slice_u16 items, uint64_t used) {
-    if (track_id_is_identity(items)) return track_id_four_bytes(items, used);
-    return (struct track_id_IdRead){.tag = track_id_IdRead_NoId};
-}
-
-/*
- * track::opening::read_marked, crates/track/src/opening.rt
- * A field of n bytes, the first of which are handed over; the intervals begin at a lock.
- */
-static struct track_opening_Opened track_opening_read_marked(struct timing_Profile p, struct slice_u16 intervals,
-        uint64_t n, uint16_t kind, struct slice_u16_mut items) {
-    struct fields_reader_FieldRead t8 = fields_reader_read_in_place(p, intervals, n, items);
-    if (t8.tag == fields_reader_FieldRead_Refused) {
-        return (struct track_opening_Opened){.tag = track_opening_Opened_NoField};
-    }
-    uint64_t used = t8.u.Field.used;
-    bool holds = t8.u.Field.holds;
-    if (track_opening_opens_with(slice_u16(items.at, items.len), kind)) {
-        return (struct track_opening_Opened){.tag = track_opening_Opened_Field,
-                .u.Field = {.used = used, .holds = holds}};
-    }
-    return (struct track_opening_Opened){.tag = track_opening_Opened_NoField};
-}
-
-/*
- * track::opening::read_sound, crates/track/src/opening.rt
- * A field uses 4 n intervals at least, as a cell gives two bits at most. Where one of so many is no cell it does not
- * read, which is told in a small part of the time that reading takes.
- */
-static struct track_opening_Opened track_opening_read_sound(struct timing_Profile p, struct slice_u16 intervals,
-        uint64_t n, uint16_t kind, struct slice_u16_mut items) {
-    uint64_t front = lists_at_most(4 * n, intervals.len);
-    if (track_opening_all_cells(p, slice_u16(intervals.at, front))) {
-        return track_opening_read_marked(p, intervals, n, kind, items);
-    }
-    return (struct track_opening_Opened){.tag = track_opening_Opened_NoField};
-}
-
-/*
- * track::opening::read_opened, crates/track/src/opening.rt
- * Most of what a lock precedes on a worn track is seen to be no field of a sector by its first intervals.
- */
-static struct track_opening_Opened track_opening_read_opened(struct timing_Profile p, struct slice_u16 intervals,
-        uint64_t n, uint16_t kind, struct slice_u16_mut items) {
-    if (locks_finder_three_marks_ahead(p, intervals)) {
-        return track_opening_read_sound(p, intervals, n, kind, items);
-    }
-    return (struct track_opening_Opened){.tag = track_opening_Opened_NoField};
-}
-
-/*
- * track::content::read_data, crates/track/src/content.rt
- * As many bytes as three marks, FB, the data of the code and two check bytes are. The first four tell what it is.
- */
-static struct track_opening_Opened track_content_read_data(struct timing_Profile p, struct slice_u16 intervals,
-        uint8_t code) {
-    uint64_t n = sectors_sector_size(code) + 6;
-    struct array_u16_4 items = {0};
-    return track_opening_read_opened(p, intervals, n, 251, slice_u16_mut(items.a, 4));
-}
-
-/*
- * track::content::find_data, crates/track/src/content.rt
- * Searched after the intervals that the ID used, from `start` on.
- */
-static struct track_content_Sought track_content_find_data(struct timing_Profile p, struct slice_u16 intervals,
-        uint64_t start, uint8_t code) {
-    struct refusal_Counted t8 = locks_finder_search(p, intervals, start);
-    if (t8.tag == refusal_Counted_Refused) {
-        return (struct track_content_Sought){.field = {.tag = track_DataField_Missing}, .end = start};
-    }
-    uint64_t k = t8.u.Count;
-    struct track_opening_Opened t11 = track_content_read_data(p, slice_u16(intervals.at + k, intervals.len - k), code);
-    if (t11.tag == track_opening_Opened_NoField) {
-        return (struct track_content_Sought){.field = {.tag = track_DataField_Missing}, .end = start};
-    }
-    return (struct track_content_Sought){.field = {.tag = track_DataField_Found,
-            .u.Found = {.place = k, .holds = t11.u.Field.holds}}, .end = k + t11.u.Field.used};
-}
-
-/* track::id::read_id, crates/track/src/id.rt: The intervals begin at a lock. */
-static struct track_id_IdRead track_id_read_id(struct timing_Profile p, struct slice_u16 intervals) {
-    struct array_u16_10 items = {0};
-    struct track_opening_Opened t6 = track_opening_read_opened(p, intervals, 10, 254, slice_u16_mut(items.a, 10));
-    if (t6.tag == track_opening_Opened_NoField) {
-        return (struct track_id_IdRead){.tag = track_id_IdRead_NoId};
-    }
-    uint64_t used = t6.u.Field.used;
-    if (t6.u.Field.holds) return track_id_identify(slice_u16(items.a, 10), used);
-    return (struct track_id_IdRead){.tag = track_id_IdRead_NoId};
-}
-
-/*
- * track::look_at, crates/track/src/lib.rt
- * What begins at the lock at k. The next search starts after the last field of the entry, or else at the place after
- * the lock.
- */
-static struct track_Step track_look_at(struct timing_Profile p, struct slice_u16 intervals, uint64_t k) {
-    struct track_id_IdRead t12 = track_id_read_id(p, slice_u16(intervals.at + k, intervals.len - k));
-    if (t12.tag == track_id_IdRead_NoId) {
-        return (struct track_Step){.tag = track_Step_Other, .u.Other = {.next = k + 1}};
-    }
-    uint8_t code = t12.u.Id.code;
-    struct track_content_Sought sought = track_content_find_data(p, intervals, k + t12.u.Id.used, code);
-    struct track_DataField field = sought.field;
-    struct track_Entry entry = {.track = t12.u.Id.track, .side = t12.u.Id.side, .sector = t12.u.Id.sector, .code = code,
-            .place = k, .field = field};
-    return (struct track_Step){.tag = track_Step_Begins, .u.Begins = {.entry = entry, .next = sought.end}};
-}
-
-/*
- * track::find_entry, crates/track/src/lib.rt
- * One search, from `start` on. The next starts at least 64 intervals after this one, so that they come to an end.
- */
-static struct track_Step track_find_entry(struct timing_Profile p, struct slice_u16 intervals, uint64_t start) {
-    struct refusal_Counted t5 = locks_finder_search(p, intervals, start);
-    if (t5.tag == refusal_Counted_Refused) return (struct track_Step){.tag = track_Step_End};
-    return track_look_at(p, intervals, t5.u.Count);
 }
 
 /*
@@ -3491,17 +3488,17 @@ static ism_index track_index_index_track(struct timing_Profile p, struct slice_u
     } else {
         struct refusal_Counted t17;
         for (;;) {
-            struct track_Step t18 = track_find_entry(p, intervals, start);
+            struct entries_Step t18 = entries_find_entry(p, intervals, start);
             switch (t18.tag) {
-            case track_Step_End: {
+            case entries_Step_End: {
                 t17 = (struct refusal_Counted){.tag = refusal_Counted_Count, .u.Count = count};
                 goto done_1;
             }
-            case track_Step_Other: {
+            case entries_Step_Other: {
                 start = t18.u.Other.next;
                 break;
             }
-            default: { /* track_Step_Begins */
+            default: { /* entries_Step_Begins */
                 if (count == 32) {
                     entries = (struct array_track_index_IndexEntry_32){0};
                     t17 = (struct refusal_Counted){.tag = refusal_Counted_Refused,
@@ -3542,8 +3539,16 @@ static ism_index track_index_index_track(struct timing_Profile p, struct slice_u
     return result;
 }
 
+/* The crate track_set */
+
+/* track_set::entry_size, crates/track_set/src/lib.rt */
+static uint64_t track_set_entry_size(ism_index_entry entry) {
+    if (entry.found == 0) return 0;
+    return 3 + sectors_sector_size(entry.code);
+}
+
 /*
- * track::set::store_entry, crates/track/src/set.rt
+ * track_set::store_entry, crates/track_set/src/lib.rt
  * Number, code, whether its sum holds, and the data: read once more, since the index has kept none of it.
  */
 static void track_set_store_entry(struct timing_Profile p, struct slice_u16 intervals, ism_index_entry entry,
@@ -3562,7 +3567,7 @@ static void track_set_store_entry(struct timing_Profile p, struct slice_u16 inte
 }
 
 /*
- * track::set::read_track, crates/track/src/set.rt
+ * track_set::read_track, crates/track_set/src/lib.rt
  * 1, 2, 15, 9. On acceptance the set fills the front of the output, in the index's order.
  */
 static struct track_set_TrackSet track_set_read_track(struct timing_Profile p, struct slice_u16 intervals,
