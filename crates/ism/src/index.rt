@@ -4,10 +4,10 @@ ghost use lib.ListN.{length};
 ghost use Rattle.track.specs.Index.{indexRule, indexEntries};
 ghost use Rattle.track.specs.HandedBack.{indexAnswerOf};
 ghost use Rattle.track_set.specs.TrackSectors.{trackAnswer, trackOutput};
-ghost use Rattle.ism.specs.Answers.{profileOf, givenMerge};
-use crate::IsmAnswer;
-use crate::IsmProfile;
-use crate::profile;
+ghost use Rattle.answers.specs.Answers.{profileOf, givenMerge};
+use answers::IsmAnswer;
+use answers::IsmProfile;
+use answers::profile;
 use track::TrackIndex;
 
 #[no_mangle]
