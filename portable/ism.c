@@ -417,39 +417,9 @@ struct array_u16_1030 {
     uint16_t a[1030];
 };
 
-struct array_u64_4 {
-    uint64_t a[4];
-};
-
-struct array_u64_4_5 {
-    struct array_u64_4 a[5];
-};
-
-/* track::DataField, crates/track/src/lib.rt */
-enum { track_DataField_Found, track_DataField_Missing };
-struct track_DataField {
-    uint8_t tag;
-    union {
-        struct {
-            uint64_t place;
-            bool holds;
-        } Found;
-    } u;
-};
-
-/* track::Entry, crates/track/src/lib.rt */
-struct track_Entry {
-    uint8_t track;
-    uint8_t side;
-    uint8_t sector;
-    uint8_t code;
-    uint64_t place;
-    struct track_DataField field;
-};
-
-/* track::id::IdRead, crates/track/src/id.rt */
-enum { track_id_IdRead_Id, track_id_IdRead_NoId };
-struct track_id_IdRead {
+/* entries::id::IdRead, crates/entries/src/id.rt */
+enum { entries_id_IdRead_Id, entries_id_IdRead_NoId };
+struct entries_id_IdRead {
     uint8_t tag;
     union {
         struct {
@@ -462,9 +432,9 @@ struct track_id_IdRead {
     } u;
 };
 
-/* track::opening::Opened, crates/track/src/opening.rt */
-enum { track_opening_Opened_Field, track_opening_Opened_NoField };
-struct track_opening_Opened {
+/* entries::opening::Opened, crates/entries/src/opening.rt */
+enum { entries_opening_Opened_Field, entries_opening_Opened_NoField };
+struct entries_opening_Opened {
     uint8_t tag;
     union {
         struct {
@@ -478,32 +448,69 @@ struct array_u16_4 {
     uint16_t a[4];
 };
 
-/* track::content::Sought, crates/track/src/content.rt */
-struct track_content_Sought {
-    struct track_DataField field;
+/* entries::DataField, crates/entries/src/lib.rt */
+enum { entries_DataField_Found, entries_DataField_Missing };
+struct entries_DataField {
+    uint8_t tag;
+    union {
+        struct {
+            uint64_t place;
+            bool holds;
+        } Found;
+    } u;
+};
+
+/* entries::content::Sought, crates/entries/src/content.rt */
+struct entries_content_Sought {
+    struct entries_DataField field;
     uint64_t end;
 };
 
-/* track::Step, crates/track/src/lib.rt */
-enum { track_Step_End, track_Step_Other, track_Step_Begins };
-struct track_Step {
+/* entries::Entry, crates/entries/src/lib.rt */
+struct entries_Entry {
+    uint8_t track;
+    uint8_t side;
+    uint8_t sector;
+    uint8_t code;
+    uint64_t place;
+    struct entries_DataField field;
+};
+
+/* entries::Step, crates/entries/src/lib.rt */
+enum { entries_Step_End, entries_Step_Other, entries_Step_Begins };
+struct entries_Step {
     uint8_t tag;
     union {
         struct {
             uint64_t next;
         } Other;
         struct {
-            struct track_Entry entry;
+            struct entries_Entry entry;
             uint64_t next;
         } Begins;
     } u;
+};
+
+/* pace::Pace, crates/pace/src/lib.rt */
+struct pace_Pace {
+    uint32_t nominal;
+    uint32_t even;
+    uint32_t odd;
+};
+
+struct array_u64_4 {
+    uint64_t a[4];
+};
+
+struct array_u64_4_5 {
+    struct array_u64_4 a[5];
 };
 
 struct array_track_index_IndexEntry_32 {
     ism_index_entry a[32];
 };
 
-/* track::set::TrackSet, crates/track/src/set.rt */
+/* track_set::TrackSet, crates/track_set/src/lib.rt */
 struct track_set_TrackSet {
     uint32_t number;
     uint32_t place;
@@ -636,13 +643,6 @@ struct limits_Held {
     struct array_limits_Limit_10 limits;
 };
 
-/* speed::pace::Pace, crates/speed/src/pace.rt */
-struct speed_pace_Pace {
-    uint32_t nominal;
-    uint32_t even;
-    uint32_t odd;
-};
-
 /* speed::gather::BlockRead, crates/speed/src/gather.rt */
 struct speed_gather_BlockRead {
     struct intervals_block_Progress at;
@@ -685,11 +685,11 @@ struct speed_reader_Corrected {
     uint32_t odd;
 };
 
-struct array_ism_card_IsmLimit_10 {
+struct array_answers_card_IsmLimit_10 {
     ism_limit a[10];
 };
 
-struct array_ism_drive_IsmReportRow_5 {
+struct array_answers_drive_IsmReportRow_5 {
     ism_report_row a[5];
 };
 
@@ -3133,6 +3133,231 @@ static struct fields_reader_FieldRead fields_reader_read_field(struct timing_Pro
     return fields_reader_read_checked(p, intervals, n, out);
 }
 
+/* The crate entries */
+
+/* entries::id::four_bytes, crates/entries/src/id.rt: The four bytes fit a byte each, since they are data bytes. */
+static struct entries_id_IdRead entries_id_four_bytes(struct slice_u16 items, uint64_t used) {
+    return (struct entries_id_IdRead){.tag = entries_id_IdRead_Id,
+            .u.Id = {.track = (uint8_t)items.at[4], .side = (uint8_t)items.at[5], .sector = (uint8_t)items.at[6],
+            .code = (uint8_t)items.at[7], .used = used}};
+}
+
+/* entries::opening::greater, crates/entries/src/opening.rt */
+static uint16_t entries_opening_greater(uint16_t a, uint16_t b) {
+    if (a < b) return b;
+    return a;
+}
+
+/*
+ * entries::opening::all_cells, crates/entries/src/opening.rt
+ * Whether all are cells: none is further past Min than Rpt is, where one below Min wraps to above all others. With no
+ * jump for any, so that it is told in vector instructions.
+ */
+static bool entries_opening_all_cells(struct timing_Profile p, struct slice_u16 intervals) {
+    uint16_t min = p.min.f0;
+    uint16_t most = 0;
+    uint64_t k = 0;
+    while (k < intervals.len) {
+        most = entries_opening_greater(most, std_num_wrapping_sub_u16(intervals.at[k], min));
+        k++;
+    }
+    return most < p.rpt.f0 - min;
+}
+
+/* entries::opening::opens_with, crates/entries/src/opening.rt */
+static bool entries_opening_opens_with(struct slice_u16 items, uint16_t kind) {
+    return (items.at[0] == 417) & (items.at[1] == 417) & (items.at[2] == 417) & (items.at[3] == kind);
+}
+
+/* entries::id::is_identity, crates/entries/src/id.rt: FE and four data bytes, the last a length code. */
+static bool entries_id_is_identity(struct slice_u16 items) {
+    bool t2 = entries_opening_opens_with(items, 254);
+    return t2 & (items.at[4] < 256) & (items.at[5] < 256) & (items.at[6] < 256) & (items.at[7] <= 3);
+}
+
+/* entries::id::identify, crates/entries/src/id.rt */
+static struct entries_id_IdRead entries_id_identify(struct slice_u16 items, uint64_t used) {
+    if (entries_id_is_identity(items)) return entries_id_four_bytes(items, used);
+    return (struct entries_id_IdRead){.tag = entries_id_IdRead_NoId};
+}
+
+/*
+ * entries::opening::read_marked, crates/entries/src/opening.rt
+ * A field of n bytes, the first of which are handed over; the intervals begin at a lock.
+ */
+static struct entries_opening_Opened entries_opening_read_marked(struct timing_Profile p, struct slice_u16 intervals,
+        uint64_t n, uint16_t kind, struct slice_u16_mut items) {
+    struct fields_reader_FieldRead t8 = fields_reader_read_in_place(p, intervals, n, items);
+    if (t8.tag == fields_reader_FieldRead_Refused) {
+        return (struct entries_opening_Opened){.tag = entries_opening_Opened_NoField};
+    }
+    uint64_t used = t8.u.Field.used;
+    bool holds = t8.u.Field.holds;
+    if (entries_opening_opens_with(slice_u16(items.at, items.len), kind)) {
+        return (struct entries_opening_Opened){.tag = entries_opening_Opened_Field,
+                .u.Field = {.used = used, .holds = holds}};
+    }
+    return (struct entries_opening_Opened){.tag = entries_opening_Opened_NoField};
+}
+
+/*
+ * entries::opening::read_sound, crates/entries/src/opening.rt
+ * A field uses 4 n intervals at least, as a cell gives two bits at most. Where one of so many is no cell it does not
+ * read, which is told in a small part of the time that reading takes.
+ */
+static struct entries_opening_Opened entries_opening_read_sound(struct timing_Profile p, struct slice_u16 intervals,
+        uint64_t n, uint16_t kind, struct slice_u16_mut items) {
+    uint64_t front = lists_at_most(4 * n, intervals.len);
+    if (entries_opening_all_cells(p, slice_u16(intervals.at, front))) {
+        return entries_opening_read_marked(p, intervals, n, kind, items);
+    }
+    return (struct entries_opening_Opened){.tag = entries_opening_Opened_NoField};
+}
+
+/*
+ * entries::opening::read_opened, crates/entries/src/opening.rt
+ * Most of what a lock precedes on a worn track is seen to be no field of a sector by its first intervals.
+ */
+static struct entries_opening_Opened entries_opening_read_opened(struct timing_Profile p, struct slice_u16 intervals,
+        uint64_t n, uint16_t kind, struct slice_u16_mut items) {
+    if (locks_finder_three_marks_ahead(p, intervals)) {
+        return entries_opening_read_sound(p, intervals, n, kind, items);
+    }
+    return (struct entries_opening_Opened){.tag = entries_opening_Opened_NoField};
+}
+
+/*
+ * entries::content::read_data, crates/entries/src/content.rt
+ * As many bytes as three marks, FB, the data of the code and two check bytes are. The first four tell what it is.
+ */
+static struct entries_opening_Opened entries_content_read_data(struct timing_Profile p, struct slice_u16 intervals,
+        uint8_t code) {
+    uint64_t n = sectors_sector_size(code) + 6;
+    struct array_u16_4 items = {0};
+    return entries_opening_read_opened(p, intervals, n, 251, slice_u16_mut(items.a, 4));
+}
+
+/*
+ * entries::content::find_data, crates/entries/src/content.rt
+ * Searched after the intervals that the ID used, from `start` on.
+ */
+static struct entries_content_Sought entries_content_find_data(struct timing_Profile p, struct slice_u16 intervals,
+        uint64_t start, uint8_t code) {
+    struct refusal_Counted t8 = locks_finder_search(p, intervals, start);
+    if (t8.tag == refusal_Counted_Refused) {
+        return (struct entries_content_Sought){.field = {.tag = entries_DataField_Missing}, .end = start};
+    }
+    uint64_t k = t8.u.Count;
+    struct entries_opening_Opened t11 =
+            entries_content_read_data(p, slice_u16(intervals.at + k, intervals.len - k), code);
+    if (t11.tag == entries_opening_Opened_NoField) {
+        return (struct entries_content_Sought){.field = {.tag = entries_DataField_Missing}, .end = start};
+    }
+    return (struct entries_content_Sought){.field = {.tag = entries_DataField_Found,
+            .u.Found = {.place = k, .holds = t11.u.Field.holds}}, .end = k + t11.u.Field.used};
+}
+
+/* entries::id::read_id, crates/entries/src/id.rt: The intervals begin at a lock. */
+static struct entries_id_IdRead entries_id_read_id(struct timing_Profile p, struct slice_u16 intervals) {
+    struct array_u16_10 items = {0};
+    struct entries_opening_Opened t6 = entries_opening_read_opened(p, intervals, 10, 254, slice_u16_mut(items.a, 10));
+    if (t6.tag == entries_opening_Opened_NoField) {
+        return (struct entries_id_IdRead){.tag = entries_id_IdRead_NoId};
+    }
+    uint64_t used = t6.u.Field.used;
+    if (t6.u.Field.holds) return entries_id_identify(slice_u16(items.a, 10), used);
+    return (struct entries_id_IdRead){.tag = entries_id_IdRead_NoId};
+}
+
+/*
+ * entries::look_at, crates/entries/src/lib.rt
+ * What begins at the lock at k. The next search starts after the last field of the entry, or else at the place after
+ * the lock.
+ */
+static struct entries_Step entries_look_at(struct timing_Profile p, struct slice_u16 intervals, uint64_t k) {
+    struct entries_id_IdRead t12 = entries_id_read_id(p, slice_u16(intervals.at + k, intervals.len - k));
+    if (t12.tag == entries_id_IdRead_NoId) {
+        return (struct entries_Step){.tag = entries_Step_Other, .u.Other = {.next = k + 1}};
+    }
+    uint8_t code = t12.u.Id.code;
+    struct entries_content_Sought sought = entries_content_find_data(p, intervals, k + t12.u.Id.used, code);
+    struct entries_DataField field = sought.field;
+    struct entries_Entry entry = {.track = t12.u.Id.track, .side = t12.u.Id.side, .sector = t12.u.Id.sector,
+            .code = code, .place = k, .field = field};
+    return (struct entries_Step){.tag = entries_Step_Begins, .u.Begins = {.entry = entry, .next = sought.end}};
+}
+
+/*
+ * entries::find_entry, crates/entries/src/lib.rt
+ * One search, from `start` on. The next starts at least 64 intervals after this one, so that they come to an end.
+ */
+static struct entries_Step entries_find_entry(struct timing_Profile p, struct slice_u16 intervals, uint64_t start) {
+    struct refusal_Counted t5 = locks_finder_search(p, intervals, start);
+    if (t5.tag == refusal_Counted_Refused) return (struct entries_Step){.tag = entries_Step_End};
+    return entries_look_at(p, intervals, t5.u.Count);
+}
+
+/* The crate pace */
+
+/* pace::corrected, crates/pace/src/lib.rt: An interval at the pace of a sum, cut off. */
+static uint16_t pace_corrected(uint32_t nominal, uint32_t sum, uint16_t interval) {
+    uint32_t number = ((uint32_t)interval * nominal) / sum;
+    if (65535 < number) return 65535;
+    return (uint16_t)number;
+}
+
+/* pace::Pace::correct, crates/pace/src/lib.rt: Intervals of which the first is even: the two sums take turns. */
+static void pace_Pace_correct(struct pace_Pace self, struct slice_u16 intervals, struct slice_u16_mut out) {
+    uint32_t nominal = self.nominal;
+    uint32_t own = self.even;
+    uint32_t other = self.odd;
+    uint64_t k = 0;
+    while (k < intervals.len) {
+        out.at[k] = pace_corrected(nominal, own, intervals.at[k]);
+        uint32_t next = other;
+        other = own;
+        own = next;
+        k++;
+    }
+}
+
+/* pace::difference, crates/pace/src/lib.rt: The signed difference of a sum to 32 × T1. */
+static uint32_t pace_difference(uint32_t nominal, uint32_t sum) {
+    return (uint32_t)((uint32_t)sum - (uint32_t)nominal);
+}
+
+/* pace::Pace::measured, crates/pace/src/lib.rt: Of 64 intervals. */
+static struct pace_Pace pace_Pace_measured(struct timing_HalfClocks t1, struct slice_u16 run) {
+    uint32_t even = 0;
+    uint32_t odd = 0;
+    uint64_t k = 0;
+    while (k < 64) {
+        even += (uint32_t)run.at[k];
+        odd += (uint32_t)run.at[k + 1];
+        k += 2;
+    }
+    return (struct pace_Pace){.nominal = 32 * (uint32_t)t1.f0, .even = even, .odd = odd};
+}
+
+/* pace::off_speed, crates/pace/src/lib.rt: 16 × the difference, sign dropped, exceeds 32 × T1. */
+static bool pace_off_speed(uint32_t nominal, uint32_t sum) {
+    if (sum < nominal) return nominal < 16 * (nominal - sum);
+    return nominal < 16 * (sum - nominal);
+}
+
+/* pace::Pace::check, crates/pace/src/lib.rt: 18, off speed: the even ones, then the odd. */
+static struct refusal_Verdict pace_Pace_check(struct pace_Pace self) {
+    if (pace_off_speed(self.nominal, self.even)) {
+        return (struct refusal_Verdict){.tag = refusal_Verdict_Refused,
+                .u.Refused = {.tag = refusal_Refusal_OffSpeed, .u.OffSpeed = 0}};
+    }
+    if (pace_off_speed(self.nominal, self.odd)) {
+        return (struct refusal_Verdict){.tag = refusal_Verdict_Refused,
+                .u.Refused = {.tag = refusal_Refusal_OffSpeed, .u.OffSpeed = 1}};
+    }
+    return (struct refusal_Verdict){.tag = refusal_Verdict_Accepted};
+}
+
 /* The crate report */
 
 /* report::check_list, crates/report/src/lib.rt: Whether a list of intervals has a report: 1, 2, 4. */
@@ -3291,9 +3516,9 @@ static struct array_u64_4_5 report_report_list(struct timing_Profile p, struct s
 /* The crate track */
 
 /* track::index::converted, crates/track/src/index.rt */
-static ism_index_entry track_index_converted(struct track_Entry entry) {
-    struct track_DataField field = entry.field;
-    if (field.tag == track_DataField_Found) {
+static ism_index_entry track_index_converted(struct entries_Entry entry) {
+    struct entries_DataField field = entry.field;
+    if (field.tag == entries_DataField_Found) {
         return (ism_index_entry){.id_place = entry.place, .data_place = field.u.Found.place, .track = entry.track,
                 .side = entry.side, .sector = entry.sector, .code = entry.code, .found = 1,
                 .holds = (uint8_t)field.u.Found.holds};
@@ -3302,177 +3527,10 @@ static ism_index_entry track_index_converted(struct track_Entry entry) {
             .sector = entry.sector, .code = entry.code, .found = 0, .holds = 0};
 }
 
-/* track::set::entry_size, crates/track/src/set.rt */
-static uint64_t track_set_entry_size(ism_index_entry entry) {
-    if (entry.found == 0) return 0;
-    return 3 + sectors_sector_size(entry.code);
-}
-
-/* track::id::four_bytes, crates/track/src/id.rt: The four bytes fit a byte each, since they are data bytes. */
-static struct track_id_IdRead track_id_four_bytes(struct slice_u16 items, uint64_t used) {
-    return (struct track_id_IdRead){.tag = track_id_IdRead_Id,
-            .u.Id = {.track = (uint8_t)items.at[4], .side = (uint8_t)items.at[5], .sector = (uint8_t)items.at[6],
-            .code = (uint8_t)items.at[7], .used = used}};
-}
-
 /* track::order::goes_before, crates/track/src/order.rt */
 static bool track_order_goes_before(ism_index_entry a, ism_index_entry b) {
     if (a.sector == b.sector) return a.id_place < b.id_place;
     return a.sector < b.sector;
-}
-
-/* track::opening::greater, crates/track/src/opening.rt */
-static uint16_t track_opening_greater(uint16_t a, uint16_t b) {
-    if (a < b) return b;
-    return a;
-}
-
-/*
- * track::opening::all_cells, crates/track/src/opening.rt
- * Whether all are cells: none is further past Min than Rpt is, where one below Min wraps to above all others. With no
- * jump for any, so that it is told in vector instructions.
- */
-static bool track_opening_all_cells(struct timing_Profile p, struct slice_u16 intervals) {
-    uint16_t min = p.min.f0;
-    uint16_t most = 0;
-    uint64_t k = 0;
-    while (k < intervals.len) {
-        most = track_opening_greater(most, std_num_wrapping_sub_u16(intervals.at[k], min));
-        k++;
-    }
-    return most < p.rpt.f0 - min;
-}
-
-/* track::opening::opens_with, crates/track/src/opening.rt */
-static bool track_opening_opens_with(struct slice_u16 items, uint16_t kind) {
-    return (items.at[0] == 417) & (items.at[1] == 417) & (items.at[2] == 417) & (items.at[3] == kind);
-}
-
-/* track::id::is_identity, crates/track/src/id.rt: FE and four data bytes, the last a length code. */
-static bool track_id_is_identity(struct slice_u16 items) {
-    bool t2 = track_opening_opens_with(items, 254);
-    return t2 & (items.at[4] < 256) & (items.at[5] < 256) & (items.at[6] < 256) & (items.at[7] <= 3);
-}
-
-/* track::id::identify, crates/track/src/id.rt */
-static struct track_id_IdRead track_id_identify(struct slice_u16 items, uint64_t used) {
-    if (track_id_is_identity(items)) return track_id_four_bytes(items, used);
-    return (struct track_id_IdRead){.tag = track_id_IdRead_NoId};
-}
-
-/*
- * track::opening::read_marked, crates/track/src/opening.rt
- * A field of n bytes, the first of which are handed over; the intervals begin at a lock.
- */
-static struct track_opening_Opened track_opening_read_marked(struct timing_Profile p, struct slice_u16 intervals,
-        uint64_t n, uint16_t kind, struct slice_u16_mut items) {
-    struct fields_reader_FieldRead t8 = fields_reader_read_in_place(p, intervals, n, items);
-    if (t8.tag == fields_reader_FieldRead_Refused) {
-        return (struct track_opening_Opened){.tag = track_opening_Opened_NoField};
-    }
-    uint64_t used = t8.u.Field.used;
-    bool holds = t8.u.Field.holds;
-    if (track_opening_opens_with(slice_u16(items.at, items.len), kind)) {
-        return (struct track_opening_Opened){.tag = track_opening_Opened_Field,
-                .u.Field = {.used = used, .holds = holds}};
-    }
-    return (struct track_opening_Opened){.tag = track_opening_Opened_NoField};
-}
-
-/*
- * track::opening::read_sound, crates/track/src/opening.rt
- * A field uses 4 n intervals at least, as a cell gives two bits at most. Where one of so many is no cell it does not
- * read, which is told in a small part of the time that reading takes.
- */
-static struct track_opening_Opened track_opening_read_sound(struct timing_Profile p, struct slice_u16 intervals,
-        uint64_t n, uint16_t kind, struct slice_u16_mut items) {
-    uint64_t front = lists_at_most(4 * n, intervals.len);
-    if (track_opening_all_cells(p, slice_u16(intervals.at, front))) {
-        return track_opening_read_marked(p, intervals, n, kind, items);
-    }
-    return (struct track_opening_Opened){.tag = track_opening_Opened_NoField};
-}
-
-/*
- * track::opening::read_opened, crates/track/src/opening.rt
- * Most of what a lock precedes on a worn track is seen to be no field of a sector by its first intervals.
- */
-static struct track_opening_Opened track_opening_read_opened(struct timing_Profile p, struct slice_u16 intervals,
-        uint64_t n, uint16_t kind, struct slice_u16_mut items) {
-    if (locks_finder_three_marks_ahead(p, intervals)) {
-        return track_opening_read_sound(p, intervals, n, kind, items);
-    }
-    return (struct track_opening_Opened){.tag = track_opening_Opened_NoField};
-}
-
-/*
- * track::content::read_data, crates/track/src/content.rt
- * As many bytes as three marks, FB, the data of the code and two check bytes are. The first four tell what it is.
- */
-static struct track_opening_Opened track_content_read_data(struct timing_Profile p, struct slice_u16 intervals,
-        uint8_t code) {
-    uint64_t n = sectors_sector_size(code) + 6;
-    struct array_u16_4 items = {0};
-    return track_opening_read_opened(p, intervals, n, 251, slice_u16_mut(items.a, 4));
-}
-
-/*
- * track::content::find_data, crates/track/src/content.rt
- * Searched after the intervals that the ID used, from `start` on.
- */
-static struct track_content_Sought track_content_find_data(struct timing_Profile p, struct slice_u16 intervals,
-        uint64_t start, uint8_t code) {
-    struct refusal_Counted t8 = locks_finder_search(p, intervals, start);
-    if (t8.tag == refusal_Counted_Refused) {
-        return (struct track_content_Sought){.field = {.tag = track_DataField_Missing}, .end = start};
-    }
-    uint64_t k = t8.u.Count;
-    struct track_opening_Opened t11 = track_content_read_data(p, slice_u16(intervals.at + k, intervals.len - k), code);
-    if (t11.tag == track_opening_Opened_NoField) {
-        return (struct track_content_Sought){.field = {.tag = track_DataField_Missing}, .end = start};
-    }
-    return (struct track_content_Sought){.field = {.tag = track_DataField_Found,
-            .u.Found = {.place = k, .holds = t11.u.Field.holds}}, .end = k + t11.u.Field.used};
-}
-
-/* track::id::read_id, crates/track/src/id.rt: The intervals begin at a lock. */
-static struct track_id_IdRead track_id_read_id(struct timing_Profile p, struct slice_u16 intervals) {
-    struct array_u16_10 items = {0};
-    struct track_opening_Opened t6 = track_opening_read_opened(p, intervals, 10, 254, slice_u16_mut(items.a, 10));
-    if (t6.tag == track_opening_Opened_NoField) {
-        return (struct track_id_IdRead){.tag = track_id_IdRead_NoId};
-    }
-    uint64_t used = t6.u.Field.used;
-    if (t6.u.Field.holds) return track_id_identify(slice_u16(items.a, 10), used);
-    return (struct track_id_IdRead){.tag = track_id_IdRead_NoId};
-}
-
-/*
- * track::look_at, crates/track/src/lib.rt
- * What begins at the lock at k. The next search starts after the last field of the entry, or else at the place after
- * the lock.
- */
-static struct track_Step track_look_at(struct timing_Profile p, struct slice_u16 intervals, uint64_t k) {
-    struct track_id_IdRead t12 = track_id_read_id(p, slice_u16(intervals.at + k, intervals.len - k));
-    if (t12.tag == track_id_IdRead_NoId) {
-        return (struct track_Step){.tag = track_Step_Other, .u.Other = {.next = k + 1}};
-    }
-    uint8_t code = t12.u.Id.code;
-    struct track_content_Sought sought = track_content_find_data(p, intervals, k + t12.u.Id.used, code);
-    struct track_DataField field = sought.field;
-    struct track_Entry entry = {.track = t12.u.Id.track, .side = t12.u.Id.side, .sector = t12.u.Id.sector, .code = code,
-            .place = k, .field = field};
-    return (struct track_Step){.tag = track_Step_Begins, .u.Begins = {.entry = entry, .next = sought.end}};
-}
-
-/*
- * track::find_entry, crates/track/src/lib.rt
- * One search, from `start` on. The next starts at least 64 intervals after this one, so that they come to an end.
- */
-static struct track_Step track_find_entry(struct timing_Profile p, struct slice_u16 intervals, uint64_t start) {
-    struct refusal_Counted t5 = locks_finder_search(p, intervals, start);
-    if (t5.tag == refusal_Counted_Refused) return (struct track_Step){.tag = track_Step_End};
-    return track_look_at(p, intervals, t5.u.Count);
 }
 
 /*
@@ -3491,17 +3549,17 @@ static ism_index track_index_index_track(struct timing_Profile p, struct slice_u
     } else {
         struct refusal_Counted t17;
         for (;;) {
-            struct track_Step t18 = track_find_entry(p, intervals, start);
+            struct entries_Step t18 = entries_find_entry(p, intervals, start);
             switch (t18.tag) {
-            case track_Step_End: {
+            case entries_Step_End: {
                 t17 = (struct refusal_Counted){.tag = refusal_Counted_Count, .u.Count = count};
                 goto done_1;
             }
-            case track_Step_Other: {
+            case entries_Step_Other: {
                 start = t18.u.Other.next;
                 break;
             }
-            default: { /* track_Step_Begins */
+            default: { /* entries_Step_Begins */
                 if (count == 32) {
                     entries = (struct array_track_index_IndexEntry_32){0};
                     t17 = (struct refusal_Counted){.tag = refusal_Counted_Refused,
@@ -3542,8 +3600,16 @@ static ism_index track_index_index_track(struct timing_Profile p, struct slice_u
     return result;
 }
 
+/* The crate track_set */
+
+/* track_set::entry_size, crates/track_set/src/lib.rt */
+static uint64_t track_set_entry_size(ism_index_entry entry) {
+    if (entry.found == 0) return 0;
+    return 3 + sectors_sector_size(entry.code);
+}
+
 /*
- * track::set::store_entry, crates/track/src/set.rt
+ * track_set::store_entry, crates/track_set/src/lib.rt
  * Number, code, whether its sum holds, and the data: read once more, since the index has kept none of it.
  */
 static void track_set_store_entry(struct timing_Profile p, struct slice_u16 intervals, ism_index_entry entry,
@@ -3562,7 +3628,7 @@ static void track_set_store_entry(struct timing_Profile p, struct slice_u16 inte
 }
 
 /*
- * track::set::read_track, crates/track/src/set.rt
+ * track_set::read_track, crates/track_set/src/lib.rt
  * 1, 2, 15, 9. On acceptance the set fills the front of the output, in the index's order.
  */
 static struct track_set_TrackSet track_set_read_track(struct timing_Profile p, struct slice_u16 intervals,
@@ -4775,36 +4841,6 @@ static struct limits_Held limits_margin_limits(struct timing_Profile p) {
 
 /* The crate speed */
 
-/* speed::pace::corrected, crates/speed/src/pace.rt: An interval at the pace of a sum, cut off. */
-static uint16_t speed_pace_corrected(uint32_t nominal, uint32_t sum, uint16_t interval) {
-    uint32_t number = ((uint32_t)interval * nominal) / sum;
-    if (65535 < number) return 65535;
-    return (uint16_t)number;
-}
-
-/*
- * speed::pace::Pace::correct, crates/speed/src/pace.rt
- * Intervals of which the first is even: the two sums take turns.
- */
-static void speed_pace_Pace_correct(struct speed_pace_Pace self, struct slice_u16 intervals, struct slice_u16_mut out) {
-    uint32_t nominal = self.nominal;
-    uint32_t own = self.even;
-    uint32_t other = self.odd;
-    uint64_t k = 0;
-    while (k < intervals.len) {
-        out.at[k] = speed_pace_corrected(nominal, own, intervals.at[k]);
-        uint32_t next = other;
-        other = own;
-        own = next;
-        k++;
-    }
-}
-
-/* speed::pace::difference, crates/speed/src/pace.rt: The signed difference of a sum to 32 × T1. */
-static uint32_t speed_pace_difference(uint32_t nominal, uint32_t sum) {
-    return (uint32_t)((uint32_t)sum - (uint32_t)nominal);
-}
-
 /*
  * speed::gather::edges_after, crates/speed/src/gather.rt
  * The first interval that is no cell, in all before or in these.
@@ -4815,38 +4851,6 @@ static struct refusal_Verdict speed_gather_edges_after(struct refusal_Verdict be
         return (struct refusal_Verdict){.tag = refusal_Verdict_Refused, .u.Refused = before.u.Refused};
     }
     return intervals_edges_check_edges_from(start, from, intervals);
-}
-
-/* speed::pace::Pace::measured, crates/speed/src/pace.rt: Of 64 intervals. */
-static struct speed_pace_Pace speed_pace_Pace_measured(struct timing_HalfClocks t1, struct slice_u16 run) {
-    uint32_t even = 0;
-    uint32_t odd = 0;
-    uint64_t k = 0;
-    while (k < 64) {
-        even += (uint32_t)run.at[k];
-        odd += (uint32_t)run.at[k + 1];
-        k += 2;
-    }
-    return (struct speed_pace_Pace){.nominal = 32 * (uint32_t)t1.f0, .even = even, .odd = odd};
-}
-
-/* speed::pace::off_speed, crates/speed/src/pace.rt: 16 × the difference, sign dropped, exceeds 32 × T1. */
-static bool speed_pace_off_speed(uint32_t nominal, uint32_t sum) {
-    if (sum < nominal) return nominal < 16 * (nominal - sum);
-    return nominal < 16 * (sum - nominal);
-}
-
-/* speed::pace::Pace::check, crates/speed/src/pace.rt: 18, off speed: the even ones, then the odd. */
-static struct refusal_Verdict speed_pace_Pace_check(struct speed_pace_Pace self) {
-    if (speed_pace_off_speed(self.nominal, self.even)) {
-        return (struct refusal_Verdict){.tag = refusal_Verdict_Refused,
-                .u.Refused = {.tag = refusal_Refusal_OffSpeed, .u.OffSpeed = 0}};
-    }
-    if (speed_pace_off_speed(self.nominal, self.odd)) {
-        return (struct refusal_Verdict){.tag = refusal_Verdict_Refused,
-                .u.Refused = {.tag = refusal_Refusal_OffSpeed, .u.OffSpeed = 1}};
-    }
-    return (struct refusal_Verdict){.tag = refusal_Verdict_Accepted};
 }
 
 /*
@@ -4885,13 +4889,12 @@ static struct speed_gather_Along speed_gather_Along_next(struct speed_gather_Alo
 }
 
 /* speed::gather::Along::advance, crates/speed/src/gather.rt: With the next block of a list, corrected. */
-static struct speed_gather_Along speed_gather_Along_advance(struct speed_gather_Along self, struct speed_pace_Pace pace,
+static struct speed_gather_Along speed_gather_Along_advance(struct speed_gather_Along self, struct pace_Pace pace,
         struct slice_u16 intervals, uint32_t n, struct slice_u16_mut out) {
     struct array_u16_64 block = {0};
     uint64_t from = self.at.pass.used;
     uint64_t count = lists_at_most(64, intervals.len - from);
-    struct slice_u16_mut t17 = slice_u16_mut(block.a, count);
-    speed_pace_Pace_correct(pace, slice_u16(intervals.at + from, from + count - from), t17);
+    pace_Pace_correct(pace, slice_u16(intervals.at + from, from + count - from), slice_u16_mut(block.a, count));
     return speed_gather_Along_next(self, slice_u16(block.a, count), n, out);
 }
 
@@ -4908,7 +4911,7 @@ static struct speed_gather_Along speed_gather_Along_start(struct timing_Profile 
  * speed::gather::pass_over, crates/speed/src/gather.rt
  * One pass over the corrected intervals of n bytes, each taken as a cell.
  */
-static struct speed_gather_Along speed_gather_pass_over(struct timing_Profile p, struct speed_pace_Pace pace,
+static struct speed_gather_Along speed_gather_pass_over(struct timing_Profile p, struct pace_Pace pace,
         struct slice_u16 intervals, uint32_t n, struct slice_u16_mut out) {
     struct speed_gather_Along along = speed_gather_Along_start(p);
     while (intervals_block_Progress_goes_on(along.at, n, intervals.len)) {
@@ -4921,7 +4924,7 @@ static struct speed_gather_Along speed_gather_pass_over(struct timing_Profile p,
  * speed::gather::gather, crates/speed/src/gather.rt
  * A field of n bytes. An interval among the used ones that is no cell comes before all else.
  */
-static struct speed_gather_Gathered speed_gather_gather(struct timing_Profile p, struct speed_pace_Pace pace,
+static struct speed_gather_Gathered speed_gather_gather(struct timing_Profile p, struct pace_Pace pace,
         struct slice_u16 intervals, uint32_t n, struct slice_u16_mut out) {
     struct speed_gather_Along along = speed_gather_pass_over(p, pace, intervals, n, out);
     struct intervals_Pass pass = along.at.pass;
@@ -4943,15 +4946,14 @@ static struct speed_reader_Corrected speed_reader_turn_away(struct refusal_Refus
 }
 
 /* speed::reader::told, crates/speed/src/reader.rt: A field with the lock's place and the differences. */
-static struct speed_reader_Corrected speed_reader_told(struct speed_pace_Pace pace, uint64_t lock,
+static struct speed_reader_Corrected speed_reader_told(struct pace_Pace pace, uint64_t lock,
         struct clearance_ClearFieldRead field) {
     struct fields_reader_FieldRead read = field.read;
     if (read.tag == fields_reader_FieldRead_Refused) return speed_reader_turn_away(read.u.Refused);
-    uint32_t t11 = speed_pace_difference(pace.nominal, pace.even);
+    uint32_t t11 = pace_difference(pace.nominal, pace.even);
     return (struct speed_reader_Corrected){.read = {.tag = fields_reader_FieldRead_Field,
             .u.Field = {.count = read.u.Field.count, .used = read.u.Field.used, .holds = read.u.Field.holds}},
-            .clearance = field.clearance, .lock = lock, .even = t11,
-            .odd = speed_pace_difference(pace.nominal, pace.odd)};
+            .clearance = field.clearance, .lock = lock, .even = t11, .odd = pace_difference(pace.nominal, pace.odd)};
 }
 
 /*
@@ -4973,7 +4975,7 @@ static struct clearance_ClearFieldRead speed_reader_with_clearance(struct fields
  * speed::reader::read_into, crates/speed/src/reader.rt
  * The items wait in a buffer, as a refusal changes nothing that was lent.
  */
-static struct clearance_ClearFieldRead speed_reader_read_into(struct timing_Profile p, struct speed_pace_Pace pace,
+static struct clearance_ClearFieldRead speed_reader_read_into(struct timing_Profile p, struct pace_Pace pace,
         struct slice_u16 intervals, uint64_t n, struct slice_u16_mut buffer, struct slice_u16_mut out) {
     struct speed_gather_Gathered gathered = speed_gather_gather(p, pace, intervals, (uint32_t)n, buffer);
     struct refusal_Counted end = gathered.end;
@@ -4987,7 +4989,7 @@ static struct clearance_ClearFieldRead speed_reader_read_into(struct timing_Prof
 }
 
 /* speed::reader::read_checked, crates/speed/src/reader.rt: A short field has a short buffer. */
-static struct clearance_ClearFieldRead speed_reader_read_checked(struct timing_Profile p, struct speed_pace_Pace pace,
+static struct clearance_ClearFieldRead speed_reader_read_checked(struct timing_Profile p, struct pace_Pace pace,
         struct slice_u16 intervals, uint64_t n, struct slice_u16_mut out) {
     if (n <= 16) {
         struct array_u16_16 buffer = {0};
@@ -5001,7 +5003,7 @@ static struct clearance_ClearFieldRead speed_reader_read_checked(struct timing_P
  * speed::reader::read_slowed, crates/speed/src/reader.rt
  * 12, then as the field reader over the corrected intervals.
  */
-static struct clearance_ClearFieldRead speed_reader_read_slowed(struct timing_Profile p, struct speed_pace_Pace pace,
+static struct clearance_ClearFieldRead speed_reader_read_slowed(struct timing_Profile p, struct pace_Pace pace,
         struct slice_u16 intervals, uint64_t n, struct slice_u16_mut out) {
     if ((n < 1) | (1030 < n)) {
         struct fields_reader_FieldRead t10 =
@@ -5015,8 +5017,8 @@ static struct clearance_ClearFieldRead speed_reader_read_slowed(struct timing_Pr
 static struct speed_reader_Corrected speed_reader_read_at(struct timing_Profile p, struct slice_u16 intervals,
         uint64_t lock, uint64_t n, struct slice_u16_mut out) {
     uint64_t t9 = lock - 64;
-    struct speed_pace_Pace pace = speed_pace_Pace_measured(p.t1, slice_u16(intervals.at + t9, lock - t9));
-    struct refusal_Verdict t15 = speed_pace_Pace_check(pace);
+    struct pace_Pace pace = pace_Pace_measured(p.t1, slice_u16(intervals.at + t9, lock - t9));
+    struct refusal_Verdict t15 = pace_Pace_check(pace);
     if (t15.tag == refusal_Verdict_Refused) return speed_reader_turn_away(t15.u.Refused);
     struct clearance_ClearFieldRead field =
             speed_reader_read_slowed(p, pace, slice_u16(intervals.at + lock, intervals.len - lock), n, out);
@@ -5034,18 +5036,18 @@ static struct speed_reader_Corrected speed_reader_read_corrected(struct timing_P
     return speed_reader_read_at(p, intervals, t8.u.Count, n, out);
 }
 
-/* The crate ism */
+/* The crate answers */
 
-/* ism::answer, crates/ism/src/lib.rt */
-static ism_answer ism_answer_(struct refusal_Counted counted) {
+/* answers::answer, crates/answers/src/lib.rt */
+static ism_answer answers_answer(struct refusal_Counted counted) {
     uint32_t t2 = refusal_Counted_number(counted);
     uint32_t t3 = refusal_Counted_place(counted);
     return (ism_answer){.number = t2, .place = t3, .count = refusal_Counted_count(counted), .used = 0, .holds = 0,
             .clearance = 0};
 }
 
-/* ism::clear_answer, crates/ism/src/lib.rt: A class or a strip, with its clearance. */
-static ism_answer ism_clear_answer(struct clearance_ClearCount given) {
+/* answers::clear_answer, crates/answers/src/lib.rt: A class or a strip, with its clearance. */
+static ism_answer answers_clear_answer(struct clearance_ClearCount given) {
     struct refusal_Counted counted = given.counted;
     uint32_t t3 = refusal_Counted_number(counted);
     uint32_t t4 = refusal_Counted_place(counted);
@@ -5053,8 +5055,8 @@ static ism_answer ism_clear_answer(struct clearance_ClearCount given) {
             .clearance = (uint32_t)given.clearance};
 }
 
-/* ism::slow::corrected_answer, crates/ism/src/slow.rt */
-static ism_corrected ism_slow_corrected_answer(struct speed_reader_Corrected corrected) {
+/* answers::slow::corrected_answer, crates/answers/src/slow.rt */
+static ism_corrected answers_slow_corrected_answer(struct speed_reader_Corrected corrected) {
     struct fields_reader_FieldRead read = corrected.read;
     if (read.tag == fields_reader_FieldRead_Field) {
         return (ism_corrected){.number = 0, .place = 0, .lock = corrected.lock, .count = read.u.Field.count,
@@ -5069,8 +5071,8 @@ static ism_corrected ism_slow_corrected_answer(struct speed_reader_Corrected cor
             .odd = as_int32(corrected.odd)};
 }
 
-/* ism::card::edge_number, crates/ism/src/card.rt */
-static uint16_t ism_card_edge_number(struct limits_side_Edge edge) {
+/* answers::card::edge_number, crates/answers/src/card.rt */
+static uint16_t answers_card_edge_number(struct limits_side_Edge edge) {
     switch (edge.tag) {
     case limits_side_Edge_Min: return 1;
     case limits_side_Edge_B23: return 2;
@@ -5079,8 +5081,8 @@ static uint16_t ism_card_edge_number(struct limits_side_Edge edge) {
     }
 }
 
-/* ism::disk::field_answer, crates/ism/src/disk.rt */
-static ism_answer ism_disk_field_answer(struct clearance_ClearFieldRead field) {
+/* answers::field_answer, crates/answers/src/lib.rt */
+static ism_answer answers_field_answer(struct clearance_ClearFieldRead field) {
     struct fields_reader_FieldRead read = field.read;
     if (read.tag == fields_reader_FieldRead_Field) {
         return (ism_answer){.number = 0, .place = 0, .count = read.u.Field.count, .used = read.u.Field.used,
@@ -5090,6 +5092,152 @@ static ism_answer ism_disk_field_answer(struct clearance_ClearFieldRead field) {
     uint32_t t12 = refusal_Refusal_number(refusal);
     return (ism_answer){.number = t12, .place = refusal_Refusal_place(refusal), .count = 0, .used = 0, .holds = 0,
             .clearance = (uint32_t)field.clearance};
+}
+
+/* answers::card::kind_number, crates/answers/src/card.rt */
+static uint16_t answers_card_kind_number(struct limits_side_Kind after) {
+    switch (after.tag) {
+    case limits_side_Kind_Both: return 0;
+    case limits_side_Kind_Short: return 1;
+    default: return 2; /* limits_side_Kind_Long */
+    }
+}
+
+/* answers::merged_answer, crates/answers/src/lib.rt */
+static ism_answer answers_merged_answer(struct merge_Merged merged) {
+    if (merged.tag == merge_Merged_Set) {
+        return (ism_answer){.number = 0, .place = 0, .count = merged.u.Set.count, .used = merged.u.Set.bytes,
+                .holds = 0, .clearance = 0};
+    }
+    struct refusal_Refusal refusal = merged.u.Refused;
+    uint32_t t8 = refusal_Refusal_number(refusal);
+    return (ism_answer){.number = t8, .place = refusal_Refusal_place(refusal), .count = 0, .used = 0, .holds = 0,
+            .clearance = 0};
+}
+
+/* answers::drive::numbers, crates/answers/src/drive.rt */
+static struct array_u64_4 answers_drive_numbers(ism_report_row row) {
+    return (struct array_u64_4){{row.count, row.least, row.greatest, row.sum}};
+}
+
+/* answers::windows::numbers, crates/answers/src/windows.rt: A profile as it crosses the interface. */
+static ism_profile answers_windows_numbers(struct timing_Profile p) {
+    return (ism_profile){.t1 = p.t1.f0, .t0 = p.t0.f0, .early = p.early.f0, .normal = p.normal.f0, .late = p.late.f0,
+            .min = p.min.f0, .b23_short = p.short_.b23.f0, .b23_long = p.long_.b23.f0, .b34_short = p.short_.b34.f0,
+            .b34_long = p.long_.b34.f0, .rpt = p.rpt.f0};
+}
+
+/* answers::card::numbers_of, crates/answers/src/card.rt */
+static ism_limit answers_card_numbers_of(struct limits_Limit limit) {
+    struct limits_side_Side side = limit.side;
+    struct limits_side_Edge edge = side.edge;
+    struct limits_side_Kind after = side.after;
+    uint16_t t5 = answers_card_edge_number(edge);
+    return (ism_limit){.edge = t5, .after = answers_card_kind_number(after), .above = (uint16_t)side.above,
+            .item = limit.item, .interval = limit.interval, .moved = limit.moved};
+}
+
+/* answers::card::converted, crates/answers/src/card.rt: As many as are counted, in their places. */
+static struct array_answers_card_IsmLimit_10 answers_card_converted(struct array_limits_Limit_10 limits,
+        uint64_t count) {
+    struct array_answers_card_IsmLimit_10 made = {0};
+    uint64_t k = 0;
+    while (k < count) {
+        made.a[k] = answers_card_numbers_of(limits.a[k]);
+        k++;
+    }
+    return made;
+}
+
+/* answers::profile, crates/answers/src/lib.rt */
+static struct timing_Profile answers_profile(ism_profile p) {
+    struct array_u16_11 numbers =
+            {{p.t1, p.t0, p.early, p.normal, p.late, p.min, p.b23_short, p.b23_long, p.b34_short, p.b34_long, p.rpt}};
+    return timing_Profile_from_numbers(&numbers);
+}
+
+/* answers::drive::row, crates/answers/src/drive.rt */
+static ism_report_row answers_drive_row(struct array_u64_4 numbers) {
+    return (ism_report_row){.count = numbers.a[0], .least = numbers.a[1], .greatest = numbers.a[2],
+            .sum = numbers.a[3]};
+}
+
+/* answers::drive::given, crates/answers/src/drive.rt */
+static ism_report answers_drive_given(struct refusal_Verdict verdict, struct array_u64_4_5 report) {
+    ism_report_row t6 = answers_drive_row(report.a[0]);
+    ism_report_row t10 = answers_drive_row(report.a[1]);
+    ism_report_row t14 = answers_drive_row(report.a[2]);
+    ism_report_row t18 = answers_drive_row(report.a[3]);
+    struct array_answers_drive_IsmReportRow_5 rows = {{t6, t10, t14, t18, answers_drive_row(report.a[4])}};
+    ism_report t26;
+    if (verdict.tag == refusal_Verdict_Accepted) {
+        t26.number = 0;
+        t26.place = 0;
+        for (uint64_t each = 0; each < 5; each++) {
+            t26.rows[each] = rows.a[each];
+        }
+        return t26;
+    }
+    struct refusal_Refusal refusal = verdict.u.Refused;
+    uint32_t t27 = refusal_Refusal_number(refusal);
+    t26.number = t27;
+    t26.place = refusal_Refusal_place(refusal);
+    for (uint64_t each = 0; each < 5; each++) {
+        t26.rows[each] = rows.a[each];
+    }
+    return t26;
+}
+
+/*
+ * answers::drive::rows, crates/answers/src/drive.rt
+ * The rows of a report that came in, whatever its number and place.
+ */
+static struct array_u64_4_5 answers_drive_rows(ism_report report) {
+    struct array_answers_drive_IsmReportRow_5 rows;
+    for (uint64_t each = 0; each < 5; each++) {
+        rows.a[each] = report.rows[each];
+    }
+    struct array_u64_4 t3 = answers_drive_numbers(rows.a[0]);
+    struct array_u64_4 t7 = answers_drive_numbers(rows.a[1]);
+    struct array_u64_4 t11 = answers_drive_numbers(rows.a[2]);
+    struct array_u64_4 t15 = answers_drive_numbers(rows.a[3]);
+    return (struct array_u64_4_5){{t3, t7, t11, t15, answers_drive_numbers(rows.a[4])}};
+}
+
+/* The crate ism */
+
+/* ism::drive::ism_add_reports, crates/ism/src/drive.rt */
+static ism_report ism_drive_ism_add_reports(ism_report a, ism_report b) {
+    struct array_u64_4_5 first = answers_drive_rows(a);
+    struct array_u64_4_5 second = answers_drive_rows(b);
+    struct refusal_Verdict verdict = report_check_sum(first, second);
+    return answers_drive_given(verdict, report_add(first, second));
+}
+
+/*
+ * ism::windows::ism_best_windows, crates/ism/src/windows.rt
+ * 1, 2; else the profile with the largest margin that the five numbers allow, and that margin.
+ */
+static ism_best ism_windows_ism_best_windows(uint16_t t1, uint16_t t0, uint16_t early, uint16_t normal, uint16_t late) {
+    struct best_Writing t15 = {.t1 = {.f0 = t1}, .t0 = {.f0 = t0}, .early = {.f0 = early}, .normal = {.f0 = normal},
+            .late = {.f0 = late}};
+    struct best_Best best = best_best_windows(t15);
+    struct refusal_Counted counted = best.answer;
+    struct timing_Profile found = best.profile;
+    ism_answer told = answers_answer(counted);
+    return (ism_best){.number = told.number, .place = told.place, .margin = told.count,
+            .profile = answers_windows_numbers(found)};
+}
+
+/* ism::ism_class, crates/ism/src/lib.rt */
+static ism_answer ism_ism_class(ism_profile p, uint16_t interval, uint32_t two) {
+    return answers_clear_answer(clearance_class_number(answers_profile(p), interval, 0 < two));
+}
+
+/* ism::drive::ism_drive_report, crates/ism/src/drive.rt */
+static ism_report ism_drive_ism_drive_report(ism_profile p, struct slice_u16 intervals) {
+    struct refusal_Verdict verdict = report_check_list(answers_profile(p), intervals);
+    return answers_drive_given(verdict, report_report_list(answers_profile(p), intervals));
 }
 
 /* ism::queue::ism_fifo_chip_put, crates/ism/src/queue.rt */
@@ -5127,6 +5275,16 @@ static ism_fifo_answer ism_queue_ism_fifo_take_mark(ism_fifo queue) {
     return fifo_Fifo_take_mark(queue);
 }
 
+/* ism::disk::ism_find, crates/ism/src/disk.rt */
+static ism_answer ism_disk_ism_find(ism_profile p, struct slice_u16 intervals, uint64_t start) {
+    return answers_answer(locks_finder_find_lock(answers_profile(p), intervals, start));
+}
+
+/* ism::index::ism_index_track, crates/ism/src/index.rt */
+static ism_index ism_index_ism_index_track(ism_profile p, struct slice_u16 intervals) {
+    return track_index_index_track(answers_profile(p), intervals);
+}
+
 /*
  * ism::version::ism_interface_9, crates/ism/src/version.rt
  * Its name is what counts: a program asks the linker for the interface that it was compiled against.
@@ -5138,136 +5296,28 @@ static uint32_t ism_version_ism_interface_9(void) {
 /* ism::image::ism_make_image, crates/ism/src/image.rt */
 static ism_answer ism_image_ism_make_image(struct slice_u16 items, struct slice_u16_mut out) {
     struct refusal_Counted counted = images_make_make_image(items, out);
-    return ism_answer_(counted);
+    return answers_answer(counted);
 }
 
 /* ism::disk::ism_make_sector, crates/ism/src/disk.rt */
 static ism_answer ism_disk_ism_make_sector(uint8_t track, uint8_t side, uint8_t sector, uint8_t code,
         struct slice_u8 bytes, struct slice_u16_mut out) {
     struct refusal_Counted counted = sectors_make_sector(track, side, sector, code, bytes, out);
-    return ism_answer_(counted);
-}
-
-/* ism::image::ism_read_image, crates/ism/src/image.rt */
-static ism_answer ism_image_ism_read_image(struct slice_u16 words, struct slice_u16_mut out) {
-    struct refusal_Counted counted = images_read_read_image(words, out);
-    return ism_answer_(counted);
-}
-
-/* ism::version::ism_version, crates/ism/src/version.rt */
-static uint32_t ism_version_ism_version(void) {
-    return 1500;
-}
-
-/* ism::card::kind_number, crates/ism/src/card.rt */
-static uint16_t ism_card_kind_number(struct limits_side_Kind after) {
-    switch (after.tag) {
-    case limits_side_Kind_Both: return 0;
-    case limits_side_Kind_Short: return 1;
-    default: return 2; /* limits_side_Kind_Long */
-    }
-}
-
-/* ism::passes::merged_answer, crates/ism/src/passes.rt */
-static ism_answer ism_passes_merged_answer(struct merge_Merged merged) {
-    if (merged.tag == merge_Merged_Set) {
-        return (ism_answer){.number = 0, .place = 0, .count = merged.u.Set.count, .used = merged.u.Set.bytes,
-                .holds = 0, .clearance = 0};
-    }
-    struct refusal_Refusal refusal = merged.u.Refused;
-    uint32_t t8 = refusal_Refusal_number(refusal);
-    return (ism_answer){.number = t8, .place = refusal_Refusal_place(refusal), .count = 0, .used = 0, .holds = 0,
-            .clearance = 0};
-}
-
-/* ism::passes::ism_merge, crates/ism/src/passes.rt */
-static ism_answer ism_passes_ism_merge(struct slice_u8 first, struct slice_u8 second, struct slice_u8_mut out) {
-    struct merge_Merged merged = merge_merge_sets(first, second, out);
-    return ism_passes_merged_answer(merged);
-}
-
-/* ism::drive::numbers, crates/ism/src/drive.rt */
-static struct array_u64_4 ism_drive_numbers(ism_report_row row) {
-    return (struct array_u64_4){{row.count, row.least, row.greatest, row.sum}};
-}
-
-/* ism::windows::numbers, crates/ism/src/windows.rt: A profile as it crosses the interface. */
-static ism_profile ism_windows_numbers(struct timing_Profile p) {
-    return (ism_profile){.t1 = p.t1.f0, .t0 = p.t0.f0, .early = p.early.f0, .normal = p.normal.f0, .late = p.late.f0,
-            .min = p.min.f0, .b23_short = p.short_.b23.f0, .b23_long = p.long_.b23.f0, .b34_short = p.short_.b34.f0,
-            .b34_long = p.long_.b34.f0, .rpt = p.rpt.f0};
-}
-
-/*
- * ism::windows::ism_best_windows, crates/ism/src/windows.rt
- * 1, 2; else the profile with the largest margin that the five numbers allow, and that margin.
- */
-static ism_best ism_windows_ism_best_windows(uint16_t t1, uint16_t t0, uint16_t early, uint16_t normal, uint16_t late) {
-    struct best_Writing t15 = {.t1 = {.f0 = t1}, .t0 = {.f0 = t0}, .early = {.f0 = early}, .normal = {.f0 = normal},
-            .late = {.f0 = late}};
-    struct best_Best best = best_best_windows(t15);
-    struct refusal_Counted counted = best.answer;
-    struct timing_Profile found = best.profile;
-    ism_answer told = ism_answer_(counted);
-    return (ism_best){.number = told.number, .place = told.place, .margin = told.count,
-            .profile = ism_windows_numbers(found)};
-}
-
-/* ism::card::numbers_of, crates/ism/src/card.rt */
-static ism_limit ism_card_numbers_of(struct limits_Limit limit) {
-    struct limits_side_Side side = limit.side;
-    struct limits_side_Edge edge = side.edge;
-    struct limits_side_Kind after = side.after;
-    uint16_t t5 = ism_card_edge_number(edge);
-    return (ism_limit){.edge = t5, .after = ism_card_kind_number(after), .above = (uint16_t)side.above,
-            .item = limit.item, .interval = limit.interval, .moved = limit.moved};
-}
-
-/* ism::card::converted, crates/ism/src/card.rt: As many as are counted, in their places. */
-static struct array_ism_card_IsmLimit_10 ism_card_converted(struct array_limits_Limit_10 limits, uint64_t count) {
-    struct array_ism_card_IsmLimit_10 made = {0};
-    uint64_t k = 0;
-    while (k < count) {
-        made.a[k] = ism_card_numbers_of(limits.a[k]);
-        k++;
-    }
-    return made;
-}
-
-/* ism::profile, crates/ism/src/lib.rt */
-static struct timing_Profile ism_profile_(ism_profile p) {
-    struct array_u16_11 numbers =
-            {{p.t1, p.t0, p.early, p.normal, p.late, p.min, p.b23_short, p.b23_long, p.b34_short, p.b34_long, p.rpt}};
-    return timing_Profile_from_numbers(&numbers);
-}
-
-/* ism::ism_class, crates/ism/src/lib.rt */
-static ism_answer ism_ism_class(ism_profile p, uint16_t interval, uint32_t two) {
-    return ism_clear_answer(clearance_class_number(ism_profile_(p), interval, 0 < two));
-}
-
-/* ism::disk::ism_find, crates/ism/src/disk.rt */
-static ism_answer ism_disk_ism_find(ism_profile p, struct slice_u16 intervals, uint64_t start) {
-    return ism_answer_(locks_finder_find_lock(ism_profile_(p), intervals, start));
-}
-
-/* ism::index::ism_index_track, crates/ism/src/index.rt */
-static ism_index ism_index_ism_index_track(ism_profile p, struct slice_u16 intervals) {
-    return track_index_index_track(ism_profile_(p), intervals);
+    return answers_answer(counted);
 }
 
 /* ism::ism_margin, crates/ism/src/lib.rt */
 static ism_answer ism_ism_margin(ism_profile p) {
-    return ism_answer_(lengths_margin(ism_profile_(p)));
+    return answers_answer(lengths_margin(answers_profile(p)));
 }
 
 /* ism::card::ism_margin_limits, crates/ism/src/card.rt: 1, 2; else the sides that hold the margin down. */
 static ism_limits ism_card_ism_margin_limits(ism_profile p) {
-    struct limits_Held held = limits_margin_limits(ism_profile_(p));
+    struct limits_Held held = limits_margin_limits(answers_profile(p));
     struct refusal_Counted counted = held.answer;
     struct array_limits_Limit_10 found = held.limits;
-    ism_answer told = ism_answer_(counted);
-    struct array_ism_card_IsmLimit_10 limits = ism_card_converted(found, told.count);
+    ism_answer told = answers_answer(counted);
+    struct array_answers_card_IsmLimit_10 limits = answers_card_converted(found, told.count);
     ism_limits result;
     result.number = told.number;
     result.place = told.place;
@@ -5278,97 +5328,55 @@ static ism_limits ism_card_ism_margin_limits(ism_profile p) {
     return result;
 }
 
+/* ism::passes::ism_merge, crates/ism/src/passes.rt */
+static ism_answer ism_passes_ism_merge(struct slice_u8 first, struct slice_u8 second, struct slice_u8_mut out) {
+    struct merge_Merged merged = merge_merge_sets(first, second, out);
+    return answers_merged_answer(merged);
+}
+
 /* ism::ism_read, crates/ism/src/lib.rt */
 static ism_answer ism_ism_read(ism_profile p, struct slice_u16 intervals, struct slice_u16_mut out) {
-    struct clearance_ClearCount strip = clearance_read(ism_profile_(p), intervals, out);
-    return ism_clear_answer(strip);
+    struct clearance_ClearCount strip = clearance_read(answers_profile(p), intervals, out);
+    return answers_clear_answer(strip);
 }
 
 /* ism::slow::ism_read_corrected, crates/ism/src/slow.rt */
 static ism_corrected ism_slow_ism_read_corrected(ism_profile p, struct slice_u16 intervals, uint64_t start,
         uint64_t bytes, struct slice_u16_mut out) {
     struct speed_reader_Corrected corrected =
-            speed_reader_read_corrected(ism_profile_(p), intervals, start, bytes, out);
-    return ism_slow_corrected_answer(corrected);
+            speed_reader_read_corrected(answers_profile(p), intervals, start, bytes, out);
+    return answers_slow_corrected_answer(corrected);
 }
 
 /* ism::disk::ism_read_field, crates/ism/src/disk.rt */
 static ism_answer ism_disk_ism_read_field(ism_profile p, struct slice_u16 intervals, uint64_t bytes,
         struct slice_u16_mut out) {
-    struct clearance_ClearFieldRead field = clearance_read_field(ism_profile_(p), intervals, bytes, out);
-    return ism_disk_field_answer(field);
+    struct clearance_ClearFieldRead field = clearance_read_field(answers_profile(p), intervals, bytes, out);
+    return answers_field_answer(field);
+}
+
+/* ism::image::ism_read_image, crates/ism/src/image.rt */
+static ism_answer ism_image_ism_read_image(struct slice_u16 words, struct slice_u16_mut out) {
+    struct refusal_Counted counted = images_read_read_image(words, out);
+    return answers_answer(counted);
 }
 
 /* ism::index::ism_read_track, crates/ism/src/index.rt: The set of a track's sectors, for the merge. */
 static ism_answer ism_index_ism_read_track(ism_profile p, struct slice_u16 intervals, struct slice_u8_mut set) {
-    struct track_set_TrackSet read = track_set_read_track(ism_profile_(p), intervals, set);
+    struct track_set_TrackSet read = track_set_read_track(answers_profile(p), intervals, set);
     return (ism_answer){.number = read.number, .place = read.place, .count = read.count, .used = read.bytes, .holds = 0,
             .clearance = 0};
 }
 
+/* ism::version::ism_version, crates/ism/src/version.rt */
+static uint32_t ism_version_ism_version(void) {
+    return 1500;
+}
+
 /* ism::ism_write, crates/ism/src/lib.rt */
 static ism_answer ism_ism_write(ism_profile p, struct slice_u16 items, struct slice_u16_mut out) {
-    struct refusal_Counted counted = codec_writer_write(ism_profile_(p), items, out);
-    return ism_answer_(counted);
-}
-
-/* ism::drive::row, crates/ism/src/drive.rt */
-static ism_report_row ism_drive_row(struct array_u64_4 numbers) {
-    return (ism_report_row){.count = numbers.a[0], .least = numbers.a[1], .greatest = numbers.a[2],
-            .sum = numbers.a[3]};
-}
-
-/* ism::drive::given, crates/ism/src/drive.rt */
-static ism_report ism_drive_given(struct refusal_Verdict verdict, struct array_u64_4_5 report) {
-    ism_report_row t6 = ism_drive_row(report.a[0]);
-    ism_report_row t10 = ism_drive_row(report.a[1]);
-    ism_report_row t14 = ism_drive_row(report.a[2]);
-    ism_report_row t18 = ism_drive_row(report.a[3]);
-    struct array_ism_drive_IsmReportRow_5 rows = {{t6, t10, t14, t18, ism_drive_row(report.a[4])}};
-    ism_report t26;
-    if (verdict.tag == refusal_Verdict_Accepted) {
-        t26.number = 0;
-        t26.place = 0;
-        for (uint64_t each = 0; each < 5; each++) {
-            t26.rows[each] = rows.a[each];
-        }
-        return t26;
-    }
-    struct refusal_Refusal refusal = verdict.u.Refused;
-    uint32_t t27 = refusal_Refusal_number(refusal);
-    t26.number = t27;
-    t26.place = refusal_Refusal_place(refusal);
-    for (uint64_t each = 0; each < 5; each++) {
-        t26.rows[each] = rows.a[each];
-    }
-    return t26;
-}
-
-/* ism::drive::ism_drive_report, crates/ism/src/drive.rt */
-static ism_report ism_drive_ism_drive_report(ism_profile p, struct slice_u16 intervals) {
-    struct refusal_Verdict verdict = report_check_list(ism_profile_(p), intervals);
-    return ism_drive_given(verdict, report_report_list(ism_profile_(p), intervals));
-}
-
-/* ism::drive::rows, crates/ism/src/drive.rt: The rows of a report that came in, whatever its number and place. */
-static struct array_u64_4_5 ism_drive_rows(ism_report report) {
-    struct array_ism_drive_IsmReportRow_5 rows;
-    for (uint64_t each = 0; each < 5; each++) {
-        rows.a[each] = report.rows[each];
-    }
-    struct array_u64_4 t3 = ism_drive_numbers(rows.a[0]);
-    struct array_u64_4 t7 = ism_drive_numbers(rows.a[1]);
-    struct array_u64_4 t11 = ism_drive_numbers(rows.a[2]);
-    struct array_u64_4 t15 = ism_drive_numbers(rows.a[3]);
-    return (struct array_u64_4_5){{t3, t7, t11, t15, ism_drive_numbers(rows.a[4])}};
-}
-
-/* ism::drive::ism_add_reports, crates/ism/src/drive.rt */
-static ism_report ism_drive_ism_add_reports(ism_report a, ism_report b) {
-    struct array_u64_4_5 first = ism_drive_rows(a);
-    struct array_u64_4_5 second = ism_drive_rows(b);
-    struct refusal_Verdict verdict = report_check_sum(first, second);
-    return ism_drive_given(verdict, report_add(first, second));
+    struct refusal_Counted counted = codec_writer_write(answers_profile(p), items, out);
+    return answers_answer(counted);
 }
 
 /* The entries that ism.h declares. A slice of no elements points to something, as the caller's may be null. */

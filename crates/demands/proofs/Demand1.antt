@@ -36,8 +36,9 @@ use Rattle.merge.specs.Merge.{isCrowded, numbers, atOddsAt}
 use Rattle.merge.specs.Set.{isMisfitSet, sectorsIn}
 use Rattle.merge.specs.Rule.{roomRule as merge-room, mergeRule, mergeAnswer, mergeOutput}
 use Rattle.report.specs.Report.{reportRule, addRule}
-use Rattle.track.specs.Index.{entriesOf, crowdRule, indexRule}
-use Rattle.track.specs.TrackSectors.{trackRule, trackAnswer, trackOutput}
+use Rattle.entries.specs.Entries.{entriesOf}
+use Rattle.track.specs.Index.{crowdRule, indexRule}
+use Rattle.track_set.specs.TrackSectors.{trackRule, trackAnswer, trackOutput}
 use Rattle.limits.specs.Limits.{limitsRule}
 use Rattle.demands.specs.Order.{accept, turn, at0, Answers}
 use Rattle.demands.specs.Causes.{stripOrder}

@@ -14,7 +14,8 @@ use Rattle.locks.specs.Lock.{searchRule, findRule}
 use Rattle.fields.specs.Field.{fieldStop, fieldItems, fieldStray, fieldStrayPlace}
 use Rattle.fields.specs.FieldRule.{fieldRule}
 use Rattle.fields.proofs.FieldLaws.{field-items-count}
-use Rattle.speed.specs.Speed.{s0, s1, nominal, differs, offSpeed, paceRule, speedRule, correctedAt}
+use Rattle.pace.specs.Pace.{differs, offSpeed, paceRule}
+use Rattle.speed.specs.Speed.{s0, s1, nominal, speedRule, correctedAt}
 use Rattle.speed.specs.Reading.{lockOf, ruleAt, correctedRule, correctedOutput}
 use Rattle.demands.specs.Order.{Answers, Lent}
 use Rattle.demands.specs.SpeedCauses.{correctedOrder}

@@ -9,8 +9,9 @@ use Rattle.refusal.specs.Answer.{Answer, accepted, refuseIf, firstRefusal}
 use Rattle.timing.specs.Profile.{profileRule}
 use Rattle.timing.specs.declared.Profile.{Profile}
 use Rattle.merge.specs.Set.{setBytes}
-use Rattle.track.specs.Index.{entriesOf, crowdRule, indexRule}
-use Rattle.track.specs.TrackSectors.{sectorsFound, trackRule}
+use Rattle.entries.specs.Entries.{entriesOf}
+use Rattle.track.specs.Index.{crowdRule, indexRule}
+use Rattle.track_set.specs.TrackSectors.{sectorsFound, trackRule}
 
 first-of-first : (a b c : Answer) → firstRefusal (firstRefusal a b) c ≡ firstRefusal a (firstRefusal b c)
 first-of-first a b c =

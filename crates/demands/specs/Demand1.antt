@@ -24,7 +24,7 @@ use Rattle.merge.specs.Set.{setBytes, sectorsIn}
 use Rattle.merge.specs.Merge.{merged}
 use Rattle.merge.specs.Rule.{mergeRule, mergeAnswer, mergeOutput}
 use Rattle.track.specs.Index.{indexRule}
-use Rattle.track.specs.TrackSectors.{sectorsFound, trackRule, trackAnswer, trackOutput}
+use Rattle.track_set.specs.TrackSectors.{sectorsFound, trackRule, trackAnswer, trackOutput}
 use Rattle.page.specs.Reading.{pagesIn, readRule as readPagesRule, readAnswer, readOutput as readPagesOutput}
 use Rattle.page.specs.Making.{madeSet, makeRule as makePagesRule, makeAnswer, makeOutput as makePagesOutput}
 use Rattle.speed.specs.Speed.{correctedAt}

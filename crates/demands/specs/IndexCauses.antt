@@ -4,8 +4,8 @@ use mathlib.Core.List.{List}
 use lib.ListN.{length}
 use Rattle.timing.specs.declared.Profile.{Profile}
 use Rattle.merge.specs.Set.{setBytes}
-use Rattle.track.specs.Index.{entriesOf}
-use Rattle.track.specs.TrackSectors.{sectorsFound}
+use Rattle.entries.specs.Entries.{entriesOf}
+use Rattle.track_set.specs.TrackSectors.{sectorsFound}
 use Rattle.demands.specs.Order.{Order, accept, turn, at0}
 use Rattle.demands.specs.Causes.{profileOrder}
 

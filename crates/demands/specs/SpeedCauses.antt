@@ -5,7 +5,8 @@ use mathlib.Core.List.{List}
 use lib.ListN.{drop}
 use Rattle.timing.specs.Class.{classesOf}
 use Rattle.timing.specs.declared.Profile.{Profile}
-use Rattle.speed.specs.Speed.{s0, s1, nominal, differs, correctedAt}
+use Rattle.pace.specs.Pace.{differs}
+use Rattle.speed.specs.Speed.{s0, s1, nominal, correctedAt}
 use Rattle.speed.specs.Reading.{lockOf}
 use Rattle.demands.specs.Order.{Order, turn, at0}
 use Rattle.demands.specs.Causes.{profileOrder, Adrift, countedFieldOrder}

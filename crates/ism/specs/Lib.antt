@@ -1,6 +1,1 @@
-pub mod Answers
-pub mod Reports
-pub mod Slow
-pub mod Cards
-pub mod Windows
 pub mod Version

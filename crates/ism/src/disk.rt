@@ -4,44 +4,19 @@ ghost use lib.ListN.{length};
 ghost use Rattle.locks.specs.Lock.{findRule};
 ghost use Rattle.fields.specs.FieldRule.{fieldOutput};
 ghost use Rattle.sectors.specs.Sector.{sectorRule, sectorOutput};
-ghost use Rattle.clearance.specs.Answers.{clearFieldAnswer, fieldWithClearance};
-ghost use Rattle.ism.specs.Answers.{profileOf, answerOf, clearFieldAnswerOf};
-use crate::IsmAnswer;
-use crate::IsmProfile;
-use crate::answer;
-use crate::profile;
-use clearance::ClearFieldRead;
-use fields::reader::FieldRead;
+ghost use Rattle.clearance.specs.Answers.{fieldWithClearance};
+ghost use Rattle.answers.specs.Answers.{profileOf, answerOf, clearFieldAnswerOf};
+use answers::IsmAnswer;
+use answers::IsmProfile;
+use answers::answer;
+use answers::field_answer;
+use answers::profile;
 
 #[no_mangle]
 pub extern "C" fn ism_find(p: IsmProfile, intervals: &[u16], start: u64) -> IsmAnswer
     ensures { λ r. ⌜ r ≡ answerOf (findRule (profileOf p) (now (intervals .entry)) start) ⌝ }
 {
     answer(locks::finder::find_lock(profile(p), intervals, start as usize))
-}
-
-fn field_answer(field: ClearFieldRead) -> IsmAnswer
-    ensures { λ r. ⌜ r ≡ clearFieldAnswerOf (clearFieldAnswer field) ⌝ }
-{
-    let read = field.read;
-    match read {
-        FieldRead::Field { count, used, holds } => IsmAnswer {
-            number: 0,
-            place: 0,
-            count: count as u64,
-            used: used as u64,
-            holds: holds as u32,
-            clearance: field.clearance as u32,
-        },
-        FieldRead::Refused(refusal) => IsmAnswer {
-            number: refusal.number(),
-            place: refusal.place(),
-            count: 0,
-            used: 0,
-            holds: 0,
-            clearance: field.clearance as u32,
-        },
-    }
 }
 
 #[no_mangle]

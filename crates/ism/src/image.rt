@@ -2,9 +2,9 @@
 ghost use mathlib.Core.Path.{_≡_};
 ghost use lib.ListN.{length};
 ghost use Rattle.images.specs.Rules.{makeRule, makeOutput, readImageRule, readImageOutput};
-ghost use Rattle.ism.specs.Answers.{answerOf};
-use crate::IsmAnswer;
-use crate::answer;
+ghost use Rattle.answers.specs.Answers.{answerOf};
+use answers::IsmAnswer;
+use answers::answer;
 
 #[no_mangle]
 pub extern "C" fn ism_make_image(items: &[u16], out: &mut [u16]) -> IsmAnswer

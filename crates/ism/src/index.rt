@@ -3,11 +3,11 @@ ghost use mathlib.Core.Path.{_≡_};
 ghost use lib.ListN.{length};
 ghost use Rattle.track.specs.Index.{indexRule, indexEntries};
 ghost use Rattle.track.specs.HandedBack.{indexAnswerOf};
-ghost use Rattle.track.specs.TrackSectors.{trackAnswer, trackOutput};
-ghost use Rattle.ism.specs.Answers.{profileOf, givenMerge};
-use crate::IsmAnswer;
-use crate::IsmProfile;
-use crate::profile;
+ghost use Rattle.track_set.specs.TrackSectors.{trackAnswer, trackOutput};
+ghost use Rattle.answers.specs.Answers.{profileOf, givenMerge};
+use answers::IsmAnswer;
+use answers::IsmProfile;
+use answers::profile;
 use track::TrackIndex;
 
 #[no_mangle]
@@ -27,7 +27,7 @@ pub extern "C" fn ism_read_track(p: IsmProfile, intervals: &[u16], set: &mut [u8
     ensures output { λ _. ⌜
         now (set .exit) ≡ trackOutput (profileOf p) (now (intervals .entry)) (now (set .entry)) ⌝ }
 {
-    let read = track::read_track(profile(p), intervals, set);
+    let read = track_set::read_track(profile(p), intervals, set);
     IsmAnswer {
         number: read.number,
         place: read.place,

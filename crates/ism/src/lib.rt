@@ -3,15 +3,16 @@
 ghost use mathlib.Core.Path.{_≡_};
 ghost use lib.Dec.{ltb};
 ghost use lib.ListN.{length};
-ghost use Rattle.refusal.specs.Answer.{countedAnswer};
 ghost use Rattle.lengths.specs.Margin.{marginRule};
 ghost use Rattle.codec.specs.Writer.{writeRule, writeOutput};
 ghost use Rattle.codec.specs.Reader.{readOutput};
-ghost use Rattle.clearance.specs.Answers.{clearAnswer, classWithClearance, stripWithClearance};
-ghost use Rattle.ism.specs.Answers.{profileOf, answerOf, clearAnswerOf};
-use clearance::ClearCount;
-use refusal::Counted;
-use timing::Profile;
+ghost use Rattle.clearance.specs.Answers.{classWithClearance, stripWithClearance};
+ghost use Rattle.answers.specs.Answers.{profileOf, answerOf, clearAnswerOf};
+use answers::IsmAnswer;
+use answers::IsmProfile;
+use answers::answer;
+use answers::clear_answer;
+use answers::profile;
 
 pub mod card;
 pub mod disk;
@@ -23,79 +24,6 @@ pub mod queue;
 pub mod slow;
 pub mod version;
 pub mod windows;
-
-#[repr(C)]
-pub struct IsmProfile {
-    pub t1: u16,
-    pub t0: u16,
-    pub early: u16,
-    pub normal: u16,
-    pub late: u16,
-    pub min: u16,
-    pub b23_short: u16,
-    pub b23_long: u16,
-    pub b34_short: u16,
-    pub b34_long: u16,
-    pub rpt: u16,
-}
-
-// Number 0 for accepted. What a function does not give is 0.
-#[repr(C)]
-pub struct IsmAnswer {
-    pub number: u32,
-    pub place: u32,
-    pub count: u64,
-    pub used: u64,
-    pub holds: u32,
-    pub clearance: u32,
-}
-
-fn profile(p: IsmProfile) -> Profile
-    ensures { λ r. ⌜ r ≡ profileOf p ⌝ }
-{
-    let numbers = [
-        p.t1,
-        p.t0,
-        p.early,
-        p.normal,
-        p.late,
-        p.min,
-        p.b23_short,
-        p.b23_long,
-        p.b34_short,
-        p.b34_long,
-        p.rpt,
-    ];
-    Profile::from_numbers(&numbers)
-}
-
-fn answer(counted: Counted) -> IsmAnswer
-    ensures { λ r. ⌜ r ≡ answerOf (countedAnswer counted) ⌝ }
-{
-    IsmAnswer {
-        number: counted.number(),
-        place: counted.place(),
-        count: counted.count() as u64,
-        used: 0,
-        holds: 0,
-        clearance: 0,
-    }
-}
-
-// A class or a strip, with its clearance.
-fn clear_answer(given: ClearCount) -> IsmAnswer
-    ensures { λ r. ⌜ r ≡ clearAnswerOf (clearAnswer given) ⌝ }
-{
-    let counted = given.counted;
-    IsmAnswer {
-        number: counted.number(),
-        place: counted.place(),
-        count: counted.count() as u64,
-        used: 0,
-        holds: 0,
-        clearance: given.clearance as u32,
-    }
-}
 
 #[no_mangle]
 pub extern "C" fn ism_margin(p: IsmProfile) -> IsmAnswer

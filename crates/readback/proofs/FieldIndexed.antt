@@ -10,10 +10,10 @@ use Rattle.lists.specs.Filled.{filled}
 use Rattle.timing.specs.Class.{classesOf}
 use Rattle.timing.specs.declared.Profile.{Profile}
 use Rattle.fields.specs.Field.{fieldUsed}
-use Rattle.track.specs.FieldKinds.{itemsOf}
-use Rattle.track.specs.Index.{hasLock, lockPlace}
-use Rattle.track.proofs.FieldLaws.{FieldReads, accepted-field}
-use Rattle.track.proofs.SearchLaws.{found-is-lock, lock-is-ahead}
+use Rattle.entries.specs.FieldKinds.{itemsOf}
+use Rattle.entries.specs.Entries.{hasLock, lockPlace}
+use Rattle.entries.proofs.FieldLaws.{FieldReads, accepted-field}
+use Rattle.entries.proofs.SearchLaws.{found-is-lock, lock-is-ahead}
 use Rattle.readback.specs.SectorReads.{ReadsField}
 use Rattle.readback.proofs.FieldAhead.{FieldFound}
 

@@ -16,7 +16,7 @@ use Rattle.refusal.specs.Answer.{accepted}
 use Rattle.timing.specs.declared.Profile.{Profile}
 use Rattle.merge.specs.Set.{setBytes}
 use Rattle.merge.specs.Claims.{Takes}
-use Rattle.track.specs.TrackSectors.{sectorsFound, trackRule}
+use Rattle.track_set.specs.TrackSectors.{sectorsFound, trackRule}
 use Rattle.page.specs.Making.{pageOf, sectorOfPage, madeSet, stretchSet, makeRule}
 use Rattle.page.specs.Claims.{mergedAll, AllTaken, stretchSets}
 use Rattle.page.proofs.BackLaws.{made, numbered, made-says}

@@ -21,11 +21,11 @@ use Rattle.locks.specs.Lock.{lockAt}
 use Rattle.fields.specs.Bytes.{byteOf}
 use Rattle.locks.proofs.MarkLaws.{no-lock-behind}
 use Rattle.locks.proofs.FirstLockLaws.{none-is-found}
-use Rattle.track.specs.Index.{entriesFrom, entriesOf}
+use Rattle.entries.specs.Entries.{entriesFrom, entriesOf}
 use Rattle.track.specs.HandedBack.{dataPlaceOf}
-use Rattle.track.specs.TrackSectors.{dataAt}
-use Rattle.track.specs.declared.Entry.{Entry}
-use Rattle.track.proofs.SearchLaws.{refused-is-no-lock, search-ends}
+use Rattle.track_set.specs.TrackSectors.{dataAt}
+use Rattle.entries.specs.declared.Entry.{Entry}
+use Rattle.entries.proofs.SearchLaws.{refused-is-no-lock, search-ends}
 use Rattle.demands.specs.Streams.{AcceptedProfile, Moved}
 use Rattle.demands.specs.Demand3.{stated}
 use Rattle.demands.proofs.Demand3.{moved-has-classes}

@@ -13,8 +13,9 @@ use Rattle.refusal.specs.Answer.{accepted}
 use Rattle.timing.specs.declared.Profile.{Profile}
 use Rattle.items.specs.Written.{written}
 use Rattle.track.specs.Order.{isBefore, inOrder, Ascending}
-use Rattle.track.specs.Index.{entriesOf, crowdRule, indexRule, padded, handedBack, indexEntries}
-use Rattle.track.specs.declared.Entry.{Entry}
+use Rattle.entries.specs.Entries.{entriesOf}
+use Rattle.track.specs.Index.{crowdRule, indexRule, padded, handedBack, indexEntries}
+use Rattle.entries.specs.declared.Entry.{Entry}
 use Rattle.track.proofs.OrderLaws.{later-place}
 use Rattle.track.proofs.InOrderLaws.{isLater, PlacesAscend, in-order-stays}
 use Rattle.track.proofs.FoundLaws.{places-ascend}

@@ -28,7 +28,7 @@ use Rattle.merge.proofs.OnceLaws.{with-nothing}
 use Rattle.merge.proofs.RuleLaws.{Fits}
 use Rattle.merge.proofs.AcceptLaws.{Accepts, accepts-takes}
 use Rattle.track.specs.Index.{indexRule}
-use Rattle.track.specs.TrackSectors.{sectorsFound, trackRule, trackOutput}
+use Rattle.track_set.specs.TrackSectors.{sectorsFound, trackRule, trackOutput}
 use Rattle.demands.specs.Streams.{AcceptedProfile}
 use Rattle.readback.specs.TrackIndexed.{Sector, Makes, AllMade}
 use Rattle.readback.specs.TrackRead.{DifferentNumbers, asRead, byNumber, ofNumber, isSame, OtherPass, MergesTo}

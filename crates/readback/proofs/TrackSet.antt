@@ -18,12 +18,12 @@ use Rattle.fields.specs.Bytes.{byteOf}
 use Rattle.merge.specs.Set.{Sector as SetSector}
 use Rattle.merge.specs.Merge.{Held, Nothing, withCopy, heldOf, asList, isTwice, numbers}
 use Rattle.track.specs.Order.{lowerKeys, isBefore, inOrder, Rearranged, none, one, Ascending}
-use Rattle.track.specs.Index.{entriesOf}
+use Rattle.entries.specs.Entries.{entriesOf}
 use Rattle.track.specs.HandedBack.{dataPlaceOf}
-use Rattle.track.specs.TrackSectors.{dataAt, sectorsOf, sectorsFound}
-use Rattle.track.specs.declared.DataField.{DataField}
-use Rattle.track.specs.declared.DataField.the-variants.{Found, Missing}
-use Rattle.track.specs.declared.Entry.{Entry}
+use Rattle.track_set.specs.TrackSectors.{dataAt, sectorsOf, sectorsFound}
+use Rattle.entries.specs.declared.DataField.{DataField}
+use Rattle.entries.specs.declared.DataField.the-variants.{Found, Missing}
+use Rattle.entries.specs.declared.Entry.{Entry}
 use Rattle.track.proofs.InOrderLaws.{ordered-everywhere, ordered-ascends, ordered-has-each}
 use Rattle.track.proofs.InsertionLaws.{ordered-length}
 use Rattle.track.proofs.FoundLaws.{places-ascend}

@@ -14,7 +14,7 @@ use Rattle.refusal.specs.Answer.{accepted}
 use Rattle.timing.specs.declared.Profile.{Profile}
 use Rattle.lengths.specs.Stream.{streamOf}
 use Rattle.merge.specs.Set.{setBytes}
-use Rattle.track.specs.TrackSectors.{sectorsFound, trackRule}
+use Rattle.track_set.specs.TrackSectors.{sectorsFound, trackRule}
 use Rattle.page.specs.Page.{pageCells, fillBytes}
 use Rattle.page.specs.Reading.{readAnswer, readOutput}
 use Rattle.page.specs.Making.{pageOf, makeRule}

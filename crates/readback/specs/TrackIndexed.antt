@@ -15,8 +15,8 @@ use Rattle.lengths.specs.Stream.{streamOf}
 use Rattle.sectors.specs.Sector.{sectorItems, isMisfit}
 use Rattle.track.specs.Order.{inOrder}
 use Rattle.track.specs.Index.{indexRule, padded, indexEntries}
-use Rattle.track.specs.declared.DataField.the-variants.{Found}
-use Rattle.track.specs.declared.Entry.{Entry}
+use Rattle.entries.specs.declared.DataField.the-variants.{Found}
+use Rattle.entries.specs.declared.Entry.{Entry}
 use Rattle.demands.specs.Streams.{AcceptedProfile, Moved}
 use Rattle.demands.specs.Demand3.{stated}
 use Rattle.readback.specs.SectorReads.{placeAfter, idField}

@@ -14,7 +14,7 @@ use Rattle.lengths.specs.Stream.{streamOf}
 use Rattle.merge.specs.Set.{Sector as SetSector, setBytes, setOf}
 use Rattle.merge.specs.Merge.{numbers, heldOf, asList, isTwice, sameBytes}
 use Rattle.merge.specs.Rule.{mergeRule, mergeOutput}
-use Rattle.track.specs.TrackSectors.{sectorsFound, trackRule, trackOutput}
+use Rattle.track_set.specs.TrackSectors.{sectorsFound, trackRule, trackOutput}
 use Rattle.demands.specs.Streams.{AcceptedProfile, Moved}
 use Rattle.demands.specs.Demand3.{stated}
 use Rattle.readback.specs.TrackIndexed.{Sector, AllMade, trackItems}

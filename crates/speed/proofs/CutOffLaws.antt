@@ -22,8 +22,8 @@ use Rattle.fields.specs.FieldRule.{fieldRule, fieldReading, fieldOutput}
 use Rattle.clearance.specs.Clearance.{clearanceIn, clearancesFrom, leastFrom, leastClearance}
 use Rattle.clearance.specs.Answers.{fieldWithClearance}
 use Rattle.speed.specs.Claims.{CutOffChangesNothing}
-use Rattle.speed.specs.Speed.{corrected, correctedFrom}
-use Rattle.speed.specs.machine.Cut.{cutOff, cut, cutFrom}
+use Rattle.pace.specs.Pace.{corrected, correctedFrom}
+use Rattle.pace.specs.machine.Cut.{cutOff, cut, cutFrom}
 
 -- no edge is above it, now or behind any interval
 record Low (c : Cursor) : Type 0 where

@@ -1,5 +1,4 @@
-pub mod CutLaws
-pub mod DifferenceLaws
+pub mod CutBlockLaws
 pub mod BlockReadLaws
 pub mod AlongLaws
 pub mod EndsLaws

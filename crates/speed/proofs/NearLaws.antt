@@ -9,7 +9,7 @@ use native.Mathlib.Omega.{arith}
 use borrow.Author.Tests.{ltb-false}
 use Rattle.refusal.specs.Answer.{refuseIf, accepted}
 use Rattle.refusal.proofs.AnswerLaws.{refuse-if-accepts}
-use Rattle.speed.specs.Speed.{differs, offSpeed, paceRule, corrected}
+use Rattle.pace.specs.Pace.{differs, offSpeed, paceRule, corrected}
 
 module _ (t s : ℕ) (e : offSpeed (32 * t) s ≡ false) where
   pub near-speed : (s ≤ 34 * t) × (30 * t ≤ s)

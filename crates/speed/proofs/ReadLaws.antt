@@ -31,13 +31,14 @@ use Rattle.fields.proofs.RuleLaws.{gather-refuses}
 use Rattle.clearance.specs.Clearance.{leastClearance}
 use Rattle.clearance.specs.Answers.{ClearFieldAnswer, clearFieldAnswer, clearanceFor, leastUsed, fieldWithClearance}
 use Rattle.clearance.specs.declared.ClearFieldRead.{ClearFieldRead}
-use Rattle.speed.specs.Speed.{s0, s1, nominal, difference, offSpeed, paceRule, speedRule, runBefore, correctedAt}
+use Rattle.pace.specs.Pace.{difference, offSpeed, paceRule}
+use Rattle.speed.specs.Speed.{s0, s1, nominal, speedRule, runBefore, correctedAt}
 use Rattle.speed.specs.Reading.{CorrectedAnswer, turnedAway, comesWith, ruleAt, readingAt, outputAt}
 use Rattle.speed.specs.Reading.{correctedRule, correctedReading, correctedOutput}
-use Rattle.speed.specs.machine.Cut.{cutOff, slowed, Measured, Able}
+use Rattle.pace.specs.machine.Cut.{cutOff, slowed, Measured, Able}
 use Rattle.speed.specs.machine.Along.{TellsLeast}
 use Rattle.speed.specs.machine.Read.{clearedBy, checkedWithClearance, toldBy}
-use Rattle.speed.specs.declared.pace.Pace.{Pace}
+use Rattle.pace.specs.declared.Pace.{Pace}
 use Rattle.speed.proofs.NearLaws.{sum-is-some, pace-accepts}
 use Rattle.speed.proofs.CutOffLaws.{cut-off-changes-nothing, cut-is-cut-off}
 

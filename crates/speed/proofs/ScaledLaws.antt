@@ -8,7 +8,8 @@ use native.Mathlib.Omega.{arith}
 use lib.ListN.{take, drop}
 use Rattle.lists.specs.Sum.{sumOf}
 use Rattle.timing.specs.declared.Profile.{Profile}
-use Rattle.speed.specs.Speed.{evenOnes, oddOnes, runBefore, nominal, corrected, correctedFrom, correctedAt}
+use Rattle.pace.specs.Pace.{evenOnes, oddOnes, corrected, correctedFrom}
+use Rattle.speed.specs.Speed.{runBefore, nominal, correctedAt}
 use Rattle.speed.specs.Claims.{Scaled}
 
 module _ (a b : ℕ) (some-a : 0 < a) (some-b : 0 < b) where

@@ -16,11 +16,12 @@ use Rattle.timing.proofs.ProfileLaws.{kept}
 use Rattle.locks.specs.Lock.{findRule}
 use Rattle.fields.specs.FieldRule.{fieldRule, fieldReading, fieldOutput}
 use Rattle.clearance.specs.Answers.{ClearFieldAnswer, fieldWithClearance}
-use Rattle.speed.specs.Speed.{s0, s1, nominal, offSpeed, paceRule, speedRule, corrected, correctedFrom, correctedAt}
+use Rattle.pace.specs.Pace.{offSpeed, paceRule, corrected, correctedFrom}
+use Rattle.speed.specs.Speed.{s0, s1, nominal, speedRule, correctedAt}
 use Rattle.speed.specs.Reading.{comesWith, ruleAt, readingAt, outputAt, correctedRule, correctedReading}
 use Rattle.speed.specs.Claims.{SameLock, NominalChangesNothing, NearSpeed, WithinASixteenth}
 use Rattle.speed.specs.Claims.{SpeedDropsOut, ProductsFit, SlowDrives}
-use Rattle.speed.proofs.CutLaws.{product-fits}
+use Rattle.pace.proofs.CutLaws.{product-fits}
 use Rattle.speed.proofs.NearLaws.{near-speed, at-least, at-most}
 use Rattle.speed.proofs.CutOffLaws.{cut-off-changes-nothing}
 use Rattle.speed.proofs.ScaledLaws.{same-numbers}

@@ -13,7 +13,8 @@ use Rattle.locks.specs.Lock.{findRule}
 use Rattle.fields.specs.Field.{fieldItems}
 use Rattle.fields.specs.FieldRule.{fieldAnswer, fieldTurnedAway, fieldRule}
 use Rattle.clearance.specs.Answers.{ClearFieldAnswer, fieldWithClearance}
-use Rattle.speed.specs.Speed.{s0, s1, nominal, difference, speedRule, correctedAt}
+use Rattle.pace.specs.Pace.{difference}
+use Rattle.speed.specs.Speed.{s0, s1, nominal, speedRule, correctedAt}
 use Rattle.speed.specs.declared.reader.Corrected.{Corrected}
 
 -- all that the entry gives beside its output: what the field reader gives, the lock's place, and both differences

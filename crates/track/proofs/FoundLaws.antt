@@ -13,11 +13,11 @@ use Rattle.lists.proofs.BoolLaws.{both}
 use Rattle.lists.proofs.PlaceLaws.{everywhere-of-none, everywhere-of-passing, everywhere-passes-at-first}
 use Rattle.lists.proofs.PlaceLaws.{everywhere-in-rest, everywhere-of-append}
 use Rattle.timing.specs.declared.Profile.{Profile}
-use Rattle.track.specs.FieldKinds.{isId}
-use Rattle.track.specs.Index.{hasLock, lockPlace, entryAt, nextStart, entriesAt, entriesBy, entriesFrom, entriesOf}
+use Rattle.entries.specs.FieldKinds.{isId}
+use Rattle.entries.specs.Entries.{hasLock, lockPlace, entryAt, nextStart, entriesAt, entriesBy, entriesFrom, entriesOf}
 use Rattle.track.specs.Claims.{IndexesAreInOneOrder}
-use Rattle.track.specs.declared.Entry.{Entry}
-use Rattle.track.proofs.SearchLaws.{lock-is-ahead, lock-is-before-next}
+use Rattle.entries.specs.declared.Entry.{Entry}
+use Rattle.entries.proofs.SearchLaws.{lock-is-ahead, lock-is-before-next}
 use Rattle.track.proofs.InOrderLaws.{isLater, PlacesAscend, ordered-ascends, ordered-has-each, only-in-order}
 
 -- ---- behind a place

@@ -18,13 +18,14 @@ use Rattle.refusal.proofs.AnswerLaws.{number-is-not-zero}
 use Rattle.timing.specs.Profile.{profileRule}
 use Rattle.timing.specs.declared.Profile.{Profile}
 use Rattle.track.specs.Order.{putAmong, inOrder, Ascending}
-use Rattle.track.specs.Index.{hasLock, entriesFrom, entriesOf, crowdRule, indexRule, noEntry, padded, handedBack}
+use Rattle.entries.specs.Entries.{hasLock, entriesFrom, entriesOf}
+use Rattle.track.specs.Index.{crowdRule, indexRule, noEntry, padded, handedBack}
 use Rattle.track.specs.Index.{indexEntries}
 use Rattle.track.specs.HandedBack.{indexEntryOf}
 use Rattle.track.specs.machine.Insertion.{slidIn}
-use Rattle.track.specs.declared.Entry.{Entry}
-use Rattle.track.proofs.SearchLaws.{search-ends}
-use Rattle.track.proofs.GoesLaws.{Goes, goes-to}
+use Rattle.entries.specs.declared.Entry.{Entry}
+use Rattle.entries.proofs.SearchLaws.{search-ends}
+use Rattle.entries.proofs.GoesLaws.{Goes, goes-to}
 use Rattle.track.proofs.InOrderLaws.{ordered-ascends, ordered-with-last}
 use Rattle.track.proofs.FoundLaws.{places-of-front, places-ascend}
 use Rattle.track.proofs.InsertionLaws.{ordered-length, slid-into-blank}

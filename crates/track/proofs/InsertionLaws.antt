@@ -16,7 +16,7 @@ use Rattle.track.specs.Order.{isBefore, putAmong, inOrder, Ascending}
 use Rattle.track.specs.Index.{noEntry, padded}
 use Rattle.track.specs.HandedBack.{indexEntryOf}
 use Rattle.track.specs.machine.Insertion.{handedBefore, blank, slidIn}
-use Rattle.track.specs.declared.Entry.{Entry}
+use Rattle.entries.specs.declared.Entry.{Entry}
 use Rattle.track.specs.declared.index.IndexEntry.{IndexEntry}
 use Rattle.track.proofs.OrderLaws.{all-behind}
 

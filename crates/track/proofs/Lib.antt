@@ -1,16 +1,5 @@
-pub mod FieldLaws
-pub mod OpeningLaws
-pub mod SoundLaws
-pub mod IdLaws
-pub mod SearchLaws
-pub mod StepLaws
-pub mod GoesLaws
 pub mod OrderLaws
 pub mod InOrderLaws
 pub mod FoundLaws
-pub mod HandedLaws
-pub mod StoredLaws
-pub mod TrackSetLaws
-pub mod SetAnswerLaws
 pub mod InsertionLaws
 pub mod GatherLaws

@@ -14,7 +14,7 @@ use Rattle.lists.proofs.BoolLaws.{both}
 use Rattle.lists.proofs.PlaceLaws.{everywhere-of-none, everywhere-of-passing, everywhere-passes-at-first}
 use Rattle.lists.proofs.PlaceLaws.{everywhere-in-rest, everywhere-of-append}
 use Rattle.track.specs.Order.{lowerKeys, isBefore, putAmong, Ascending}
-use Rattle.track.specs.declared.Entry.{Entry}
+use Rattle.entries.specs.declared.Entry.{Entry}
 
 -- ---- two sector numbers, each with an ID place
 

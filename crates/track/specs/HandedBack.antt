@@ -3,9 +3,9 @@ use Prim.Native.Nat.{ℕ}
 use mathlib.Core.List.{List, map}
 use Rattle.lists.specs.YesNo.{asNumber}
 use Rattle.refusal.specs.Answer.{Answer}
-use Rattle.track.specs.declared.DataField.{DataField}
-use Rattle.track.specs.declared.DataField.the-variants.{Found, Missing}
-use Rattle.track.specs.declared.Entry.{Entry}
+use Rattle.entries.specs.declared.DataField.{DataField}
+use Rattle.entries.specs.declared.DataField.the-variants.{Found, Missing}
+use Rattle.entries.specs.declared.Entry.{Entry}
 use Rattle.track.specs.declared.index.IndexEntry.{IndexEntry}
 use Rattle.track.specs.declared.index.TrackIndex.{TrackIndex}
 

@@ -5,7 +5,7 @@ use mathlib.Core.Bool.{Bool, true, cond, _&&_, _||_}
 use mathlib.Core.List.{List, [], _∷_, _++_}
 use lib.Dec.{eqb, ltb}
 use Rattle.lists.specs.Place.{everywhere}
-use Rattle.track.specs.declared.Entry.{Entry}
+use Rattle.entries.specs.declared.Entry.{Entry}
 
 -- whether the first of two sector numbers, each with an ID place, goes before the second
 unfoldable pub lowerKeys : ℕ → ℕ → ℕ → ℕ → Bool

@@ -1,4 +1,2 @@
 -- Machine, not meaning.
-pub mod Steps
 pub mod Insertion
-pub mod Handed

@@ -3,11 +3,11 @@
 ghost use mathlib.Core.Path.{_≡_};
 ghost use Rattle.track.specs.Index.{indexRule, indexEntries};
 ghost use Rattle.track.specs.HandedBack.{indexEntryOf, indexAnswerOf};
-use crate::DataField;
-use crate::Entry;
-use crate::Step;
-use crate::find_entry;
 use crate::order::goes_before;
+use entries::DataField;
+use entries::Entry;
+use entries::Step;
+use entries::find_entry;
 use refusal::Counted;
 use refusal::Refusal;
 use refusal::Verdict;

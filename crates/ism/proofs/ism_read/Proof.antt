@@ -1,7 +1,7 @@
 -- Why `ism::ism_read` answers as the library does: it hands the arguments over and the answer back. Rests on no axiom.
 use mathlib.Core.Path.{ap, _∙_}
 use borrow.Author.Needs.{needs}
-use Rattle.ism.specs.Answers.{clearAnswerOf}
+use Rattle.answers.specs.Answers.{clearAnswerOf}
 use Rattle.ism.proofs.ism_read.Statement.{statement}
 use Rattle.ism.proofs.ism_read.Tie as tie
 

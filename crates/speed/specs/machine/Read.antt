@@ -9,9 +9,9 @@ use Rattle.timing.specs.declared.Profile.{Profile}
 use Rattle.fields.specs.FieldRule.{FieldAnswer}
 use Rattle.fields.specs.machine.Gather.{checkedReading}
 use Rattle.clearance.specs.Answers.{ClearFieldAnswer, clearanceFor, leastUsed}
-use Rattle.speed.specs.Speed.{difference}
+use Rattle.pace.specs.Pace.{difference}
 use Rattle.speed.specs.Reading.{CorrectedAnswer, turnedAway}
-use Rattle.speed.specs.declared.pace.Pace.{Pace}
+use Rattle.pace.specs.declared.Pace.{Pace}
 
 -- a field with a clearance, a refusal without
 abbrev pub clearedBy : FieldAnswer → ℕ → ClearFieldAnswer

@@ -2,7 +2,7 @@
 -- on no axiom.
 use mathlib.Core.Path.{ap, _∙_}
 use borrow.Author.Needs.{needs}
-use Rattle.ism.specs.Answers.{clearFieldAnswerOf}
+use Rattle.answers.specs.Answers.{clearFieldAnswerOf}
 use Rattle.ism.proofs.disk.ism_read_field.Statement.{statement}
 use Rattle.ism.proofs.disk.ism_read_field.Tie as tie
 

@@ -1,7 +1,7 @@
 -- Why `ism_read_track` answers the set of the track: it hands the profile over, and the numbers back. Rests on no axiom.
 use mathlib.Core.Path.{ap}
 use borrow.Author.Needs.{needs}
-use Rattle.ism.specs.Answers.{givenMerge}
+use Rattle.answers.specs.Answers.{givenMerge}
 use Rattle.ism.proofs.index.ism_read_track.Statement.{statement}
 use Rattle.ism.proofs.index.ism_read_track.Tie as tie
 

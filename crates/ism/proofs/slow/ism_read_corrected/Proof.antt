@@ -2,7 +2,7 @@
 -- on no axiom.
 use mathlib.Core.Path.{ap, _∙_}
 use borrow.Author.Needs.{needs}
-use Rattle.ism.specs.Slow.{correctedAnswerOf}
+use Rattle.answers.specs.Slow.{correctedAnswerOf}
 use Rattle.ism.proofs.slow.ism_read_corrected.Statement.{statement}
 use Rattle.ism.proofs.slow.ism_read_corrected.Tie as tie
 

@@ -7,8 +7,8 @@ use Rattle.lists.specs.Filled.{storedAt}
 use Rattle.refusal.proofs.AnswerLaws.{verdict-accepts}
 use Rattle.timing.proofs.ProfileLaws.{kept}
 use Rattle.fields.proofs.EndLaws.{edges, refusal-is-not-zero}
-use Rattle.speed.specs.machine.Cut.{slowed}
-use Rattle.speed.proofs.CutLaws.{slowed-fits}
+use Rattle.pace.specs.machine.Cut.{slowed}
+use Rattle.pace.proofs.CutLaws.{slowed-fits}
 use Rattle.speed.proofs.EndsLaws.{ended, edges-are, edge-refuses, tells-sum, tells-least}
 use Rattle.speed.proofs.gather.gather.Statement.{statement}
 use Rattle.speed.proofs.gather.gather.Tie as tie

@@ -10,9 +10,9 @@ use Rattle.symbols.specs.machine.Step.{freshReading}
 use Rattle.intervals.specs.machine.Blocks.{atFirst, wordsOf}
 use Rattle.intervals.proofs.BlockLaws.{rest-wants, rest-stops, comes-nearer}
 use Rattle.fields.proofs.PartLaws.{itemsLeft}
-use Rattle.speed.specs.machine.Cut.{slowed}
+use Rattle.pace.specs.machine.Cut.{slowed}
 use Rattle.speed.specs.machine.Along.{atOnset}
-use Rattle.speed.proofs.CutLaws.{slowed-count}
+use Rattle.pace.proofs.CutLaws.{slowed-count}
 use Rattle.speed.proofs.AlongLaws.{Stands, onset-stands, reaches, stands-next, stored-next}
 use Rattle.speed.proofs.AlongLaws.{stands-near, edges-ascend, stands-ends, stored-ends}
 use Rattle.speed.proofs.gather.pass_over.Statement.{statement}

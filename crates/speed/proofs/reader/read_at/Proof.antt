@@ -11,7 +11,7 @@ use Rattle.refusal.proofs.AnswerLaws.{verdict-accepts}
 use Rattle.timing.proofs.ProfileLaws.{kept}
 use Rattle.locks.proofs.LockLaws.{part-to-end}
 use Rattle.speed.specs.Speed.{runBefore, speedRule}
-use Rattle.speed.specs.machine.Cut.{Measured}
+use Rattle.pace.specs.machine.Cut.{Measured}
 use Rattle.speed.specs.machine.Read.{toldBy}
 use Rattle.speed.proofs.ReadLaws.{speed-refuses, pace-is, able, field-is, told-is, output-is}
 use Rattle.speed.proofs.reader.read_at.Statement.{statement}

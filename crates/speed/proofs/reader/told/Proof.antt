@@ -3,7 +3,7 @@ use Prim.Native.Nat.{_≤_}
 use native.Mathlib.Omega.{arith}
 use borrow.Author.Needs.{needs}
 use Rattle.refusal.proofs.AnswerLaws.{number-is-not-zero}
-use Rattle.speed.proofs.DifferenceLaws.{difference-is-kept}
+use Rattle.pace.proofs.DifferenceLaws.{difference-is-kept}
 use Rattle.speed.proofs.ReadLaws.{told-field}
 use Rattle.speed.proofs.reader.told.Statement.{statement}
 use Rattle.speed.proofs.reader.told.Tie as tie

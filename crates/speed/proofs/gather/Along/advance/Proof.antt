@@ -8,8 +8,9 @@ use lib.ListN.{length, take, drop, replicate, length-take, length-drop, length-a
 use lib.Seq.{length-take-le, take-at}
 use borrow.Author.Needs.{needs}
 use Rattle.intervals.specs.machine.Blocks.{wordsOf}
-use Rattle.speed.specs.machine.Cut.{slowed}
-use Rattle.speed.proofs.CutLaws.{cut-count, block-is-cut}
+use Rattle.pace.specs.machine.Cut.{slowed}
+use Rattle.pace.proofs.CutLaws.{cut-count}
+use Rattle.speed.proofs.CutBlockLaws.{block-is-cut}
 use Rattle.speed.proofs.gather.Along.advance.Statement.{statement}
 use Rattle.speed.proofs.gather.Along.advance.Tie as tie
 

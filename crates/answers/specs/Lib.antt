@@ -1,0 +1,5 @@
+pub mod Answers
+pub mod Reports
+pub mod Slow
+pub mod Cards
+pub mod Windows

@@ -1,0 +1,7 @@
+pub mod FieldLaws
+pub mod OpeningLaws
+pub mod SoundLaws
+pub mod IdLaws
+pub mod SearchLaws
+pub mod StepLaws
+pub mod GoesLaws

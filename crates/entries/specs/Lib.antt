@@ -1,0 +1,4 @@
+pub mod FieldKinds
+pub mod Entries
+pub mod Claims
+pub mod machine

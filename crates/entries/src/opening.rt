@@ -1,0 +1,98 @@
+// How a sector's field opens: with three A1 marks, then the byte that tells an ID field from a data field.
+ghost use Prim.Native.Nat.{_≤_, max};
+ghost use mathlib.Core.Path.{_≡_};
+ghost use lib.ListN.{length};
+ghost use Rattle.lists.specs.Place.{everywhere};
+ghost use Rattle.timing.specs.Profile.{profileRule};
+ghost use Rattle.timing.specs.Class.{isCell, classesOf};
+ghost use Rattle.entries.specs.FieldKinds.{opensWith};
+ghost use Rattle.entries.specs.machine.Steps.{openedOf, GivesItems};
+use fields::reader::FieldRead;
+use fields::reader::read_in_place;
+use lists::at_most;
+use locks::finder::three_marks_ahead;
+use timing::Profile;
+
+// The mark byte A1.
+const A1: u16 = 0x1a1;
+
+// A field of a kind, with the intervals that it used and whether its sum holds, or another.
+pub enum Opened {
+    Field { used: usize, holds: bool },
+    NoField,
+}
+
+pub fn opens_with(items: &[u16], kind: u16) -> bool
+    requires { ⌜ 4 ≤ length (now items) ⌝ }
+    ensures { λ r. ⌜ r ≡ opensWith kind (now (items .entry)) ⌝ }
+{
+    (items[0] == A1) & (items[1] == A1) & (items[2] == A1) & (items[3] == kind)
+}
+
+// A field of n bytes, the first of which are handed over; the intervals begin at a lock.
+fn read_marked(p: Profile, intervals: &[u16], n: usize, kind: u16, items: &mut [u16]) -> Opened
+    requires { ⌜ profileRule p .number ≡ 0 ⌝ }
+    requires { ⌜ (4 ≤ length (now items)) × (length (now items) ≤ n) × (n ≤ 1030) ⌝ }
+    ensures answer { λ r. ⌜ r ≡ openedOf p (now (intervals .entry)) n kind ⌝ }
+    ensures items { λ _. ⌜ GivesItems p (now (intervals .entry)) n kind (now (items .entry)) (now (items .exit)) ⌝ }
+{
+    match read_in_place(p, intervals, n, items) {
+        FieldRead::Refused(_) => Opened::NoField,
+        FieldRead::Field { used, holds, .. } => {
+            if opens_with(items, kind) {
+                return Opened::Field { used, holds };
+            }
+            Opened::NoField
+        }
+    }
+}
+
+fn greater(a: u16, b: u16) -> u16
+    ensures { λ r. ⌜ r ≡ max a b ⌝ }
+{
+    if a < b { b } else { a }
+}
+
+// Whether all are cells: none is further past Min than Rpt is, where one below Min wraps to above all others. With no
+// jump for any, so that it is told in vector instructions.
+fn all_cells(p: Profile, intervals: &[u16]) -> bool
+    requires { ⌜ profileRule p .number ≡ 0 ⌝ }
+    ensures { λ r. ⌜ r ≡ everywhere isCell (classesOf p (now (intervals .entry))) ⌝ }
+{
+    let min = p.min.0;
+    let mut most: u16 = 0;
+    let mut k: usize = 0;
+    while k < intervals.len() {
+        most = greater(most, std::num::wrapping_sub_u16(intervals[k], min));
+        k += 1;
+    }
+    most < p.rpt.0 - min
+}
+
+// A field uses 4 n intervals at least, as a cell gives two bits at most. Where one of so many is no cell it does not
+// read, which is told in a small part of the time that reading takes.
+fn read_sound(p: Profile, intervals: &[u16], n: usize, kind: u16, items: &mut [u16]) -> Opened
+    requires { ⌜ profileRule p .number ≡ 0 ⌝ }
+    requires { ⌜ (4 ≤ length (now items)) × (length (now items) ≤ n) × (n ≤ 1030) ⌝ }
+    ensures answer { λ r. ⌜ r ≡ openedOf p (now (intervals .entry)) n kind ⌝ }
+    ensures items { λ _. ⌜ GivesItems p (now (intervals .entry)) n kind (now (items .entry)) (now (items .exit)) ⌝ }
+{
+    let front = at_most(4 * n, intervals.len());
+    if all_cells(p, &intervals[..front]) {
+        return read_marked(p, intervals, n, kind, items);
+    }
+    Opened::NoField
+}
+
+// Most of what a lock precedes on a worn track is seen to be no field of a sector by its first intervals.
+pub fn read_opened(p: Profile, intervals: &[u16], n: usize, kind: u16, items: &mut [u16]) -> Opened
+    requires { ⌜ profileRule p .number ≡ 0 ⌝ }
+    requires { ⌜ (4 ≤ length (now items)) × (length (now items) ≤ n) × (n ≤ 1030) ⌝ }
+    ensures answer { λ r. ⌜ r ≡ openedOf p (now (intervals .entry)) n kind ⌝ }
+    ensures items { λ _. ⌜ GivesItems p (now (intervals .entry)) n kind (now (items .entry)) (now (items .exit)) ⌝ }
+{
+    if three_marks_ahead(p, intervals) {
+        return read_sound(p, intervals, n, kind, items);
+    }
+    Opened::NoField
+}

@@ -1,0 +1,4 @@
+pub mod HandedLaws
+pub mod StoredLaws
+pub mod TrackSetLaws
+pub mod SetAnswerLaws

@@ -1,0 +1,2 @@
+pub mod TrackSectors
+pub mod machine
