@@ -1,6 +1,5 @@
 pub mod WindowLaws
 pub mod PenLaws
 pub mod StreamLaws
-pub mod RunLaws
 pub mod WriterLaws
 pub mod ReaderLaws

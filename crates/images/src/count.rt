@@ -4,22 +4,20 @@ ghost use mathlib.Core.Path.{_≡_};
 ghost use lib.ListN.{length};
 ghost use Rattle.items.specs.Item.{writtenBytes};
 ghost use Rattle.items.specs.Rule.{listRule};
-ghost use Rattle.items.specs.Written.{afterItem, itemBytes, written};
+ghost use Rattle.items.specs.Written.{written};
 ghost use Rattle.symbols.specs.Cells.{writtenCells};
 ghost use Rattle.images.specs.machine.Tally.{noTally, talliedByte, tallied};
 use items::Check;
+use lists::at_most;
 use words::made_word;
+
+// How many items are turned into bytes together: a check order is two.
+const BLOCK: usize = 256;
 
 // The cells that ended so far, and the byte before. No list writes 65,536 cells: numbers of 16 bits add up fastest.
 pub struct Tally {
     pub cells: u16,
     pub previous: u16,
-}
-
-// A tally and the check register, after some items.
-pub struct Part {
-    pub tally: Tally,
-    pub check: Check,
 }
 
 fn count_byte(tally: Tally, byte: u16) -> Tally
@@ -46,41 +44,27 @@ fn count_bytes(start: Tally, bytes: &[u16]) -> Tally
     tally
 }
 
-fn count_item(start: Part, item: u16) -> Part
-    requires { ⌜ tallied (start .tally) (itemBytes (start .check) item) .cells < 65536 ⌝ }
-    ensures check { λ r. ⌜ r .check ≡ afterItem (start .check) item ⌝ }
-    ensures tally { λ r. ⌜ r .tally ≡ tallied (start .tally) (itemBytes (start .check) item) ⌝ }
-{
-    let check = start.check.after_item(item);
-    if items::is_check(item) {
-        let high = count_byte(start.tally, start.check.high());
-        let low = count_byte(high, start.check.low());
-        return Part { tally: low, check };
-    }
-    Part {
-        tally: count_byte(start.tally, item),
-        check,
-    }
-}
-
-// Item by item, so that a check order finds the register as it is then.
-fn count_each(items: &[u16]) -> Tally
+// Block by block, as the bytes that they write: one loop then counts the bytes of many runs.
+fn count_blocks(items: &[u16]) -> Tally
     requires { ⌜ listRule (now items) .number ≡ 0 ⌝ }
     ensures { λ r. ⌜ r ≡ tallied noTally (written (now (items .entry))) ⌝ }
 {
-    let mut part = Part {
-        tally: Tally {
-            cells: 0,
-            previous: 0,
-        },
-        check: Check::fresh(),
+    let mut tally = Tally {
+        cells: 0,
+        previous: 0,
     };
-    let mut k: usize = 0;
-    while k < items.len() {
-        part = count_item(part, items[k]);
-        k += 1;
+    let mut check = Check::fresh();
+    let mut bytes = [0u16; 2 * BLOCK];
+    let mut from: usize = 0;
+    while from < items.len() {
+        let end = from + at_most(BLOCK, items.len() - from);
+        let stored = items::write_bytes(check, &items[from..end], &mut bytes);
+        let count = stored.count;
+        tally = count_bytes(tally, &bytes[..count]);
+        check = stored.check;
+        from = end;
     }
-    part.tally
+    tally
 }
 
 // A list with no check order is its own bytes, and needs no register.
@@ -95,7 +79,7 @@ fn count_items(items: &[u16], bytes: usize) -> Tally
         };
         return count_bytes(none, items);
     }
-    count_each(items)
+    count_blocks(items)
 }
 
 // The cells of an accepted list that writes so many bytes. The two closing 0s end two cells after a 0, and one after a

@@ -1,5 +1,5 @@
 // Making an image: the list is checked whole before the first word is stored.
-ghost use Prim.Native.Nat.{_≤_, _<_};
+ghost use Prim.Native.Nat.{_≤_};
 ghost use mathlib.Core.Path.{_≡_};
 ghost use lib.ListN.{length};
 ghost use Rattle.lists.specs.Filled.{storedAt};
@@ -60,41 +60,6 @@ fn turn_into_words(bytes: &mut [u16])
     turn_many(bytes);
 }
 
-// Where a piece of the list that is written at once ends: after a check order, or before the next one.
-fn piece_end(items: &[u16], from: usize) -> usize
-    requires { ⌜ from < length (now items) ⌝ }
-    ensures { λ r. ⌜ (from < r) × (r ≤ length (now (items .entry))) ⌝ }
-{
-    let mut end = from + 1;
-    if items::is_check(items[from]) {
-        return end;
-    }
-    while end < items.len() {
-        if items::is_check(items[end]) {
-            return end;
-        }
-        end += 1;
-    }
-    end
-}
-
-// Piece by piece, so that the bytes between check orders pass the register at once.
-fn store_pieces(items: &[u16], out: &mut [u16])
-    requires { ⌜ writtenBytes (now items) ≤ length (now out) ⌝ }
-    ensures { λ _. ⌜ now (out .exit) ≡ storedAt (now (out .entry)) 0 (written (now (items .entry))) ⌝ }
-{
-    let mut check = Check::fresh();
-    let mut at: usize = 0;
-    let mut from: usize = 0;
-    while from < items.len() {
-        let end = piece_end(items, from);
-        let stored = items::write_bytes(check, &items[from..end], &mut out[at..]);
-        check = stored.check;
-        at += stored.count;
-        from = end;
-    }
-}
-
 // A list with no check order is its own bytes, and needs no register.
 fn store_written(items: &[u16], bytes: usize, out: &mut [u16])
     requires { ⌜ (bytes ≡ writtenBytes (now items)) × (bytes ≤ length (now out)) ⌝ }
@@ -104,7 +69,7 @@ fn store_written(items: &[u16], bytes: usize, out: &mut [u16])
         store(items, 0, out);
         return;
     }
-    store_pieces(items, out);
+    items::write_bytes(Check::fresh(), items, out);
 }
 
 // An accepted list: 9, or its image.

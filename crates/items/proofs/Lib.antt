@@ -1,5 +1,6 @@
 pub mod ItemLaws
 pub mod CheckLaws
 pub mod WrittenLaws
+pub mod RunLaws
 pub mod CheckFacts
 pub mod RuleLaws

@@ -1,12 +1,13 @@
 -- Laws of written bytes: by induction on the items, the register's state going along.
-use Prim.Native.Nat.{ℕ, _+_, _<_, _≤_}
+use Prim.Native.Nat.{ℕ, _+_, _-_, _<_, _≤_}
 use mathlib.Core.Path.{_≡_, refl, sym, ap, ap₂, _∙_}
 use mathlib.Core.Bool.{true, false, cond, _&&_}
 use mathlib.Core.List.{List, [], _∷_, _++_, append-assoc}
 use mathlib.Core.Logic.{⊎-elim}
 use native.Mathlib.Numerals.{add-one}
-use lib.ListN.{length, getD, drop, length-append, drop-of-length-le}
-use lib.Seq.{drop-cons}
+use native.Mathlib.Omega.{arith}
+use lib.ListN.{length, getD, take, drop, length-append, take-append-drop, drop-of-length-le}
+use lib.Seq.{drop-cons, drop-drop}
 use Rattle.lists.specs.Place.{anywhere, everywhere}
 use Rattle.lists.proofs.PlaceLaws.{everywhere-of-none, everywhere-of-passing, everywhere-of-append}
 use Rattle.lists.proofs.PlaceLaws.{nowhere-fails-at-first, nowhere-in-rest}
@@ -95,6 +96,19 @@ written-from-of-append c (m ∷ ms) ns =
     (sym (append-assoc (itemBytes c m) (writtenFrom (afterItem c m) ms) _)
     ∙ ap (λ (s : Check). (itemBytes c m ++ writtenFrom (afterItem c m) ms) ++ writtenFrom s ns)
     (sym (after-bytes-of-append c (itemBytes c m) (writtenFrom (afterItem c m) ms))))
+
+-- from a place to another, and then the rest
+pub written-from-piece : (c : Check) (ns : List ℕ) (from end : ℕ) → from ≤ end
+    → writtenFrom c (drop from ns)
+    ≡ writtenFrom c (take (end - from) (drop from ns))
+    ++ writtenFrom (afterBytes c (writtenFrom c (take (end - from) (drop from ns)))) (drop end ns)
+written-from-piece c ns from end order =
+    let piece = take (end - from) (drop from ns) in
+    let e : from + (end - from) ≡ end = omega arith in
+    let rest = drop-drop (end - from) from ns ∙ ap (λ (k : ℕ). drop k ns) e in
+    ap (writtenFrom c) (sym (take-append-drop (end - from) (drop from ns)))
+    ∙ written-from-of-append c piece (drop (end - from) (drop from ns))
+    ∙ ap (λ (r : List ℕ). writtenFrom c piece ++ writtenFrom (afterBytes c (writtenFrom c piece)) r) rest
 
 -- ---- what they are
 

@@ -1,18 +1,19 @@
 // Document 01, "Items and the check register".
+mod bytes;
 mod list;
 
-pub use list::Stored;
+pub use bytes::Stored;
+pub use bytes::write_bytes;
 pub use list::check_list;
 pub use list::find_check;
 pub use list::find_foreign;
-pub use list::write_bytes;
 pub use list::written_bytes;
 ghost use Prim.Native.Nat.{_≤_, _<_};
 ghost use mathlib.Core.Path.{_≡_};
 ghost use lib.ListN.{length, drop};
-ghost use Rattle.items.specs.Item.{isMark, isCheck, isItem, bytesOf};
+ghost use Rattle.items.specs.Item.{isMark, isCheck, isItem};
 ghost use Rattle.register.specs.Register.{highByte, lowByte};
-ghost use Rattle.items.specs.Written.{freshCheck, beforeMark, afterByte, afterBytes, afterCheck, afterItem};
+ghost use Rattle.items.specs.Written.{freshCheck, beforeMark, afterByte, afterBytes, afterCheck};
 
 pub fn is_mark(n: u16) -> bool
     ensures { λ r. ⌜ r ≡ isMark n ⌝ }
@@ -36,13 +37,6 @@ pub fn is_item(n: u16) -> bool
         return true;
     }
     is_check(n)
-}
-
-// How many written bytes a number counts for, an item or not.
-pub fn bytes_of(n: u16) -> usize
-    ensures { λ r. ⌜ r ≡ bytesOf n ⌝ }
-{
-    if is_check(n) { 2 } else { 1 }
 }
 
 // The check register, and whether the written byte before was a mark byte.
@@ -81,15 +75,6 @@ impl Check {
             register: register::feed(self.register, byte),
             marked: false,
         }
-    }
-
-    pub fn after_item(self, n: u16) -> Self
-        ensures { λ r. ⌜ r ≡ afterItem self n ⌝ }
-    {
-        if is_check(n) {
-            return self.after_check();
-        }
-        self.after_byte(n)
     }
 
     // A run of bytes from a place on: the number there, and then data bytes, two at a time. Answers the state and the

@@ -5,15 +5,14 @@ use mathlib.Core.Path.{_≡_, refl, sym, ap, ap₂, _∙_}
 use mathlib.Core.List.{List, _++_}
 use native.Mathlib.Omega.{arith}
 use borrow.Author.Needs.{needs}
-use lib.ListN.{length, take, drop, length-drop}
-use lib.Seq.{drop-drop, take-all}
+use lib.ListN.{length, drop}
 use Rattle.lists.specs.Place.{lowest}
 use Rattle.items.specs.Item.{isCheck}
 use Rattle.items.specs.Written.{afterBytes, checkBytes, afterCheck, writtenFrom, written}
 use Rattle.items.specs.declared.Check.{Check}
+use Rattle.items.proofs.RunLaws.{rest-of, runAt, last-run-from, run-from}
 use Rattle.codec.specs.machine.Pen.{Writing, writing, freshPen, wrote}
 use Rattle.codec.proofs.PenLaws.{bytes-move-on, bytes-length, wrote-of-append}
-use Rattle.codec.proofs.RunLaws.{run-alone, run-then-check}
 use denote.Ref.{now}
 use Rattle.codec.proofs.writer.write_items.Statement.{statement}
 use Rattle.codec.proofs.writer.write_items.Tie as tie
@@ -26,9 +25,6 @@ record Writing-on (table items : List ℕ) (s₀ s : Writing) (check : Check) (f
 
 module _ {table items : List ℕ} {s₀ s : Writing} {check : Check} {from run : ℕ}
     (on : Writing-on table items s₀ s check from run) where
-  left : length (drop from items) ≡ length items - from
-  left = length-drop from items
-
   same-length : length (s .out) ≡ length (s₀ .out)
   same-length =
       sym (bytes-length table s (writtenFrom check (drop from items)))
@@ -37,7 +33,7 @@ module _ {table items : List ℕ} {s₀ s : Writing} {check : Check} {from run :
 
   module _ (inside : run < length items - from) where
     abbrev part : List ℕ
-    part = take (from + run - from) (drop from items)
+    part = runAt check items from run (on .told)
 
     abbrev bytes : List ℕ
     bytes = part ++ checkBytes (afterBytes check part)
@@ -48,13 +44,8 @@ module _ {table items : List ℕ} {s₀ s : Writing} {check : Check} {from run :
     behind : wrote table (wrote table s bytes) (writtenFrom check-after (drop (from + run + 1) items))
         ≡ wrote table s₀ (written items)
     behind =
-        let size : from + run - from ≡ run = omega arith in
-        let place : from + (run + 1) ≡ from + run + 1 = omega arith in
-        let rest : drop (run + 1) (drop from items) ≡ drop (from + run + 1) items =
-        drop-drop (run + 1) from items ∙ ap (λ (k : ℕ). drop k items) place in
-        let parts = run-then-check check (drop from items) run (on .told) (omega (arith, left)) in
         sym (wrote-of-append table s bytes _)
-        ∙ ap (wrote table s) (rw size (sym (rw rest at parts)))
+        ∙ ap (wrote table s) (sym (run-from check items from run (on .told) inside))
         ∙ on .whole
 
     fits : wrote table s₀ (written items) .pen .cells < length (s₀ .out)
@@ -83,7 +74,7 @@ module _ {table items : List ℕ} {s₀ s : Writing} {check : Check} {from run :
   module _ (end : length items - from ≤ run) where
     last : wrote table s (drop from items) ≡ wrote table s₀ (written items)
     last =
-        ap (wrote table s) (sym (run-alone check (drop from items) run (on .told) (omega (arith, left)))) ∙ on .whole
+        ap (wrote table s) (sym (last-run-from check items from run (on .told) end)) ∙ on .whole
 
     last-fits : wrote table s₀ (written items) .pen .cells < length (s₀ .out)
         → wrote table s (drop from items) .pen .cells < length (s .out)
@@ -106,10 +97,6 @@ write-run-requires c κs =
     let turn = c .before .before in
     fits (turn .before .loop .inv) (turn .loop-test .taken)
     (turn .before .before .before .before .before .before .pre)
-
--- a slice from a place on
-rest-of : (items : List ℕ) (from : ℕ) → take (length items - from) (drop from items) ≡ drop from items
-rest-of items from = take-all (length items - from) (drop from items) (omega (arith, length-drop from items))
 
 loop-again : tie.Need-loop-again Inv-loop μ-loop
 loop-again c =

@@ -32,7 +32,7 @@ returns c =
     ∙ ap (tallied noTally) (sym (own items (sym (entry .pre .1) ∙ c .before .if1 .taken)))
 
 returns-2 : tie.Need-returns-2
-returns-2 c = c .count-each .ensures
+returns-2 c = c .count-blocks .ensures
 
 pub count-items-spec : {M : Type 1} → statement M
 count-items-spec =
