@@ -40,7 +40,7 @@ pub record Counted (m : Reading) (cs : List Cell) : Type 0 where
   pub few : m .held ≤ 16
   pub some : 16 * m .words ≤ unitsSum cs - 1
 
-counted : (m : Reading) (cs : List Cell) → Reads m cs → Counted m cs
+pub counted : (m : Reading) (cs : List Cell) → Reads m cs → Counted m cs
 unfolding freshReading unitsSum
 counted m cs (inl e) = rw (e .0, e .1) (record { held = refl; few = omega arith; some = omega arith })
 counted m cs (inr so-far) =

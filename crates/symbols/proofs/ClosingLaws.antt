@@ -106,7 +106,7 @@ module _
         ∙ word-of-digits 32 n a row tail (15 - length tail) (last-digit-is-data 0 O lead before) eight
         (let r = range .1 in omega (arith, tail-length))
 
-    verdict : Verdict a row (wordOf m)
+    pub verdict : Verdict a row (wordOf m)
     unfolding lastOf
     verdict =
         rw word-is-row (word-verdict a row eight (sound-front a row rest

@@ -33,3 +33,6 @@ pub mod JoinLaws
 pub mod StepLaws
 pub mod AnswerLaws
 pub mod RunLaws
+-- Cells without a gap
+pub mod GapLaws
+pub mod CalmLaws

@@ -10,7 +10,7 @@ use native.Mathlib.Omega.{arith}
 use native.Mathlib.Decide.{decLt}
 use borrow.Author.Tests.{lt-leb, le-leb}
 use lib.Bits.{bitOr, or-shifted}
-use lib.ListN.{length, getD, length-append}
+use lib.ListN.{length, take, getD, length-append}
 use lib.Pow.{pow-lt, high, low, mod-pow-add, mod-mod-pow}
 use Rattle.lists.specs.Place.{anywhere, lowest, passed}
 use Rattle.lists.proofs.PlaceLaws.{lowest-of-some}
@@ -20,7 +20,7 @@ use Rattle.symbols.specs.Bytes.{numberFrom, rowsOf, straysOf, itemsRead,
 use Rattle.symbols.specs.Reading.{units, given, lastAfter, readFrom, readBits, sources}
 use Rattle.symbols.specs.Strip.{isStray}
 use Rattle.symbols.specs.machine.Step.{freshReading, shifted, codeWord, closed, steppedBy, stepped, wordBy}
-use Rattle.symbols.specs.machine.Step.{wordClosed}
+use Rattle.symbols.specs.machine.Step.{wordOf, wordClosed}
 use Rattle.symbols.specs.declared.Cell.{Cell}
 use Rattle.symbols.specs.declared.Cell.the-variants.{Short, Medium, Long}
 use Rattle.symbols.specs.declared.Reading.{Reading}
@@ -31,7 +31,8 @@ use Rattle.symbols.proofs.HalfCells.{halves, track}
 use Rattle.symbols.proofs.HalfLaws.{halves-append}
 use Rattle.symbols.proofs.NumberLaws.{number-append}
 use Rattle.symbols.proofs.ReadsLaws.{Open, Held, Reads, front-length, letters-count, items-so-far, strays-so-far}
-use Rattle.symbols.proofs.ClosingLaws.{word-closed, fair-word}
+use Rattle.symbols.proofs.WordLaws.{Verdict}
+use Rattle.symbols.proofs.ClosingLaws.{verdict, word-closed, fair-word}
 use Rattle.symbols.proofs.EaseLaws.{shifted-out}
 
 -- what a cell more makes of the machine m after the cells cs
@@ -67,7 +68,7 @@ shifted-number n Short = shifted-in n 30 2 (omega arith) ∙ ap (λ (x : ℕ). x
 shifted-number n Medium = shifted-in n 29 3 (omega arith) ∙ ap (λ (x : ℕ). x % 2 ^ 32) (omega arith)
 shifted-number n Long = shifted-in n 28 4 (omega arith) ∙ ap (λ (x : ℕ). x % 2 ^ 32) (omega arith)
 
-units-at-most : (cs : List Cell) → unitsSum cs ≤ 4 * length cs
+pub units-at-most : (cs : List Cell) → unitsSum cs ≤ 4 * length cs
 unfolding unitsSum
 units-at-most [] = omega arith
 units-at-most (c ∷ cs) = omega (arith, units-range c .1, units-at-most cs)
@@ -213,26 +214,36 @@ module _ (m : Reading) (cs : List Cell) (so-far : Held m cs) (room : length cs <
         );
       }
 
-  after-closed : 17 ≤ m₁ .held → After m cs c (closed m₁ (length cs))
-  unfolding closed shifted wordClosed wordBy isStray grown
-  after-closed h =
-      let more-cells : length cs′ ≡ length cs + 1 = omega (arith, length-append cs (c ∷ [])) in
-      let last : length cs′ - 1 ≡ length cs = omega arith in
-      let range : (17 ≤ m₁ .held) × (m₁ .held ≤ 20) = (h, omega (arith, held-grown, held-before, units-range c .1)) in
-      let rows : (8 ≤ length all) × (length all < 16) =
-      (omega (arith, letters-held), (let r = range .1 in omega (arith, letters-held))) in
-      let one : wordClosed m c ≡ codeWord m₁ ∷ [] = rw (le-leb 17 (m₁ .held) h) in
-      record {
-        reads = rw last at (word-closed m₁ cs′ grown range (omega arith) rows few-words);
-        words = rw one (mod-eq-of-lt few-words);
-        items = λ fair.
-            let w = fair-word m₁ cs′ grown range (omega arith) rows few-words fair in (
-              ap (anywhere passed) (strays-so-far m cs so-far) ∙ w .0,
-              w .1
-                  ∙ ap (λ (l : List ℕ). l ++ (candidate (codeWord m₁) ∷ [])) (sym (items-so-far m cs so-far))
-                  ∙ rw one refl,
-            );
-      }
+  module _ (h : 17 ≤ m₁ .held) where
+    range : (17 ≤ m₁ .held) × (m₁ .held ≤ 20)
+    range = (h, omega (arith, held-grown, held-before, units-range c .1))
+
+    rows : (8 ≤ length all) × (length all < 16)
+    rows = (omega (arith, letters-held), (let r = range .1 in omega (arith, letters-held)))
+
+    last : (length cs′ - 1 ≡ length cs) × (length cs′ ≤ 2 ^ 32)
+    last = let n = length-append cs (c ∷ []) in (omega arith, omega arith)
+
+    -- the word that it makes whole
+    pub word-grown : Verdict (lastOf (o .lead) (o .before)) (take 8 all) (wordOf m₁)
+    unfolding grown
+    word-grown = verdict m₁ cs′ grown range (last .1) rows
+
+    after-closed : After m cs c (closed m₁ (length cs))
+    unfolding closed shifted wordClosed wordBy isStray grown
+    after-closed =
+        let one : wordClosed m c ≡ codeWord m₁ ∷ [] = rw (le-leb 17 (m₁ .held) h) in
+        record {
+          reads = rw (last .0) at (word-closed m₁ cs′ grown range (last .1) rows few-words);
+          words = rw one (mod-eq-of-lt few-words);
+          items = λ fair.
+              let w = fair-word m₁ cs′ grown range (last .1) rows few-words fair in (
+                ap (anywhere passed) (strays-so-far m cs so-far) ∙ w .0,
+                w .1
+                    ∙ ap (λ (l : List ℕ). l ++ (candidate (codeWord m₁) ∷ [])) (sym (items-so-far m cs so-far))
+                    ∙ rw one refl,
+              );
+        }
 
   after-step : After m cs c (stepped m c (length cs))
   unfolding stepped steppedBy

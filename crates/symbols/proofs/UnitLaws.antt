@@ -3,7 +3,7 @@
 use Prim.Native.Nat.{ℕ, _+_, _*_, _/_, _%_, _≤_}
 use mathlib.Core.Path.{_≡_, refl, ap, _∙_}
 use mathlib.Core.Bool.{not, _||_, or-false, or-true}
-use mathlib.Core.List.{List, [], _∷_, map}
+use mathlib.Core.List.{List, [], _∷_, _++_, map}
 use native.Mathlib.Omega.{arith}
 use native.Mathlib.Decide.{ℕ-discrete}
 use borrow.Author.Tests.{eq-eqb, ne-eqb}
@@ -27,10 +27,15 @@ unfoldable pub unitsSum : List Cell → ℕ
 unitsSum [] = 0
 unitsSum (c ∷ cs) = units c + unitsSum cs
 
-sum-of-units : (cs : List Cell) → sumOf (map units cs) ≡ unitsSum cs
+pub sum-of-units : (cs : List Cell) → sumOf (map units cs) ≡ unitsSum cs
 unfolding sumOf unitsSum
 sum-of-units [] = refl
 sum-of-units (c ∷ cs) = rw (sum-of-units cs)
+
+pub units-of-both : (cs ds : List Cell) → unitsSum (cs ++ ds) ≡ unitsSum cs + unitsSum ds
+unfolding unitsSum
+units-of-both [] ds = omega arith
+units-of-both (c ∷ cs) ds = omega (arith, units-of-both cs ds)
 
 -- two units to a bit; after a 1 one unit of the next bit is already there
 pub units-of-bits :
@@ -50,6 +55,11 @@ pub units-range : (c : Cell) → (2 ≤ units c) × (units c ≤ 4)
 units-range Short = (omega arith, omega arith)
 units-range Medium = (omega arith, omega arith)
 units-range Long = (omega arith, omega arith)
+
+pub units-at-least : (ds : List Cell) → 2 * length ds ≤ unitsSum ds
+unfolding unitsSum
+units-at-least [] = omega arith
+units-at-least (d ∷ ds) = omega (arith, units-range d .0, units-at-least ds)
 
 -- a 1 is the digit 1
 one-by-digit : (b : Bit) (n : ℕ) → n ≡ digit b → isOne b ≡ eqb n 1

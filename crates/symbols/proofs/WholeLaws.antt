@@ -1,7 +1,7 @@
 -- One cell more, by its units: it makes a word whole, which is then closed, or not. Rests on no axiom.
 use Prim.Native.Nat.{ℕ, _+_, _%_, _^_, _≤_, _<_}
-use mathlib.Core.Path.{_≡_}
-use mathlib.Core.Bool.{true, false}
+use mathlib.Core.Path.{_≡_, refl}
+use mathlib.Core.Bool.{Bool, true, false}
 use mathlib.Core.List.{[], _∷_}
 use native.Mathlib.Nat.{mod-eq-of-lt}
 use native.Mathlib.Omega.{arith}
@@ -11,6 +11,17 @@ use lib.ListN.{length}
 use Rattle.half_cells.specs.machine.Word.{firstOfCells}
 use Rattle.symbols.specs.machine.Step.{shifted, isWhole, codeWord, closed, steppedBy, wordBy}
 use Rattle.symbols.specs.declared.Reading.{Reading}
+
+-- a register by its parts
+pub same-reading
+    : (r : Reading) (bits held words place : ℕ) (stray : Bool)
+    → bits ≡ r .bits
+    → held ≡ r .held
+    → words ≡ r .words
+    → place ≡ r .place
+    → stray ≡ r .stray
+    → record { bits = bits; held = held; words = words; place = place; stray = stray } ≡ r
+same-reading r bits held words place stray b h w p s = rw (b, h, w, p, s) refl
 
 same-place : (at cells : ℕ) → firstOfCells (at % 2 ^ 32) cells ≡ firstOfCells at cells
 unfolding firstOfCells
