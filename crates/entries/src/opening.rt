@@ -1,14 +1,13 @@
 // How a sector's field opens: with three A1 marks, then the byte that tells an ID field from a data field.
-ghost use Prim.Native.Nat.{_≤_, max};
+ghost use Prim.Native.Nat.{_≤_};
 ghost use mathlib.Core.Path.{_≡_};
 ghost use lib.ListN.{length};
-ghost use Rattle.lists.specs.Place.{everywhere};
 ghost use Rattle.timing.specs.Profile.{profileRule};
-ghost use Rattle.timing.specs.Class.{isCell, classesOf};
 ghost use Rattle.entries.specs.FieldKinds.{opensWith};
 ghost use Rattle.entries.specs.machine.Steps.{openedOf, GivesItems};
 use fields::reader::FieldRead;
 use fields::reader::read_in_place;
+use intervals::edges::all_cells;
 use lists::at_most;
 use locks::finder::three_marks_ahead;
 use timing::Profile;
@@ -45,28 +44,6 @@ fn read_marked(p: Profile, intervals: &[u16], n: usize, kind: u16, items: &mut [
             Opened::NoField
         }
     }
-}
-
-fn greater(a: u16, b: u16) -> u16
-    ensures { λ r. ⌜ r ≡ max a b ⌝ }
-{
-    if a < b { b } else { a }
-}
-
-// Whether all are cells: none is further past Min than Rpt is, where one below Min wraps to above all others. With no
-// jump for any, so that it is told in vector instructions.
-fn all_cells(p: Profile, intervals: &[u16]) -> bool
-    requires { ⌜ profileRule p .number ≡ 0 ⌝ }
-    ensures { λ r. ⌜ r ≡ everywhere isCell (classesOf p (now (intervals .entry))) ⌝ }
-{
-    let min = p.min.0;
-    let mut most: u16 = 0;
-    let mut k: usize = 0;
-    while k < intervals.len() {
-        most = greater(most, std::num::wrapping_sub_u16(intervals[k], min));
-        k += 1;
-    }
-    most < p.rpt.0 - min
 }
 
 // A field uses 4 n intervals at least, as a cell gives two bits at most. Where one of so many is no cell it does not

@@ -2,6 +2,7 @@ pub mod CellLaws
 pub mod ClassCellLaws
 pub mod EitherLaws
 pub mod TakenAsLaws
+pub mod InsideLaws
 pub mod PassLaws
 pub mod FoursLaws
 pub mod BlockLaws

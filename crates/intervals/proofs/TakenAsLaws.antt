@@ -6,10 +6,8 @@ use mathlib.Core.Bool.{true}
 use mathlib.Core.List.{List, [], _∷_, _++_, map}
 use native.Mathlib.Omega.{arith}
 use lib.ListN.{length}
-use Rattle.lists.specs.Place.{everywhere}
-use Rattle.lists.proofs.BoolLaws.{both}
-use Rattle.refusal.specs.Answer.{accepted, refused, firstRefusal}
-use Rattle.timing.specs.Class.{classIn, isCell, classNumber, cursorPast, classesFrom, Ascending}
+use Rattle.refusal.specs.Answer.{firstRefusal}
+use Rattle.timing.specs.Class.{classIn, isCell, cursorPast, classesFrom, Ascending}
 use Rattle.timing.specs.machine.Edges.{unitsIn, unitsFrom}
 use Rattle.timing.specs.declared.Class.{Class}
 use Rattle.timing.specs.declared.Class.the-variants.{Narrow, Two, Three, Four, Wide}
@@ -21,7 +19,7 @@ use Rattle.symbols.specs.Reading.{units}
 use Rattle.symbols.specs.declared.Cell.{Cell}
 use Rattle.intervals.specs.Cells.{edgeRuleFrom, cellsOfClasses}
 use Rattle.intervals.proofs.CellLaws.{ReadAs, cellOfUnits, units-of-its-cell, cell-is-read-as, read-first}
-use Rattle.intervals.proofs.CellLaws.{fair-first, same-number}
+use Rattle.intervals.proofs.CellLaws.{fair-first}
 
 -- the cells that intervals are taken as
 abbrev pub takenCells : Cursor → List ℕ → List Cell
@@ -64,35 +62,6 @@ taken-are-cells k (taken-more {c} {x} {cs} {xs} read taken) e =
     read-first k cs (read cell) .1 ∙ ap (λ (ys : List Cell). x ∷ ys) (taken-are-cells (suc k) taken rest)
 
 -- ---- 5 and 6
-
-pub all-cells-are-fair : (k : ℕ) (cs : List Class) → everywhere isCell cs ≡ true → edgeRuleFrom k cs ≡ accepted 0
-unfolding everywhere edgeRuleFrom
-all-cells-are-fair k [] h = refl
-all-cells-are-fair k (c ∷ cs) h =
-    let (cell, rest) = both (isCell c) (everywhere isCell cs) h in
-    read-first k cs (cell-is-read-as c cell) .0 ∙ all-cells-are-fair (suc k) cs rest
-
--- the first interval of a list decides, unless it is a cell
-pub narrow-is-refused : (k : ℕ) (c : Class) (cs : List Class) → classNumber c ≡ 1
-    → edgeRuleFrom k (c ∷ cs) ≡ refused 5 k
-unfolding edgeRuleFrom
-narrow-is-refused k c cs h = rw (same-number c Narrow h)
-
-pub wide-is-refused : (k : ℕ) (c : Class) (cs : List Class) → classNumber c ≡ 5 → edgeRuleFrom k (c ∷ cs) ≡ refused 6 k
-unfolding edgeRuleFrom
-wide-is-refused k c cs h = rw (same-number c Wide h)
-
-pub cell-is-passed
-    : (k : ℕ) (c : Class) (cs : List Class)
-    → (classNumber c ≡ 1 → ⊥)
-    → (classNumber c ≡ 5 → ⊥)
-    → edgeRuleFrom k (c ∷ cs) ≡ edgeRuleFrom (suc k) cs
-unfolding edgeRuleFrom
-cell-is-passed k Narrow cs h g = absurd (h refl)
-cell-is-passed k Two cs h g = refl
-cell-is-passed k Three cs h g = refl
-cell-is-passed k Four cs h g = refl
-cell-is-passed k Wide cs h g = absurd (g refl)
 
 -- a list in two parts: the first that is no cell, in the one or in the other
 pub edges-of-append

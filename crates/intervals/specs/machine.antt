@@ -3,6 +3,8 @@
 pub mod Pass
 -- The units of a block, after either kind
 pub mod Either
+-- Whether intervals are cells
+pub mod Inside
 -- Block after block of it
 pub mod Blocks
 -- The same pass, four cells at a time

@@ -1,6 +1,6 @@
 // A block of cells, four at a time. They have 16 half cells at most and make one byte whole at most, so that whether
 // they do is told once for four, and without a jump.
-ghost use Prim.Native.Nat.{_+_, _*_, _^_, _≤_, _<_};
+ghost use Prim.Native.Nat.{_+_, _*_, _≤_, _<_};
 ghost use mathlib.Core.Path.{_≡_};
 ghost use mathlib.Core.List.{map};
 ghost use lib.ListN.{length, take, drop};
@@ -11,7 +11,7 @@ ghost use Rattle.symbols.specs.machine.Step.{AllCells, shifted, shiftedAll, emp
 ghost use Rattle.symbols.specs.declared.Reading.{Reading};
 ghost use Rattle.intervals.specs.machine.Fours.{alone, foursFrom, Tops};
 use half_cells::fits;
-use lists::put;
+use lists::at_most;
 use symbols::Reading;
 
 // The register after some fours, and how many words they made whole.
@@ -143,17 +143,18 @@ pub fn all_fit(words: &[u32]) -> bool
     all
 }
 
-// The words without the data bit before each, from a place on, where there is room. A strip is first read without.
+// The words without the data bit before each, from a place on, as many as there is room for. A strip is first read
+// without room.
 pub fn store(words: &[u32], at: usize, out: &mut [u16])
-    requires { ⌜ at + length (now words) < 2 ^ 64 ⌝ }
     ensures { λ _. ⌜ now (out .exit) ≡ storedAt (now (out .entry)) at (map alone (now (words .entry))) ⌝ }
 {
     if out.len() <= at {
         return;
     }
+    let count = at_most(out.len() - at, words.len());
     let mut k: usize = 0;
-    while k < words.len() {
-        put(out, at + k, (words[k] % 65536) as u16);
+    while k < count {
+        out[at + k] = (words[k] % 65536) as u16;
         k += 1;
     }
 }

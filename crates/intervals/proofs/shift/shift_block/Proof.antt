@@ -76,13 +76,6 @@ shift-fours-requires c κs =
       (start .pre .0 .1, start .pre .1 .0 .0),
     )
 
-store-requires : tie.Need-store-requires
-store-requires c κs =
-    let shifted = c .before .before .before .before .before .before .before in
-    let start = shifted .before .before .before .before .before .before in
-    let few = shifted .shift-fours .ensures .1 .0 in
-    omega (arith, count-is shifted, few, start .pre .1 .0 .1, start .pre .1 .1 .0, start .pre .1 .1 .1)
-
 shift-in-requires : tie.Need-shift-in-requires
 shift-in-requires c κs =
     let told = c .before .before .before .before .before .before .before .before in
@@ -118,7 +111,7 @@ shift-block-spec =
     tie.close
     (tie.spec (λ c. search needs) (λ c. sym (front-count _ _ (c .before .before .before .before .pre .1 .0 .1)))
     shift-fours-requires (λ c. search needs) (λ c. sym (count-is (c .before .before .before))) (λ c. search needs)
-    (λ c. search needs) (λ c. sym (count-is (c .before .before .before .before .before .before))) store-requires
+    (λ c. search needs) (λ c. sym (count-is (c .before .before .before .before .before .before))) (λ c κs. search needs)
     (λ c. search needs) (λ c. search needs) (λ c. search needs) (λ c. search needs) (λ c. search needs)
     shift-in-requires (λ c. search needs) (λ c. search needs) returns (λ c. search needs) (λ c. search needs)
     (λ c. search needs) (λ c. search needs))
