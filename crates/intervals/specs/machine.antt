@@ -7,3 +7,7 @@ pub mod Either
 pub mod Blocks
 -- The same pass, four cells at a time
 pub mod Fours
+-- Eight cells in one number
+pub mod Lanes
+-- A pass that only looks
+pub mod Look

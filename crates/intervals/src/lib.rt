@@ -12,6 +12,8 @@ use timing::Profile;
 pub mod block;
 pub mod edges;
 mod fours;
+pub mod look;
+mod scan;
 mod shift;
 mod units;
 

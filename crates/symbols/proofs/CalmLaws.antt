@@ -80,7 +80,11 @@ module _ (m : Reading) (cs : List Cell) (so-far : Held m cs) (room : length cs <
               rw (le-leb 17 (m₁ .held) h, fits-word h) (record { bits = refl; place = refl; stray = refl })
         ]
 
--- before the first cell no byte is whole
+-- before the first cell no letter is read, and no byte is whole
+pub none-open-at-first : NoneOpen freshReading []
+unfolding NoneOpen freshReading readBits readFrom anywhere
+none-open-at-first = refl
+
 first-calm : (c : Cell) → CalmStep freshReading [] c (stepped freshReading c 0)
 unfolding stepped steppedBy shifted freshReading
 first-calm Short = record { bits = refl; place = refl; stray = refl }
