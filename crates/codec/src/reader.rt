@@ -11,7 +11,7 @@ ghost use Rattle.codec.specs.Reader.{readRule, readOutput};
 use half_cells::words_to_bytes;
 use intervals::edges::check_edges;
 use intervals::last_place;
-use intervals::look::look_over;
+use intervals::look_over;
 use intervals::pass_over;
 use refusal::Counted;
 use refusal::Refusal;

@@ -116,28 +116,6 @@ module _ (a b c d e f g h : ℕ) (cells : AllCells (a ∷ b ∷ c ∷ d ∷ e �
   abbrev eight : List ℕ
   eight = a ∷ b ∷ c ∷ d ∷ e ∷ f ∷ g ∷ h ∷ []
 
-  record Few : Type 0 where
-    fa : a ≤ 4
-    fb : b ≤ 4
-    fc : c ≤ 4
-    fd : d ≤ 4
-    fe : e ≤ 4
-    ff : f ≤ 4
-    fg : g ≤ 4
-    fh : h ≤ 4
-
-  few : Few
-  unfolding AllCells
-  few =
-      let (la, ha, ca) = cells in
-      let (lb, hb, cb) = ca in
-      let (lc, hc, c3) = cb in
-      let (ld, hd, cd) = c3 in
-      let (le, he, ce) = cd in
-      let (lf, hf, cf) = ce in
-      let (lg, hg, cg) = cf in
-      record { fa = ha; fb = hb; fc = hc; fd = hd; fe = he; ff = hf; fg = hg; fh = cg .1 }
-
   abbrev twos : List ℕ
   twos = a ∷ (a + b) ∷ (b + c) ∷ (c + d) ∷ (d + e) ∷ (e + f) ∷ (f + g) ∷ (g + h) ∷ []
 
@@ -146,47 +124,42 @@ module _ (a b c d e f g h : ℕ) (cells : AllCells (a ∷ b ∷ c ∷ d ∷ e �
       a ∷ (a + b) ∷ (a + b + c) ∷ (a + b + c + d) ∷ (b + c + d + e) ∷ (c + d + e + f) ∷ (d + e + f + g)
       ∷ (e + f + g + h) ∷ []
 
-  -- after n
-  abbrev sumsAfter : ℕ → List ℕ
-  sumsAfter n =
-      (n + a) ∷ (n + a + b) ∷ (n + a + b + c) ∷ (n + a + b + c + d) ∷ (n + a + b + c + d + e)
-      ∷ (n + a + b + c + d + e + f) ∷ (n + a + b + c + d + e + f + g) ∷ (n + a + b + c + d + e + f + g + h) ∷ []
+  abbrev sums : List ℕ
+  sums =
+      a ∷ (a + b) ∷ (a + b + c) ∷ (a + b + c + d) ∷ (a + b + c + d + e) ∷ (a + b + c + d + e + f)
+      ∷ (a + b + c + d + e + f + g) ∷ (a + b + c + d + e + f + g + h) ∷ []
 
   two-moved : withMoved 8 (packed eight) ≡ packed twos
-  unfolding packed
+  unfolding packed AllCells
   two-moved =
-      let w = few in
       moved-on 8 56 (packed eight) (packed (a ∷ b ∷ c ∷ d ∷ e ∷ f ∷ g ∷ [])) h refl (omega arith) (omega arith)
       (omega arith) ∙ omega arith
 
   four-moved : withMoved 16 (packed twos) ≡ packed fours
-  unfolding packed
+  unfolding packed AllCells
   four-moved =
-      let w = few in
       moved-on 16 48 (packed twos) (packed (a ∷ (a + b) ∷ (b + c) ∷ (c + d) ∷ (d + e) ∷ (e + f) ∷ []))
       ((g + h) * 2 ^ 8 + (f + g)) refl (omega arith) (omega arith) (omega arith)
       ∙ omega arith
 
-  eight-moved : withMoved 32 (packed fours) ≡ packed (sumsAfter 0)
-  unfolding packed
+  eight-moved : withMoved 32 (packed fours) ≡ packed sums
+  unfolding packed AllCells
   eight-moved =
-      let w = few in
       moved-on 32 32 (packed fours) (packed (a ∷ (a + b) ∷ (a + b + c) ∷ (a + b + c + d) ∷ []))
       (packed ((b + c + d + e) ∷ (c + d + e + f) ∷ (d + e + f + g) ∷ (e + f + g + h) ∷ [])) refl (omega arith)
       (omega arith) (omega arith)
       ∙ omega arith
 
-  sums-are : sumsOf (packed eight) ≡ packed (sumsAfter 0)
+  sums-are : sumsOf (packed eight) ≡ packed sums
   unfolding sumsOf
   sums-are = rw (two-moved, four-moved, eight-moved)
 
   pub last-sum : sumsOf (packed eight) / 2 ^ 56 ≡ sumOf eight
-  unfolding packed sumOf
+  unfolding packed sumOf AllCells
   last-sum =
-      let w = few in
       let low : ℕ = packed (a ∷ (a + b) ∷ (a + b + c) ∷ (a + b + c + d) ∷ (a + b + c + d + e)
       ∷ (a + b + c + d + e + f) ∷ (a + b + c + d + e + f + g) ∷ []) in
-      let parts : packed (sumsAfter 0) ≡ (a + b + c + d + e + f + g + h) * 2 ^ 56 + low = omega arith in
+      let parts : packed sums ≡ (a + b + c + d + e + f + g + h) * 2 ^ 56 + low = omega arith in
       rw (sums-are, parts) (digits-div (a + b + c + d + e + f + g + h) (omega arith) ∙ omega arith)
 
   pub flags-are
@@ -195,10 +168,8 @@ module _ (a b c d e f g h : ℕ) (cells : AllCells (a ∷ b ∷ c ∷ d ∷ e �
       → p ≡ 1 + q
       → (sumsOf (packed eight) * 2 ^ 2 % 2 ^ 64 + 0x0404040404040404 * p % 2 ^ 64) % 2 ^ 64
       ≡ packed (flagsFrom (1 + q) eight)
-  unfolding packed flagsFrom
+  unfolding packed flagsFrom AllCells
   flags-are q p small one =
-      let w = few in
-      let sums : ℕ = packed (sumsAfter 0) in
-      let up : sums * 2 ^ 2 % 2 ^ 64 ≡ sums * 2 ^ 2 = mod-eq-of-lt (omega arith) in
+      let up : packed sums * 2 ^ 2 % 2 ^ 64 ≡ packed sums * 2 ^ 2 = mod-eq-of-lt (omega arith) in
       let long : 0x0404040404040404 * p % 2 ^ 64 ≡ 0x0404040404040404 * p = mod-eq-of-lt (omega arith) in
       rw (sums-are, up, long) (mod-eq-of-lt (omega arith) ∙ omega arith)

@@ -1,12 +1,12 @@
--- A pass that only looks stands where a pass does: a block goes through the machine, or has no gap while none is open,
--- and then its half cells say where the machine stands. Rests on no axiom.
-use Prim.Native.Nat.{ℕ, _+_, _-_, _*_, _^_, _≤_, _<_, min}
+-- A pass that only looks stands where a pass does: a block goes through the machine, or it has no gap while none is
+-- open, and its half cells say where the machine stands. Rests on no axiom.
+use Prim.Native.Nat.{ℕ, _+_, _-_, _^_, _≤_, _<_}
 use mathlib.Core.Path.{_≡_, refl, sym, ap, _∙_}
 use mathlib.Core.Bool.{Bool, true, false}
 use mathlib.Core.List.{List, [], _∷_, _++_, map, map-append}
 use native.Mathlib.Nat.{zero-add}
 use native.Mathlib.Omega.{arith}
-use lib.ListN.{length, take, drop, length-map, length-append, length-take, length-drop}
+use lib.ListN.{length, take, drop, length-map, length-drop}
 use lib.Seq.{take-add, take-all, length-take-le}
 use Rattle.lists.specs.Sum.{sumOf}
 use Rattle.timing.specs.Class.{atStart, cursorAfter}
@@ -15,7 +15,7 @@ use Rattle.timing.specs.declared.Profile.{Profile}
 use Rattle.timing.proofs.ClassLaws.{cursor-after-append, cursor-after-none}
 use Rattle.timing.proofs.UnitsLaws.{units-none, units-count, units-append}
 use Rattle.symbols.specs.Reading.{units}
-use Rattle.symbols.specs.machine.Step.{AllCells, freshReading, emptyReading, shiftedAll, ran}
+use Rattle.symbols.specs.machine.Step.{AllCells, freshReading, ran}
 use Rattle.symbols.specs.machine.Gaps.{gapsFrom, NoneOpen}
 use Rattle.symbols.specs.declared.Cell.{Cell}
 use Rattle.symbols.specs.declared.Reading.{Reading}
@@ -130,8 +130,9 @@ module _ (us : List ℕ) (s : Seen) (sees : Sees us s) (few : length us < 2 ^ 32
         take-all 16 last (rw (length-drop (length vs - 16) vs) (omega arith)) in
         let run = calm-run m cs ds reads (omega (arith, as-many, block-count)) (rw block calm) (sees .clear clear)
         (omega (arith, block-count)) in
-        goes-on r true
-        (e ∙ rw (sixteen, ← last-sixteen vs m cells some, counted-sum) (rw block at run)) (λ _. none-open calm (omega arith))
+        let same : r ≡ ran m (length cs) ds =
+        e ∙ rw (sixteen, ← last-sixteen vs m cells some, counted-sum) (rw block at run) in
+        goes-on r true same (λ _. none-open calm (omega arith))
 
 -- ---- a list of intervals
 

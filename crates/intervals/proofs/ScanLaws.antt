@@ -1,8 +1,8 @@
--- Cells looked at by eights, in the bytes of one number: eight after eight, what they have is what all have. Rests on no
--- axiom.
-use Prim.Native.Nat.{ℕ, zero, suc, _+_, _*_, _/_, _%_, _^_, _≤_, _<_}
+-- Cells looked at by eights, in the bytes of one number: eight after eight, what they have is what all have. Rests on
+-- no axiom.
+use Prim.Native.Nat.{ℕ, suc, _+_, _*_, _/_, _%_, _^_, _≤_, _<_}
 use mathlib.Core.Path.{_≡_, refl, sym, ap, _∙_}
-use mathlib.Core.Bool.{Bool, not, _&&_, _||_, or-assoc, or-false, true, false}
+use mathlib.Core.Bool.{Bool, true, false, not, _&&_, _||_, or-assoc, or-false}
 use mathlib.Core.List.{List, [], _∷_, _++_}
 use native.Mathlib.Decide.{ℕ-discrete}
 use native.Mathlib.Nat.{mul-assoc}
@@ -160,7 +160,8 @@ module _ (start : ℕ) (us : List ℕ) where
       let rest = drop (8 * (i + 1)) us in
       let place : 8 * i + 8 ≡ 8 * (i + 1) = omega arith in
       let parts : drop (8 * i) us ≡ eight ++ rest =
-      sym (take-append-drop 8 (drop (8 * i) us)) ∙ ap (_++_ eight) (drop-drop 8 (8 * i) us ∙ ap (λ (k : ℕ). drop k us) place) in
+      sym (take-append-drop 8 (drop (8 * i) us))
+      ∙ ap (_++_ eight) (drop-drop 8 (8 * i) us ∙ ap (λ (k : ℕ). drop k us) place) in
       let (cells-here, long) = eight-cells us cells size i inside in
       record {
         small = omega (arith, so-far .small, sum-range eight cells-here .1);

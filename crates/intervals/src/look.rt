@@ -5,13 +5,12 @@ ghost use Prim.Native.Nat.{ℕ, _+_, _^_, _≤_, _<_};
 ghost use mathlib.Core.Path.{_≡_};
 ghost use mathlib.Core.List.{List, _++_};
 ghost use lib.ListN.{length};
-ghost use Rattle.timing.specs.Class.{atStart, cursorAfter};
+ghost use Rattle.timing.specs.Class.{cursorAfter};
 ghost use Rattle.timing.specs.machine.Edges.{unitsFrom};
 ghost use Rattle.timing.specs.declared.Profile.{Profile};
 ghost use Rattle.symbols.specs.machine.Step.{AllCells};
-ghost use Rattle.intervals.specs.machine.Pass.{passFrom, passed};
+ghost use Rattle.intervals.specs.machine.Pass.{passFrom};
 ghost use Rattle.intervals.specs.machine.Look.{calmed, Sees, Looking};
-use crate::Pass;
 use crate::fours::last_bits;
 use crate::scan::scan;
 use crate::shift::shift_units;
@@ -19,7 +18,6 @@ use crate::units::units_of;
 use lists::at_most;
 use symbols::Reading;
 use timing::Cursor;
-use timing::Profile;
 
 // As many intervals as are looked at together.
 const BLOCK: usize = 128;
@@ -120,7 +118,7 @@ fn look_block(at: Look, intervals: &[u16], units: &mut [u8], most: u32) -> Look
 }
 
 // One block more.
-fn look_on(at: Look, intervals: &[u16], most: u32) -> Look
+pub fn look_on(at: Look, intervals: &[u16], most: u32) -> Look
     requires { ⌜ (at .used < length (now intervals)) × (length (now intervals) ≤ most) ⌝ }
     requires { ⌜ (at .seen .reading .words < most) × (at .seen .reading .held ≤ 16) ⌝ }
     ensures more { λ r. ⌜ at .used < r .used ⌝ }
@@ -131,27 +129,4 @@ fn look_on(at: Look, intervals: &[u16], most: u32) -> Look
     let n = at_most(BLOCK, intervals.len() - from);
     let mut units = [0u8; BLOCK];
     look_block(at, &intervals[from..from + n], &mut units[..n], most)
-}
-
-// All intervals, which are no more than bytes are wanted.
-pub fn look_over(p: Profile, intervals: &[u16], most: u32) -> Pass
-    requires { ⌜ length (now intervals) ≤ most ⌝ }
-    ensures { λ r. ⌜ r ≡ passed most (unitsFrom (atStart p) (now (intervals .entry))) .end ⌝ }
-{
-    let mut at = Look {
-        seen: Seen {
-            reading: Reading::new(),
-            clear: true,
-        },
-        used: 0,
-        cursor: Cursor::start(p),
-    };
-    while at.used < intervals.len() {
-        at = look_on(at, intervals, most);
-    }
-    let reading = at.seen.reading;
-    Pass {
-        reading,
-        used: at.used,
-    }
 }

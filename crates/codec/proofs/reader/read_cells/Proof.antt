@@ -1,5 +1,5 @@
--- Why `codec::reader::read_cells` answers `readRule`: the pass that looks decides every refusal and the count, the other
--- stores the code words of the same items. Rests on no axiom.
+-- Why `codec::reader::read_cells` answers `readRule`: the pass that looks decides every refusal and the count, the
+-- other stores the code words of the same items. Rests on no axiom.
 use mathlib.Core.Path.{_≡_, sym, ap, _∙_}
 use native.Mathlib.Omega.{arith}
 use lib.Seq.{length-take-le}

@@ -1,17 +1,15 @@
 -- Why `look::look_units` sees what a pass does: each block goes through the machine, or is seen to have no gap while
 -- none is open. Rests on no axiom.
-use Prim.Native.Nat.{ℕ, _+_, _^_, _≤_, _<_}
+use Prim.Native.Nat.{ℕ, _+_, _≤_}
 use mathlib.Core.Path.{_≡_, sym, ap, _∙_}
 use mathlib.Core.Bool.{Bool, true, false, false≢true}
 use mathlib.Core.List.{List, _++_}
 use native.Mathlib.Omega.{arith}
 use lib.ListN.{length}
-use Rattle.symbols.specs.machine.Step.{AllCells}
 use Rattle.symbols.specs.machine.Gaps.{gapsFrom}
 use Rattle.symbols.specs.declared.Reading.{Reading}
 use Rattle.intervals.specs.machine.Pass.{passFrom}
 use Rattle.intervals.specs.machine.Look.{Sees}
-use Rattle.intervals.specs.declared.look.Seen.{Seen}
 use Rattle.intervals.proofs.ScanLaws.{sum-range}
 use Rattle.intervals.proofs.LookLaws.{sees-through, sees-calm}
 use borrow.Author.Needs.{needs}
@@ -48,7 +46,8 @@ move-on-requires : tie.Need-move-on-requires
 move-on-requires c κs =
     let start = c .before .before .before .before .before .before in
     let long = c .before .before .before .if1 .left in
-    (omega (arith, long), omega (arith, long, c .before .before .scan .ensures .0, sum-range _ (start .pre .1 .0 .0) .0))
+    let sum = c .before .before .scan .ensures .0 in
+    (omega (arith, long), omega (arith, long, sum, sum-range _ (start .pre .1 .0 .0) .0))
 
 returns : tie.Need-returns
 returns c = through (c .before .before .before .before) _ false (c .shift-on .ensures) (λ h. absurd (false≢true h))
@@ -63,8 +62,8 @@ returns-3 c us sees size room =
     let start = c .before .before .before .before .before .before .before in
     let small = start .fits .most .fits in
     let (sum, gap) = c .before .before .before .scan .ensures in
-    sees-calm us _ sees (omega (arith, size, room, small)) _ (start .pre .1 .0 .0) (omega (arith, size, room, small)) _ _
-    (c .before .if3 .taken) (sym gap ∙ c .before .before .if2 .left)
+    sees-calm us _ sees (omega (arith, size, room, small)) _ (start .pre .1 .0 .0) (omega (arith, size, room, small))
+    _ _ (c .before .if3 .taken) (sym gap ∙ c .before .before .if2 .left)
     (omega (arith, c .before .before .before .before .if1 .left)) sum (c .move-on .ensures)
 
 returns-4 : tie.Need-returns-4
@@ -75,4 +74,5 @@ returns-4 c =
 
 pub look-units-spec : {M : Type 1} → statement M
 look-units-spec =
-    tie.close (tie.spec (λ c κs. search needs) returns scan-requires (λ c κs. search needs) returns-2 move-on-requires returns-3 (λ c κs. search needs) returns-4)
+    tie.close (tie.spec (λ c κs. search needs) returns scan-requires (λ c κs. search needs) returns-2
+    move-on-requires returns-3 (λ c κs. search needs) returns-4)

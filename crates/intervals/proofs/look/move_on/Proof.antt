@@ -11,4 +11,5 @@ returns c = rw (c .wrapping-add-u32 .ensures, c .before .last-bits .ensures) ref
 
 pub move-on-spec : {M : Type 1} → statement M
 move-on-spec =
-    tie.close (tie.spec (λ c. search needs) (λ c. search needs) (λ c κs. search needs) (λ c. search needs) (λ c κs. search needs) returns)
+    tie.close (tie.spec (λ c. search needs) (λ c. search needs) (λ c κs. search needs) (λ c. search needs)
+    (λ c κs. search needs) returns)

@@ -1,10 +1,7 @@
 -- Why `scan::scan` counts all and finds a gap: what is left of the sum and of the gaps stays the same from eight to
 -- eight. Rests on no axiom.
-use Prim.Native.Nat.{_-_, _*_, _<_}
+use Prim.Native.Nat.{_-_}
 use native.Mathlib.Omega.{arith}
-use lib.ListN.{length, take, drop, length-drop}
-use lib.Seq.{length-take-le}
-use Rattle.intervals.proofs.FoursLaws.{cells-in-parts}
 use Rattle.intervals.proofs.ScanLaws.{Scanning, eight-cells, scans-begin, scans-on, scans-end}
 use borrow.Author.Needs.{needs}
 use Rattle.intervals.proofs.scan.scan.Statement.{statement}
@@ -29,7 +26,8 @@ loop-again c =
     let inside = c .before .before .loop-test .taken in
     let so-far = turn .loop .inv in
     let (eight, long) = eight-cells _ cells size (turn .loop .i) inside in
-    let (sum, gap) = c .scan-eight .ensures _ eight long (c .before .eight-at .ensures) (omega (arith, so-far .small, inside)) in
+    let (sum, gap) =
+    c .scan-eight .ensures _ eight long (c .before .eight-at .ensures) (omega (arith, so-far .small, inside)) in
     scans-on _ _ cells size so-far inside _ _ sum gap
 
 returns : tie.Need-returns Inv-loop μ-loop
@@ -37,4 +35,5 @@ returns c = scans-end _ _ (c .before .before .before .pre .0) (c .before .loop .
 
 pub scan-spec : {M : Type 1} → statement M
 scan-spec =
-    tie.close (tie.spec Inv-loop μ-loop loop-holds (λ c. search needs) eight-at-requires (λ c κs. search needs) (λ c. search needs) (λ c. search needs) loop-again returns)
+    tie.close (tie.spec Inv-loop μ-loop loop-holds (λ c. search needs) eight-at-requires (λ c κs. search needs)
+    (λ c. search needs) (λ c. search needs) loop-again returns)

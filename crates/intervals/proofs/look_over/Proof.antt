@@ -1,4 +1,4 @@
--- Why `look::look_over` gives `passed`: block after block it stands where the pass does, and so at the end of the list.
+-- Why `intervals::look_over` gives `passed`: block after block it stands where the pass does, and so at the end.
 -- Rests on no axiom.
 use Prim.Native.Nat.{_-_}
 use native.Mathlib.Omega.{arith}
@@ -7,8 +7,8 @@ use Rattle.timing.specs.declared.Profile.{Profile}
 use Rattle.intervals.specs.machine.Look.{Looking}
 use Rattle.intervals.proofs.LookLaws.{looks-first, looking-fits, looks-last}
 use borrow.Author.Needs.{needs}
-use Rattle.intervals.proofs.look.look_over.Statement.{statement}
-use Rattle.intervals.proofs.look.look_over.Tie as tie
+use Rattle.intervals.proofs.look_over.Statement.{statement}
+use Rattle.intervals.proofs.look_over.Tie as tie
 
 abbrev Inv-loop : tie.InvT-loop
 Inv-loop intervals most at₀ at = (p : Profile) → Looking p intervals at₀ → Looking p intervals at
@@ -24,7 +24,8 @@ stands
 stands turn =
     let args = turn .before .before .before .before .args in
     turn .loop .inv (args .p)
-    (rw (turn .before .start .ensures, turn .before .before .new .ensures) (looks-first (args .p) (args .intervals .now)))
+    (rw (turn .before .start .ensures, turn .before .before .new .ensures)
+    (looks-first (args .p) (args .intervals .now)))
 
 look-on-requires : tie.Need-look-on-requires Inv-loop μ-loop
 look-on-requires c κs =
@@ -48,4 +49,5 @@ returns c =
 
 pub look-over-spec : {M : Type 1} → statement M
 look-over-spec =
-    tie.close (tie.spec Inv-loop μ-loop (λ c κs. search needs) (λ c κs. search needs) (λ c p first. first) look-on-requires loop-less loop-again returns)
+    tie.close (tie.spec Inv-loop μ-loop (λ c κs. search needs) (λ c κs. search needs) (λ c p first. first)
+    look-on-requires loop-less loop-again returns)
