@@ -20,7 +20,7 @@ use Rattle.symbols.specs.machine.Gaps.{gapsFrom, NoneOpen}
 use Rattle.symbols.specs.declared.Cell.{Cell}
 use Rattle.symbols.specs.declared.Reading.{Reading}
 use Rattle.symbols.proofs.ReadsLaws.{Reads}
-use Rattle.symbols.proofs.AnswerLaws.{Counted, counted}
+use Rattle.symbols.proofs.AnswerLaws.{counted}
 use Rattle.symbols.proofs.StepLaws.{units-at-most}
 use Rattle.symbols.proofs.RunLaws.{ran-in-parts, ran-reads}
 use Rattle.symbols.proofs.CalmLaws.{none-open-at-first, none-open-after, calm-run}
@@ -45,9 +45,6 @@ cells-of-units (u ∷ us) cells =
 reads-as : (m : Reading) (cs : List Cell) → m ≡ ran freshReading 0 cs → length cs ≤ 2 ^ 32 → Reads m cs
 reads-as m cs e few = rw e (ran-reads cs few)
 
-ran-on : (cs ds : List Cell) → ran freshReading 0 (cs ++ ds) ≡ ran (ran freshReading 0 cs) (length cs) ds
-ran-on cs ds = rw zero-add at (ran-in-parts freshReading 0 cs ds)
-
 module _ (us : List ℕ) (s : Seen) (sees : Sees us s) (few : length us < 2 ^ 32) where
   abbrev cs : List Cell
   cs = sees .cells
@@ -61,12 +58,11 @@ module _ (us : List ℕ) (s : Seen) (sees : Sees us s) (few : length us < 2 ^ 32
   reads : Reads m cs
   reads = reads-as m cs (sees .reading) (omega (arith, as-many))
 
-  counts : Counted m cs
-  counts = counted m cs reads
-
   -- a byte has sixteen half cells, and a cell four at most
   pub seen-fits : (m .held ≤ 16) × (m .words ≤ length us)
-  seen-fits = (counts .few, omega (arith, counts .some, units-at-most cs, as-many))
+  seen-fits =
+      let counts = counted m cs reads in
+      (counts .few, omega (arith, counts .some, units-at-most cs, as-many))
 
   module _ (vs : List ℕ) (cells : AllCells vs) (room : length us + length vs < 2 ^ 32) where
     abbrev ds : List Cell
@@ -87,7 +83,7 @@ module _ (us : List ℕ) (s : Seen) (sees : Sees us s) (few : length us < 2 ^ 32
         record {
           cells = cs ++ ds;
           same = map-append units cs ds ∙ rw (sees .same, block) refl;
-          reading = e ∙ ap (λ (x : Reading). ran x (length cs) ds) (sees .reading) ∙ sym (ran-on cs ds);
+          reading = e ∙ ap (λ (x : Reading). ran x (length cs) ds) (sees .reading) ∙ sym (rw zero-add at (ran-in-parts freshReading 0 cs ds));
           clear = λ h. rw e (none h);
         }
 
@@ -161,7 +157,6 @@ module _ (p : Profile) (ds : List ℕ) (at : Look) (looking : Looking p ds at) w
 
   pub looking-fits : length ds < 2 ^ 32 → (at .seen .reading .held ≤ 16) × (at .seen .reading .words ≤ at .used)
   looking-fits small =
-      let few = looking .within in
       let (held, words) = seen-fits us (at .seen) (looking .sees) (omega (arith, us-count)) in
       (held, omega (arith, words, us-count))
 
@@ -201,6 +196,5 @@ module _ (p : Profile) (ds : List ℕ) (at : Look) (looking : Looking p ds at) w
       let cs = sees .cells in
       let size : length cs ≡ at .used = sym (length-map cs units) ∙ ap length (sees .same) ∙ us-count in
       let end : 0 + length cs ≡ at .used = omega arith in
-      let within = looking .within in
       let run = pass-over-all cs most 0 freshReading (omega arith) small .0 in
       sym (rw (sees .same, all, end, ← sees .reading) at run)
