@@ -1,4 +1,4 @@
-// The strip reader: one pass decides every refusal and the count, a second stores the items.
+// The strip reader: one pass, which only looks, decides every refusal and the count, a second stores the items.
 ghost use Prim.Native.Nat.{_≤_};
 ghost use mathlib.Core.Path.{_≡_};
 ghost use lib.ListN.{length};
@@ -11,6 +11,7 @@ ghost use Rattle.codec.specs.Reader.{readRule, readOutput};
 use half_cells::words_to_bytes;
 use intervals::edges::check_edges;
 use intervals::last_place;
+use intervals::look_over;
 use intervals::pass_over;
 use refusal::Counted;
 use refusal::Refusal;
@@ -51,8 +52,7 @@ fn read_cells(p: Profile, intervals: &[u16], out: &mut [u16]) -> Counted
     ensures answer { λ r. ⌜ countedAnswer r ≡ readRule p (now (intervals .entry)) (length (now (out .entry))) ⌝ }
     ensures output { λ _. ⌜ now (out .exit) ≡ readOutput p (now (intervals .entry)) (now (out .entry)) ⌝ }
 {
-    let mut none = [0u16; 0];
-    let pass = pass_over(p, intervals, MAX_INTERVALS as u32, &mut none);
+    let pass = look_over(p, intervals, MAX_INTERVALS as u32);
     let reading = pass.reading;
     match conclude(reading, last_place(pass.used)) {
         Counted::Refused(refusal) => Counted::Refused(refusal),

@@ -8,3 +8,6 @@ pub mod FoursLaws
 pub mod BlockLaws
 pub mod TopLaws
 pub mod SixteenLaws
+pub mod LaneLaws
+pub mod ScanLaws
+pub mod LookLaws

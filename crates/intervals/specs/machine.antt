@@ -9,3 +9,7 @@ pub mod Inside
 pub mod Blocks
 -- The same pass, four cells at a time
 pub mod Fours
+-- Eight cells in one number
+pub mod Lanes
+-- A pass that only looks
+pub mod Look

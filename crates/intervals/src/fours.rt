@@ -93,7 +93,7 @@ fn shift_four(m: Reading, units: &[u8], k: usize) -> Reading
 }
 
 // The register after sixteen cells, which have all its half cells.
-fn last_bits(units: &[u8], k: usize) -> u32
+pub fn last_bits(units: &[u8], k: usize) -> u32
     requires { ⌜ k + 16 ≤ length (now units) ⌝ }
     ensures { λ r. ⌜ r ≡ shiftedAll emptyReading (take 16 (drop k (now (units .entry)))) .bits ⌝ }
 {

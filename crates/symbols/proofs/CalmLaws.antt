@@ -80,7 +80,11 @@ module _ (m : Reading) (cs : List Cell) (so-far : Held m cs) (room : length cs <
               rw (le-leb 17 (m₁ .held) h, fits-word h) (record { bits = refl; place = refl; stray = refl })
         ]
 
--- before the first cell no byte is whole
+-- before the first cell no letter is read, and no byte is whole
+pub none-open-at-first : NoneOpen freshReading []
+unfolding NoneOpen freshReading readBits readFrom anywhere
+none-open-at-first = refl
+
 first-calm : (c : Cell) → CalmStep freshReading [] c (stepped freshReading c 0)
 unfolding stepped steppedBy shifted freshReading
 first-calm Short = record { bits = refl; place = refl; stray = refl }
@@ -163,10 +167,9 @@ module _ (m : Reading) (cs ds : List Cell) (r : Reads m cs) (room : length cs + 
     unfolding NoneOpen readBits anywhere
     none-open-after some =
         let letters = read-append O cs ds in
-        let longer = cells-at-most-bits b ds in
         let count = ap length letters ∙ length-append (readBits cs) (readFrom b ds) in
         let told : length (readBits cs) ≤ 8 * end .words =
-        omega (arith, counts .held, counts .few, length-by-units (cs ++ ds)) in
+        omega (arith, counts .held, counts .few, length-by-units (cs ++ ds), cells-at-most-bits b ds) in
         rw letters
         (none-behind isGap (length (readBits cs)) (8 * end .words) (readBits cs) (readFrom b ds) told
         (rw (drop-of-length-le (readBits cs) {i = length (readBits cs)} (omega arith)) refl) none-read)
@@ -189,9 +192,7 @@ module _ (m : Reading) (cs ds : List Cell) (r : Reads m cs) (room : length cs + 
         let sum : sumOf (map units ds) + unitsSum cs ≡ unitsSum (cs ++ ds) =
         omega (arith, sum-of-units ds, units-of-both cs ds) in
         let least : 1 ≤ sumOf (map units ds) = omega (arith, sum-of-units ds, units-at-least ds) in
-        let held = counts .held in
-        let few = counts .few in
-        let one = counts .some in
+        let count = counts in
         let before = counted m cs r .held in
         let small : end .words < 2 ^ 32 =
         omega (arith, units-at-most (cs ++ ds), length-append cs ds) in

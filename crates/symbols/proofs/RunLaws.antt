@@ -1,7 +1,7 @@
 -- The machine run over many cells keeps what it holds, and gives their items where no gap is out of place; over a whole
 -- strip it gives the strip's answer and, where that accepts, its items.
 use Prim.Native.Nat.{ℕ, suc, _+_, _-_, _^_, _≤_}
-use mathlib.Core.Path.{_≡_, sym}
+use mathlib.Core.Path.{_≡_, refl, sym}
 use mathlib.Core.Bool.{false}
 use mathlib.Core.Logic.{inr}
 use mathlib.Core.List.{List, [], _∷_, _++_, map, append-assoc, append-nil, map-append}
@@ -61,6 +61,19 @@ pub items-ran :
     → itemsRead (readBits (cs ++ ds)) ≡ itemsRead (readBits cs) ++ map candidate (ranWords m (length cs) ds)
 items-ran m cs ds r few fair = machine-runs m cs ds r few .items fair .1
 
+-- in two parts
+pub ran-in-parts :
+    (m : Reading) (k : ℕ) (cs ds : List Cell) → ran m k (cs ++ ds) ≡ ran (ran m k cs) (k + length cs) ds
+unfolding ran
+ran-in-parts m k [] ds = let none : k + 0 ≡ k = omega arith in rw none
+ran-in-parts m k (c ∷ cs) ds =
+    let place : suc k + length cs ≡ k + suc (length cs) = omega arith in
+    rw (ran-in-parts (stepped m c k) (suc k) cs ds, place)
+
+-- over all cells from the first
+pub ran-reads : (cs : List Cell) → length cs ≤ 2 ^ 32 → Reads (ran freshReading 0 cs) cs
+ran-reads cs h = machine-runs freshReading [] cs reads-fresh (omega arith) .reads
+
 -- a whole strip
 pub strip-by-ran :
     (cs : List Cell) → length cs ≤ 2 ^ 32
@@ -68,6 +81,6 @@ pub strip-by-ran :
     × (stripRule cs .number ≡ 0 → stripItems cs ≡ map candidate (ranWords freshReading 0 cs))
 unfolding stripItems itemsRead readBits readFrom
 strip-by-ran cs h = (
-  rule-of-reads (ran freshReading 0 cs) cs (machine-runs freshReading [] cs reads-fresh (omega arith) .reads),
+  rule-of-reads (ran freshReading 0 cs) cs (ran-reads cs h),
   λ accepts. items-ran freshReading [] cs reads-fresh (omega arith) (write-of-read cs accepts .in-place),
 )
