@@ -194,14 +194,14 @@ struct refusal_Verdict {
     } u;
 };
 
-struct array_u16_256 {
-    uint16_t a[256];
-};
-
-/* merge::span::Span, crates/merge/src/span.rt */
-struct merge_span_Span {
+/* sets::span::Span, crates/sets/src/span.rt */
+struct sets_span_Span {
     uint64_t low;
     uint64_t high;
+};
+
+struct array_u16_256 {
+    uint16_t a[256];
 };
 
 /* merge::Merged, crates/merge/src/lib.rt */
@@ -362,6 +362,21 @@ struct best_Best {
     struct timing_Profile profile;
 };
 
+/* pace::Pace, crates/pace/src/lib.rt */
+struct pace_Pace {
+    uint32_t nominal;
+    uint32_t even;
+    uint32_t odd;
+};
+
+struct array_u64_4 {
+    uint64_t a[4];
+};
+
+struct array_u64_4_5 {
+    struct array_u64_4 a[5];
+};
+
 struct slice_u64 {
     const uint64_t *at;
     uint64_t len;
@@ -489,21 +504,6 @@ struct entries_Step {
             uint64_t next;
         } Begins;
     } u;
-};
-
-/* pace::Pace, crates/pace/src/lib.rt */
-struct pace_Pace {
-    uint32_t nominal;
-    uint32_t even;
-    uint32_t odd;
-};
-
-struct array_u64_4 {
-    uint64_t a[4];
-};
-
-struct array_u64_4_5 {
-    struct array_u64_4 a[5];
 };
 
 struct array_track_index_IndexEntry_32 {
@@ -1407,13 +1407,83 @@ static struct refusal_Counted sectors_make_sector(uint8_t track, uint8_t side, u
     return (struct refusal_Counted){.tag = refusal_Counted_Count, .u.Count = count};
 }
 
-/* The crate merge */
+/* The crate sets */
 
-/* merge::span::at_least, crates/merge/src/span.rt */
-static uint64_t merge_span_at_least(uint64_t least, uint64_t number) {
+/* sets::span::at_least, crates/sets/src/span.rt */
+static uint64_t sets_span_at_least(uint64_t least, uint64_t number) {
     if (least < number) return number;
     return least;
 }
+
+/* sets::index::entry, crates/sets/src/index.rt */
+static uint16_t sets_index_entry(uint16_t old, uint16_t place) {
+    if (old == 0) return place;
+    return 65535;
+}
+
+/* sets::span::join, crates/sets/src/span.rt: The span of the numbers of either. */
+static struct sets_span_Span sets_span_join(struct sets_span_Span a, struct sets_span_Span b) {
+    uint64_t t3 = lists_at_most(a.low, b.low);
+    return (struct sets_span_Span){.low = t3, .high = sets_span_at_least(a.high, b.high)};
+}
+
+/*
+ * sets::index::index_set, crates/sets/src/index.rt
+ * Answers the span of the numbers. 32 sectors have at most 32,864 bytes, so a place fits 16 bits and is not 65,535.
+ */
+static struct sets_span_Span sets_index_index_set(struct slice_u8 set, struct array_u16_256 *index) {
+    struct sets_span_Span span = {.low = 256, .high = 0};
+    uint64_t start = 0;
+    while (start < set.len) {
+        uint64_t code = start + 1;
+        uint64_t number = (uint64_t)set.at[start];
+        index->a[number] = sets_index_entry(index->a[number], (uint16_t)code);
+        struct sets_span_Span here = {.low = number, .high = number + 1};
+        span = sets_span_join(span, here);
+        start = code + 2 + sectors_sector_size(set.at[code]);
+    }
+    return span;
+}
+
+/* sets::index::sector_end, crates/sets/src/index.rt: The place after the sector that begins at a place. */
+static struct refusal_Counted sets_index_sector_end(struct slice_u8 set, uint64_t start) {
+    uint64_t left = set.len - start;
+    if (left < 3) {
+        return (struct refusal_Counted){.tag = refusal_Counted_Refused,
+                .u.Refused = {.tag = refusal_Refusal_SectorSizeMismatch}};
+    }
+    uint8_t code = set.at[start + 1];
+    if (3 < code) {
+        return (struct refusal_Counted){.tag = refusal_Counted_Refused,
+                .u.Refused = {.tag = refusal_Refusal_SectorSizeMismatch}};
+    }
+    uint64_t size = sectors_sector_size(code);
+    if (left - 3 < size) {
+        return (struct refusal_Counted){.tag = refusal_Counted_Refused,
+                .u.Refused = {.tag = refusal_Refusal_SectorSizeMismatch}};
+    }
+    return (struct refusal_Counted){.tag = refusal_Counted_Count, .u.Count = start + 3 + size};
+}
+
+/*
+ * sets::index::count_sectors, crates/sets/src/index.rt
+ * 13, looked for to the end of the set, or how many sectors it has.
+ */
+static struct refusal_Counted sets_index_count_sectors(struct slice_u8 set) {
+    uint64_t count = 0;
+    uint64_t start = 0;
+    while (start < set.len) {
+        struct refusal_Counted t8 = sets_index_sector_end(set, start);
+        if (t8.tag == refusal_Counted_Refused) {
+            return (struct refusal_Counted){.tag = refusal_Counted_Refused, .u.Refused = t8.u.Refused};
+        }
+        count++;
+        start = t8.u.Count;
+    }
+    return (struct refusal_Counted){.tag = refusal_Counted_Count, .u.Count = count};
+}
+
+/* The crate merge */
 
 /* merge::check_counts, crates/merge/src/lib.rt */
 static struct refusal_Verdict merge_check_counts(uint64_t first, uint64_t second) {
@@ -1428,10 +1498,18 @@ static struct refusal_Verdict merge_check_counts(uint64_t first, uint64_t second
     return (struct refusal_Verdict){.tag = refusal_Verdict_Accepted};
 }
 
-/* merge::index::entry, crates/merge/src/index.rt */
-static uint16_t merge_index_entry(uint16_t old, uint16_t place) {
-    if (old == 0) return place;
-    return 65535;
+/* merge::check_sets, crates/merge/src/lib.rt: 13, then 15 for a set of more than 32 sectors. */
+static struct refusal_Verdict merge_check_sets(struct slice_u8 first, struct slice_u8 second) {
+    struct refusal_Counted t7 = sets_index_count_sectors(first);
+    if (t7.tag == refusal_Counted_Refused) {
+        return (struct refusal_Verdict){.tag = refusal_Verdict_Refused, .u.Refused = t7.u.Refused};
+    }
+    uint64_t a = t7.u.Count;
+    struct refusal_Counted t9 = sets_index_count_sectors(second);
+    if (t9.tag == refusal_Counted_Refused) {
+        return (struct refusal_Verdict){.tag = refusal_Verdict_Refused, .u.Refused = t9.u.Refused};
+    }
+    return merge_check_counts(a, t9.u.Count);
 }
 
 /* merge::output::entry_size, crates/merge/src/output.rt */
@@ -1441,46 +1519,22 @@ static uint64_t merge_output_entry_size(struct slice_u8 set, uint16_t entry) {
     return 3 + sectors_sector_size(set.at[code]);
 }
 
-/* merge::index::in_either, crates/merge/src/index.rt */
-static bool merge_index_in_either(uint16_t a, uint16_t b) {
+/* merge::numbers::in_either, crates/merge/src/numbers.rt */
+static bool merge_numbers_in_either(uint16_t a, uint16_t b) {
     if (a != 0) return true;
     return b != 0;
 }
 
-/* merge::index::count_numbers, crates/merge/src/index.rt: How many different numbers two sets have. */
-static uint64_t merge_index_count_numbers(const struct array_u16_256 *a, const struct array_u16_256 *b,
-        struct merge_span_Span span) {
+/* merge::numbers::count_numbers, crates/merge/src/numbers.rt: How many different numbers two sets have. */
+static uint64_t merge_numbers_count_numbers(const struct array_u16_256 *a, const struct array_u16_256 *b,
+        struct sets_span_Span span) {
     uint64_t count = 0;
     uint64_t n = span.low;
     while (n < span.high) {
-        if (merge_index_in_either(a->a[n], b->a[n])) count++;
+        if (merge_numbers_in_either(a->a[n], b->a[n])) count++;
         n++;
     }
     return count;
-}
-
-/* merge::span::join, crates/merge/src/span.rt: The span of the numbers of either. */
-static struct merge_span_Span merge_span_join(struct merge_span_Span a, struct merge_span_Span b) {
-    uint64_t t3 = lists_at_most(a.low, b.low);
-    return (struct merge_span_Span){.low = t3, .high = merge_span_at_least(a.high, b.high)};
-}
-
-/*
- * merge::index::index_set, crates/merge/src/index.rt
- * Answers the span of the numbers. 32 sectors have at most 32,864 bytes, so a place fits 16 bits and is not 65,535.
- */
-static struct merge_span_Span merge_index_index_set(struct slice_u8 set, struct array_u16_256 *index) {
-    struct merge_span_Span span = {.low = 256, .high = 0};
-    uint64_t start = 0;
-    while (start < set.len) {
-        uint64_t code = start + 1;
-        uint64_t number = (uint64_t)set.at[start];
-        index->a[number] = merge_index_entry(index->a[number], (uint16_t)code);
-        struct merge_span_Span here = {.low = number, .high = number + 1};
-        span = merge_span_join(span, here);
-        start = code + 2 + sectors_sector_size(set.at[code]);
-    }
-    return span;
 }
 
 /*
@@ -1527,7 +1581,7 @@ static bool merge_choice_at_odds(struct slice_u8 first, uint16_t a, struct slice
  * The lowest number at which the sets are at odds; 256 where there is none.
  */
 static uint64_t merge_choice_lowest_at_odds(struct slice_u8 first, const struct array_u16_256 *a,
-        struct slice_u8 second, const struct array_u16_256 *b, struct merge_span_Span span) {
+        struct slice_u8 second, const struct array_u16_256 *b, struct sets_span_Span span) {
     uint64_t n = span.low;
     while (n < span.high) {
         if (merge_choice_at_odds(first, a->a[n], second, b->a[n])) return n;
@@ -1541,8 +1595,8 @@ static uint64_t merge_choice_lowest_at_odds(struct slice_u8 first, const struct 
  * 15 for more than 32 different numbers, then 17; else how many there are.
  */
 static struct refusal_Counted merge_check_numbers(struct slice_u8 first, const struct array_u16_256 *a,
-        struct slice_u8 second, const struct array_u16_256 *b, struct merge_span_Span span) {
-    uint64_t count = merge_index_count_numbers(a, b, span);
+        struct slice_u8 second, const struct array_u16_256 *b, struct sets_span_Span span) {
+    uint64_t count = merge_numbers_count_numbers(a, b, span);
     if (32 < count) {
         return (struct refusal_Counted){.tag = refusal_Counted_Refused,
                 .u.Refused = {.tag = refusal_Refusal_TooManySectors}};
@@ -1553,58 +1607,6 @@ static struct refusal_Counted merge_check_numbers(struct slice_u8 first, const s
                 .u.Refused = {.tag = refusal_Refusal_SectorsAtOdds, .u.SectorsAtOdds = (uint32_t)lowest}};
     }
     return (struct refusal_Counted){.tag = refusal_Counted_Count, .u.Count = count};
-}
-
-/* merge::index::sector_end, crates/merge/src/index.rt: The place after the sector that begins at a place. */
-static struct refusal_Counted merge_index_sector_end(struct slice_u8 set, uint64_t start) {
-    uint64_t left = set.len - start;
-    if (left < 3) {
-        return (struct refusal_Counted){.tag = refusal_Counted_Refused,
-                .u.Refused = {.tag = refusal_Refusal_SectorSizeMismatch}};
-    }
-    uint8_t code = set.at[start + 1];
-    if (3 < code) {
-        return (struct refusal_Counted){.tag = refusal_Counted_Refused,
-                .u.Refused = {.tag = refusal_Refusal_SectorSizeMismatch}};
-    }
-    uint64_t size = sectors_sector_size(code);
-    if (left - 3 < size) {
-        return (struct refusal_Counted){.tag = refusal_Counted_Refused,
-                .u.Refused = {.tag = refusal_Refusal_SectorSizeMismatch}};
-    }
-    return (struct refusal_Counted){.tag = refusal_Counted_Count, .u.Count = start + 3 + size};
-}
-
-/*
- * merge::index::count_sectors, crates/merge/src/index.rt
- * 13, looked for to the end of the set, or how many sectors it has.
- */
-static struct refusal_Counted merge_index_count_sectors(struct slice_u8 set) {
-    uint64_t count = 0;
-    uint64_t start = 0;
-    while (start < set.len) {
-        struct refusal_Counted t8 = merge_index_sector_end(set, start);
-        if (t8.tag == refusal_Counted_Refused) {
-            return (struct refusal_Counted){.tag = refusal_Counted_Refused, .u.Refused = t8.u.Refused};
-        }
-        count++;
-        start = t8.u.Count;
-    }
-    return (struct refusal_Counted){.tag = refusal_Counted_Count, .u.Count = count};
-}
-
-/* merge::check_sets, crates/merge/src/lib.rt: 13, then 15 for a set of more than 32 sectors. */
-static struct refusal_Verdict merge_check_sets(struct slice_u8 first, struct slice_u8 second) {
-    struct refusal_Counted t7 = merge_index_count_sectors(first);
-    if (t7.tag == refusal_Counted_Refused) {
-        return (struct refusal_Verdict){.tag = refusal_Verdict_Refused, .u.Refused = t7.u.Refused};
-    }
-    uint64_t a = t7.u.Count;
-    struct refusal_Counted t9 = merge_index_count_sectors(second);
-    if (t9.tag == refusal_Counted_Refused) {
-        return (struct refusal_Verdict){.tag = refusal_Verdict_Refused, .u.Refused = t9.u.Refused};
-    }
-    return merge_check_counts(a, t9.u.Count);
 }
 
 /* merge::output::sum_byte, crates/merge/src/output.rt */
@@ -1661,7 +1663,7 @@ static uint64_t merge_output_taken_size(struct slice_u8 first, uint16_t a, struc
 
 /* merge::ascending::merged_size, crates/merge/src/ascending.rt */
 static uint64_t merge_ascending_merged_size(struct slice_u8 first, const struct array_u16_256 *a,
-        struct slice_u8 second, const struct array_u16_256 *b, struct merge_span_Span span) {
+        struct slice_u8 second, const struct array_u16_256 *b, struct sets_span_Span span) {
     uint64_t size = 0;
     uint64_t n = span.low;
     while (n < span.high) {
@@ -1673,7 +1675,7 @@ static uint64_t merge_ascending_merged_size(struct slice_u8 first, const struct 
 
 /* merge::ascending::write_merged, crates/merge/src/ascending.rt */
 static void merge_ascending_write_merged(struct slice_u8 first, const struct array_u16_256 *a, struct slice_u8 second,
-        const struct array_u16_256 *b, struct merge_span_Span span, struct slice_u8_mut out) {
+        const struct array_u16_256 *b, struct sets_span_Span span, struct slice_u8_mut out) {
     uint64_t start = 0;
     uint64_t n = span.low;
     while (n < span.high) {
@@ -1684,7 +1686,7 @@ static void merge_ascending_write_merged(struct slice_u8 first, const struct arr
 
 /* merge::deliver, crates/merge/src/lib.rt: 9, or the merged set at the front of the output. */
 static struct merge_Merged merge_deliver(struct slice_u8 first, const struct array_u16_256 *a, struct slice_u8 second,
-        const struct array_u16_256 *b, struct merge_span_Span span, uint64_t count, struct slice_u8_mut out) {
+        const struct array_u16_256 *b, struct sets_span_Span span, uint64_t count, struct slice_u8_mut out) {
     uint64_t bytes = merge_ascending_merged_size(first, a, second, b, span);
     if (out.len < bytes) {
         return (struct merge_Merged){.tag = merge_Merged_Refused, .u.Refused = {.tag = refusal_Refusal_OutputTooShort}};
@@ -1697,9 +1699,9 @@ static struct merge_Merged merge_deliver(struct slice_u8 first, const struct arr
 static struct merge_Merged merge_merge_checked(struct slice_u8 first, struct slice_u8 second, struct slice_u8_mut out) {
     struct array_u16_256 a = {0};
     struct array_u16_256 b = {0};
-    struct merge_span_Span one = merge_index_index_set(first, &a);
-    struct merge_span_Span other = merge_index_index_set(second, &b);
-    struct merge_span_Span span = merge_span_join(one, other);
+    struct sets_span_Span one = sets_index_index_set(first, &a);
+    struct sets_span_Span other = sets_index_index_set(second, &b);
+    struct sets_span_Span span = sets_span_join(one, other);
     struct refusal_Counted t13 = merge_check_numbers(first, &a, second, &b, span);
     if (t13.tag == refusal_Counted_Refused) {
         return (struct merge_Merged){.tag = merge_Merged_Refused, .u.Refused = t13.u.Refused};
@@ -2720,14 +2722,230 @@ static struct best_Best best_best_windows(struct best_Writing w) {
     return result;
 }
 
-/* The crate locks */
+/* The crate pace */
+
+/* pace::corrected, crates/pace/src/lib.rt: An interval at the pace of a sum, cut off. */
+static uint16_t pace_corrected(uint32_t nominal, uint32_t sum, uint16_t interval) {
+    uint32_t number = ((uint32_t)interval * nominal) / sum;
+    if (65535 < number) return 65535;
+    return (uint16_t)number;
+}
+
+/* pace::Pace::correct, crates/pace/src/lib.rt: Intervals of which the first is even: the two sums take turns. */
+static void pace_Pace_correct(struct pace_Pace self, struct slice_u16 intervals, struct slice_u16_mut out) {
+    uint32_t nominal = self.nominal;
+    uint32_t own = self.even;
+    uint32_t other = self.odd;
+    uint64_t k = 0;
+    while (k < intervals.len) {
+        out.at[k] = pace_corrected(nominal, own, intervals.at[k]);
+        uint32_t next = other;
+        other = own;
+        own = next;
+        k++;
+    }
+}
+
+/* pace::difference, crates/pace/src/lib.rt: The signed difference of a sum to 32 × T1. */
+static uint32_t pace_difference(uint32_t nominal, uint32_t sum) {
+    return (uint32_t)((uint32_t)sum - (uint32_t)nominal);
+}
+
+/* pace::Pace::measured, crates/pace/src/lib.rt: Of 64 intervals. */
+static struct pace_Pace pace_Pace_measured(struct timing_HalfClocks t1, struct slice_u16 run) {
+    uint32_t even = 0;
+    uint32_t odd = 0;
+    uint64_t k = 0;
+    while (k < 64) {
+        even += (uint32_t)run.at[k];
+        odd += (uint32_t)run.at[k + 1];
+        k += 2;
+    }
+    return (struct pace_Pace){.nominal = 32 * (uint32_t)t1.f0, .even = even, .odd = odd};
+}
+
+/* pace::off_speed, crates/pace/src/lib.rt: 16 × the difference, sign dropped, exceeds 32 × T1. */
+static bool pace_off_speed(uint32_t nominal, uint32_t sum) {
+    if (sum < nominal) return nominal < 16 * (nominal - sum);
+    return nominal < 16 * (sum - nominal);
+}
+
+/* pace::Pace::check, crates/pace/src/lib.rt: 18, off speed: the even ones, then the odd. */
+static struct refusal_Verdict pace_Pace_check(struct pace_Pace self) {
+    if (pace_off_speed(self.nominal, self.even)) {
+        return (struct refusal_Verdict){.tag = refusal_Verdict_Refused,
+                .u.Refused = {.tag = refusal_Refusal_OffSpeed, .u.OffSpeed = 0}};
+    }
+    if (pace_off_speed(self.nominal, self.odd)) {
+        return (struct refusal_Verdict){.tag = refusal_Verdict_Refused,
+                .u.Refused = {.tag = refusal_Refusal_OffSpeed, .u.OffSpeed = 1}};
+    }
+    return (struct refusal_Verdict){.tag = refusal_Verdict_Accepted};
+}
+
+/* The crate report */
+
+/* report::check_list, crates/report/src/lib.rt: Whether a list of intervals has a report: 1, 2, 4. */
+static struct refusal_Verdict report_check_list(struct timing_Profile p, struct slice_u16 intervals) {
+    struct refusal_Verdict t4 = timing_rule_check(p);
+    if (t4.tag == refusal_Verdict_Refused) {
+        return (struct refusal_Verdict){.tag = refusal_Verdict_Refused, .u.Refused = t4.u.Refused};
+    }
+    if (51202 < intervals.len) {
+        return (struct refusal_Verdict){.tag = refusal_Verdict_Refused, .u.Refused = {.tag = refusal_Refusal_TooLong}};
+    }
+    return (struct refusal_Verdict){.tag = refusal_Verdict_Accepted};
+}
 
 /*
- * locks::runs::all_follow, crates/locks/src/runs.rt
+ * report::row::exceed, crates/report/src/row.rt
+ * Whether the sum of two numbers would not fit. (A number itself does, which the caller learns.)
+ */
+static bool report_row_exceed(uint64_t a, uint64_t b) {
+    return 18446744073709551615ull - b < a;
+}
+
+/* report::row::greater, crates/report/src/row.rt */
+static uint64_t report_row_greater(uint64_t a, uint64_t b) {
+    if (a < b) return b;
+    return a;
+}
+
+/* report::row::lesser, crates/report/src/row.rt */
+static uint64_t report_row_lesser(uint64_t a, uint64_t b) {
+    if (b < a) return b;
+    return a;
+}
+
+/* report::row::add, crates/report/src/row.rt: Two rows added. One whose count is zero is passed over. */
+static struct array_u64_4 report_row_add(struct array_u64_4 a, struct array_u64_4 b) {
+    if (a.a[0] == 0) {
+        if (b.a[0] == 0) return (struct array_u64_4){0};
+        return b;
+    }
+    if (b.a[0] == 0) return a;
+    uint64_t t20 = a.a[0] + b.a[0];
+    uint64_t t21 = report_row_lesser(a.a[1], b.a[1]);
+    uint64_t t28 = report_row_greater(a.a[2], b.a[2]);
+    return (struct array_u64_4){{t20, t21, t28, a.a[3] + b.a[3]}};
+}
+
+/* report::add_rows, crates/report/src/lib.rt: The rows of two reports that can be added, added. */
+static struct array_u64_4_5 report_add_rows(struct array_u64_4_5 a, struct array_u64_4_5 b) {
+    struct array_u64_4_5 rows = {0};
+    uint64_t k = 0;
+    while (k < 5) {
+        rows.a[k] = report_row_add(a.a[k], b.a[k]);
+        k++;
+    }
+    return rows;
+}
+
+/* report::row::overflows, crates/report/src/row.rt: Whether a count or a sum of two rows added would not fit. */
+static bool report_row_overflows(struct array_u64_4 a, struct array_u64_4 b) {
+    bool counts = report_row_exceed(a.a[0], b.a[0]);
+    bool sums = report_row_exceed(a.a[3], b.a[3]);
+    if (a.a[0] == 0) return false;
+    if (b.a[0] == 0) return false;
+    return counts | sums;
+}
+
+/* report::check_sum, crates/report/src/lib.rt: Whether two reports can be added: 4. */
+static struct refusal_Verdict report_check_sum(struct array_u64_4_5 a, struct array_u64_4_5 b) {
+    uint64_t k = 0;
+    while (k < 5) {
+        if (report_row_overflows(a.a[k], b.a[k])) {
+            return (struct refusal_Verdict){.tag = refusal_Verdict_Refused,
+                    .u.Refused = {.tag = refusal_Refusal_TooLong}};
+        }
+        k++;
+    }
+    return (struct refusal_Verdict){.tag = refusal_Verdict_Accepted};
+}
+
+/* report::add, crates/report/src/lib.rt: Two reports added; zeros where they cannot be. */
+static struct array_u64_4_5 report_add(struct array_u64_4_5 a, struct array_u64_4_5 b) {
+    if (report_check_sum(a, b).tag == refusal_Verdict_Refused) return (struct array_u64_4_5){0};
+    return report_add_rows(a, b);
+}
+
+/*
+ * report::list::renew, crates/report/src/list.rt
+ * A report with an interval of this class more. Each arm renews a row at a place that the compiler knows, so that the
+ * rows stay in registers.
+ */
+static struct array_u64_4_5 report_list_renew(struct array_u64_4_5 rows, struct timing_Class class, uint16_t interval) {
+    uint64_t d = (uint64_t)interval;
+    struct array_u64_4 one = {{1, d, d, d}};
+    switch (class.tag) {
+    case timing_Class_Narrow: {
+        struct array_u64_4 t8 = report_row_add(rows.a[0], one);
+        return (struct array_u64_4_5){{t8, rows.a[1], rows.a[2], rows.a[3], rows.a[4]}};
+    }
+    case timing_Class_Two: {
+        struct array_u64_4 t26 = rows.a[0];
+        struct array_u64_4 t27 = report_row_add(rows.a[1], one);
+        return (struct array_u64_4_5){{t26, t27, rows.a[2], rows.a[3], rows.a[4]}};
+    }
+    case timing_Class_Three: {
+        struct array_u64_4 t42 = rows.a[0];
+        struct array_u64_4 t45 = rows.a[1];
+        struct array_u64_4 t46 = report_row_add(rows.a[2], one);
+        return (struct array_u64_4_5){{t42, t45, t46, rows.a[3], rows.a[4]}};
+    }
+    case timing_Class_Four: {
+        struct array_u64_4 t58 = rows.a[0];
+        struct array_u64_4 t61 = rows.a[1];
+        struct array_u64_4 t64 = rows.a[2];
+        struct array_u64_4 t65 = report_row_add(rows.a[3], one);
+        return (struct array_u64_4_5){{t58, t61, t64, t65, rows.a[4]}};
+    }
+    default: { /* timing_Class_Wide */
+        struct array_u64_4 t74 = rows.a[0];
+        struct array_u64_4 t77 = rows.a[1];
+        struct array_u64_4 t80 = rows.a[2];
+        struct array_u64_4 t83 = rows.a[3];
+        return (struct array_u64_4_5){{t74, t77, t80, t83, report_row_add(rows.a[4], one)}};
+    }
+    }
+}
+
+/*
+ * report::list::gather, crates/report/src/list.rt
+ * The report of a list that is not overlong, from where the classing stands on.
+ */
+static struct array_u64_4_5 report_list_gather(struct timing_cursor_Cursor start, struct slice_u16 intervals) {
+    struct timing_cursor_Cursor cursor = start;
+    struct array_u64_4_5 rows = {0};
+    uint64_t k = 0;
+    while (k < intervals.len) {
+        uint16_t interval = intervals.at[k];
+        struct timing_cursor_Classed classed = timing_cursor_Cursor_step(cursor, interval);
+        struct timing_Class class = classed.class;
+        struct array_u64_4_5 next = report_list_renew(rows, class, interval);
+        rows = next;
+        cursor = classed.next;
+        k++;
+    }
+    return rows;
+}
+
+/* report::report_list, crates/report/src/lib.rt: The report of a list; zeros where it has none. */
+static struct array_u64_4_5 report_report_list(struct timing_Profile p, struct slice_u16 intervals) {
+    if (report_check_list(p, intervals).tag == refusal_Verdict_Refused) {
+        return (struct array_u64_4_5){0};
+    }
+    return report_list_gather(timing_cursor_Cursor_start(p), intervals);
+}
+
+/* The crate runs */
+
+/*
+ * runs::all_follow, crates/runs/src/lib.rt
  * Whether each interval of a stretch is of class 2 if the one before it is: with no jump for any, so that it is told
  * in vector instructions.
  */
-static bool locks_runs_all_follow(struct timing_cursor_Cursor short_, struct slice_u16 intervals, uint64_t from) {
+static bool runs_all_follow(struct timing_cursor_Cursor short_, struct slice_u16 intervals, uint64_t from) {
     uint64_t end = from + 32;
     bool all = true;
     uint64_t k = from;
@@ -2737,6 +2955,83 @@ static bool locks_runs_all_follow(struct timing_cursor_Cursor short_, struct sli
     }
     return all;
 }
+
+/*
+ * runs::last_sure, crates/runs/src/lib.rt
+ * The last place up to `from` whose interval is of class 2, or is not, after either kind; 0 if there is none.
+ */
+static uint64_t runs_last_sure(struct timing_cursor_Cursor short_, struct timing_cursor_Cursor long_,
+        struct slice_u16 intervals, uint64_t from) {
+    uint64_t i = from;
+    while (0 < i) {
+        uint16_t interval = intervals.at[i];
+        bool t7 = timing_cursor_Cursor_meets_two(short_, interval);
+        if (t7 == timing_cursor_Cursor_meets_two(long_, interval)) return i;
+        i--;
+    }
+    return i;
+}
+
+/*
+ * runs::cursor_at, crates/runs/src/lib.rt
+ * Where the classing stands at a place: it goes from the last sure place on, and so from the start of the list only
+ * where no place before is sure.
+ */
+static struct timing_cursor_Cursor runs_cursor_at(struct timing_Profile p, struct slice_u16 intervals, uint64_t from) {
+    struct timing_cursor_Cursor short_ = timing_cursor_Cursor_after(p, true);
+    struct timing_cursor_Cursor long_ = timing_cursor_Cursor_after(p, false);
+    struct timing_cursor_Cursor cursor = short_;
+    uint64_t i = runs_last_sure(short_, long_, intervals, from);
+    while (i < from) {
+        cursor = timing_cursor_Cursor_past(cursor, intervals.at[i]);
+        i++;
+    }
+    return cursor;
+}
+
+/*
+ * runs::next_two, crates/runs/src/lib.rt
+ * The first place from `from` on whose interval is of class 2; the length of the list where there is none.
+ */
+static uint64_t runs_next_two(struct timing_Profile p, struct slice_u16 intervals, uint64_t from) {
+    struct timing_cursor_Cursor cursor = runs_cursor_at(p, intervals, from);
+    if (timing_cursor_Cursor_meets_two(cursor, intervals.at[from])) return from;
+    struct timing_cursor_Cursor long_ = timing_cursor_Cursor_after(p, false);
+    uint64_t i = from + 1;
+    while (i < intervals.len) {
+        if (timing_cursor_Cursor_meets_two(long_, intervals.at[i])) return i;
+        i++;
+    }
+    return i;
+}
+
+/* runs::pass_stretches, crates/runs/src/lib.rt: Passes over whole stretches of a run. */
+static uint64_t runs_pass_stretches(struct timing_cursor_Cursor short_, struct slice_u16 intervals, uint64_t from) {
+    uint64_t k = from;
+    while (32 <= intervals.len - k) {
+        if (runs_all_follow(short_, intervals, k)) {
+            k += 32;
+        } else {
+            return k;
+        }
+    }
+    return k;
+}
+
+/* runs::pass_run, crates/runs/src/lib.rt: Passes over a run up to its end. */
+static uint64_t runs_pass_run(struct timing_cursor_Cursor short_, struct slice_u16 intervals, uint64_t from) {
+    uint64_t k = runs_pass_stretches(short_, intervals, from);
+    while (k < intervals.len) {
+        if (timing_cursor_Cursor_meets_two(short_, intervals.at[k])) {
+            k++;
+        } else {
+            return k;
+        }
+    }
+    return k;
+}
+
+/* The crate locks */
 
 /*
  * locks::finder::begins_with, crates/locks/src/finder.rt
@@ -2761,40 +3056,6 @@ static bool locks_finder_begins_with(struct timing_cursor_Cursor start, struct s
     return true;
 }
 
-/*
- * locks::runs::last_sure, crates/locks/src/runs.rt
- * The last place up to `from` whose interval is of class 2, or is not, after either kind; 0 if there is none.
- */
-static uint64_t locks_runs_last_sure(struct timing_cursor_Cursor short_, struct timing_cursor_Cursor long_,
-        struct slice_u16 intervals, uint64_t from) {
-    uint64_t i = from;
-    while (0 < i) {
-        uint16_t interval = intervals.at[i];
-        bool t7 = timing_cursor_Cursor_meets_two(short_, interval);
-        if (t7 == timing_cursor_Cursor_meets_two(long_, interval)) return i;
-        i--;
-    }
-    return i;
-}
-
-/*
- * locks::runs::cursor_at, crates/locks/src/runs.rt
- * Where the classing stands at a place: it goes from the last sure place on, and so from the start of the list only
- * where no place before is sure.
- */
-static struct timing_cursor_Cursor locks_runs_cursor_at(struct timing_Profile p, struct slice_u16 intervals,
-        uint64_t from) {
-    struct timing_cursor_Cursor short_ = timing_cursor_Cursor_after(p, true);
-    struct timing_cursor_Cursor long_ = timing_cursor_Cursor_after(p, false);
-    struct timing_cursor_Cursor cursor = short_;
-    uint64_t i = locks_runs_last_sure(short_, long_, intervals, from);
-    while (i < from) {
-        cursor = timing_cursor_Cursor_past(cursor, intervals.at[i]);
-        i++;
-    }
-    return cursor;
-}
-
 /* locks::finder::later, crates/locks/src/finder.rt: The later of two places. */
 static uint64_t locks_finder_later(uint64_t a, uint64_t b) {
     if (a < b) return b;
@@ -2807,49 +3068,6 @@ static bool locks_finder_mark_ahead(struct timing_cursor_Cursor cursor, struct s
     if (locks_finder_begins_with(cursor, intervals, at, slice_u64(a1.a, 5))) return true;
     struct array_u64_10 c2 = {{3, 2, 3, 4, 3, 4, 2, 3, 4, 3}};
     return locks_finder_begins_with(cursor, intervals, at, slice_u64(c2.a, 10));
-}
-
-/*
- * locks::runs::next_two, crates/locks/src/runs.rt
- * The first place from `from` on whose interval is of class 2; the length of the list where there is none.
- */
-static uint64_t locks_runs_next_two(struct timing_Profile p, struct slice_u16 intervals, uint64_t from) {
-    struct timing_cursor_Cursor cursor = locks_runs_cursor_at(p, intervals, from);
-    if (timing_cursor_Cursor_meets_two(cursor, intervals.at[from])) return from;
-    struct timing_cursor_Cursor long_ = timing_cursor_Cursor_after(p, false);
-    uint64_t i = from + 1;
-    while (i < intervals.len) {
-        if (timing_cursor_Cursor_meets_two(long_, intervals.at[i])) return i;
-        i++;
-    }
-    return i;
-}
-
-/* locks::runs::pass_stretches, crates/locks/src/runs.rt: Passes over whole stretches of a run. */
-static uint64_t locks_runs_pass_stretches(struct timing_cursor_Cursor short_, struct slice_u16 intervals,
-        uint64_t from) {
-    uint64_t k = from;
-    while (32 <= intervals.len - k) {
-        if (locks_runs_all_follow(short_, intervals, k)) {
-            k += 32;
-        } else {
-            return k;
-        }
-    }
-    return k;
-}
-
-/* locks::runs::pass_run, crates/locks/src/runs.rt: Passes over a run up to its end. */
-static uint64_t locks_runs_pass_run(struct timing_cursor_Cursor short_, struct slice_u16 intervals, uint64_t from) {
-    uint64_t k = locks_runs_pass_stretches(short_, intervals, from);
-    while (k < intervals.len) {
-        if (timing_cursor_Cursor_meets_two(short_, intervals.at[k])) {
-            k++;
-        } else {
-            return k;
-        }
-    }
-    return k;
 }
 
 /*
@@ -2880,13 +3098,13 @@ static struct refusal_Counted locks_finder_scan(struct timing_Profile p, struct 
             seen = k;
             goto next_1;
         }
-        uint64_t begin = locks_runs_next_two(p, intervals, first);
+        uint64_t begin = runs_next_two(p, intervals, first);
         if (first < begin) {
             first = begin;
             seen = locks_finder_later(k, begin + 1);
             continue;
         }
-        uint64_t end = locks_runs_pass_run(short_, intervals, k);
+        uint64_t end = runs_pass_run(short_, intervals, k);
         if (locks_finder_mark_ahead(short_, intervals, end)) {
             place = (struct refusal_Counted){.tag = refusal_Counted_Count, .u.Count = end};
             break;
@@ -3295,222 +3513,6 @@ static struct entries_Step entries_find_entry(struct timing_Profile p, struct sl
     struct refusal_Counted t5 = locks_finder_search(p, intervals, start);
     if (t5.tag == refusal_Counted_Refused) return (struct entries_Step){.tag = entries_Step_End};
     return entries_look_at(p, intervals, t5.u.Count);
-}
-
-/* The crate pace */
-
-/* pace::corrected, crates/pace/src/lib.rt: An interval at the pace of a sum, cut off. */
-static uint16_t pace_corrected(uint32_t nominal, uint32_t sum, uint16_t interval) {
-    uint32_t number = ((uint32_t)interval * nominal) / sum;
-    if (65535 < number) return 65535;
-    return (uint16_t)number;
-}
-
-/* pace::Pace::correct, crates/pace/src/lib.rt: Intervals of which the first is even: the two sums take turns. */
-static void pace_Pace_correct(struct pace_Pace self, struct slice_u16 intervals, struct slice_u16_mut out) {
-    uint32_t nominal = self.nominal;
-    uint32_t own = self.even;
-    uint32_t other = self.odd;
-    uint64_t k = 0;
-    while (k < intervals.len) {
-        out.at[k] = pace_corrected(nominal, own, intervals.at[k]);
-        uint32_t next = other;
-        other = own;
-        own = next;
-        k++;
-    }
-}
-
-/* pace::difference, crates/pace/src/lib.rt: The signed difference of a sum to 32 × T1. */
-static uint32_t pace_difference(uint32_t nominal, uint32_t sum) {
-    return (uint32_t)((uint32_t)sum - (uint32_t)nominal);
-}
-
-/* pace::Pace::measured, crates/pace/src/lib.rt: Of 64 intervals. */
-static struct pace_Pace pace_Pace_measured(struct timing_HalfClocks t1, struct slice_u16 run) {
-    uint32_t even = 0;
-    uint32_t odd = 0;
-    uint64_t k = 0;
-    while (k < 64) {
-        even += (uint32_t)run.at[k];
-        odd += (uint32_t)run.at[k + 1];
-        k += 2;
-    }
-    return (struct pace_Pace){.nominal = 32 * (uint32_t)t1.f0, .even = even, .odd = odd};
-}
-
-/* pace::off_speed, crates/pace/src/lib.rt: 16 × the difference, sign dropped, exceeds 32 × T1. */
-static bool pace_off_speed(uint32_t nominal, uint32_t sum) {
-    if (sum < nominal) return nominal < 16 * (nominal - sum);
-    return nominal < 16 * (sum - nominal);
-}
-
-/* pace::Pace::check, crates/pace/src/lib.rt: 18, off speed: the even ones, then the odd. */
-static struct refusal_Verdict pace_Pace_check(struct pace_Pace self) {
-    if (pace_off_speed(self.nominal, self.even)) {
-        return (struct refusal_Verdict){.tag = refusal_Verdict_Refused,
-                .u.Refused = {.tag = refusal_Refusal_OffSpeed, .u.OffSpeed = 0}};
-    }
-    if (pace_off_speed(self.nominal, self.odd)) {
-        return (struct refusal_Verdict){.tag = refusal_Verdict_Refused,
-                .u.Refused = {.tag = refusal_Refusal_OffSpeed, .u.OffSpeed = 1}};
-    }
-    return (struct refusal_Verdict){.tag = refusal_Verdict_Accepted};
-}
-
-/* The crate report */
-
-/* report::check_list, crates/report/src/lib.rt: Whether a list of intervals has a report: 1, 2, 4. */
-static struct refusal_Verdict report_check_list(struct timing_Profile p, struct slice_u16 intervals) {
-    struct refusal_Verdict t4 = timing_rule_check(p);
-    if (t4.tag == refusal_Verdict_Refused) {
-        return (struct refusal_Verdict){.tag = refusal_Verdict_Refused, .u.Refused = t4.u.Refused};
-    }
-    if (51202 < intervals.len) {
-        return (struct refusal_Verdict){.tag = refusal_Verdict_Refused, .u.Refused = {.tag = refusal_Refusal_TooLong}};
-    }
-    return (struct refusal_Verdict){.tag = refusal_Verdict_Accepted};
-}
-
-/*
- * report::row::exceed, crates/report/src/row.rt
- * Whether the sum of two numbers would not fit. (A number itself does, which the caller learns.)
- */
-static bool report_row_exceed(uint64_t a, uint64_t b) {
-    return 18446744073709551615ull - b < a;
-}
-
-/* report::row::greater, crates/report/src/row.rt */
-static uint64_t report_row_greater(uint64_t a, uint64_t b) {
-    if (a < b) return b;
-    return a;
-}
-
-/* report::row::lesser, crates/report/src/row.rt */
-static uint64_t report_row_lesser(uint64_t a, uint64_t b) {
-    if (b < a) return b;
-    return a;
-}
-
-/* report::row::add, crates/report/src/row.rt: Two rows added. One whose count is zero is passed over. */
-static struct array_u64_4 report_row_add(struct array_u64_4 a, struct array_u64_4 b) {
-    if (a.a[0] == 0) {
-        if (b.a[0] == 0) return (struct array_u64_4){0};
-        return b;
-    }
-    if (b.a[0] == 0) return a;
-    uint64_t t20 = a.a[0] + b.a[0];
-    uint64_t t21 = report_row_lesser(a.a[1], b.a[1]);
-    uint64_t t28 = report_row_greater(a.a[2], b.a[2]);
-    return (struct array_u64_4){{t20, t21, t28, a.a[3] + b.a[3]}};
-}
-
-/* report::add_rows, crates/report/src/lib.rt: The rows of two reports that can be added, added. */
-static struct array_u64_4_5 report_add_rows(struct array_u64_4_5 a, struct array_u64_4_5 b) {
-    struct array_u64_4_5 rows = {0};
-    uint64_t k = 0;
-    while (k < 5) {
-        rows.a[k] = report_row_add(a.a[k], b.a[k]);
-        k++;
-    }
-    return rows;
-}
-
-/* report::row::overflows, crates/report/src/row.rt: Whether a count or a sum of two rows added would not fit. */
-static bool report_row_overflows(struct array_u64_4 a, struct array_u64_4 b) {
-    bool counts = report_row_exceed(a.a[0], b.a[0]);
-    bool sums = report_row_exceed(a.a[3], b.a[3]);
-    if (a.a[0] == 0) return false;
-    if (b.a[0] == 0) return false;
-    return counts | sums;
-}
-
-/* report::check_sum, crates/report/src/lib.rt: Whether two reports can be added: 4. */
-static struct refusal_Verdict report_check_sum(struct array_u64_4_5 a, struct array_u64_4_5 b) {
-    uint64_t k = 0;
-    while (k < 5) {
-        if (report_row_overflows(a.a[k], b.a[k])) {
-            return (struct refusal_Verdict){.tag = refusal_Verdict_Refused,
-                    .u.Refused = {.tag = refusal_Refusal_TooLong}};
-        }
-        k++;
-    }
-    return (struct refusal_Verdict){.tag = refusal_Verdict_Accepted};
-}
-
-/* report::add, crates/report/src/lib.rt: Two reports added; zeros where they cannot be. */
-static struct array_u64_4_5 report_add(struct array_u64_4_5 a, struct array_u64_4_5 b) {
-    if (report_check_sum(a, b).tag == refusal_Verdict_Refused) return (struct array_u64_4_5){0};
-    return report_add_rows(a, b);
-}
-
-/*
- * report::list::renew, crates/report/src/list.rt
- * A report with an interval of this class more. Each arm renews a row at a place that the compiler knows, so that the
- * rows stay in registers.
- */
-static struct array_u64_4_5 report_list_renew(struct array_u64_4_5 rows, struct timing_Class class, uint16_t interval) {
-    uint64_t d = (uint64_t)interval;
-    struct array_u64_4 one = {{1, d, d, d}};
-    switch (class.tag) {
-    case timing_Class_Narrow: {
-        struct array_u64_4 t8 = report_row_add(rows.a[0], one);
-        return (struct array_u64_4_5){{t8, rows.a[1], rows.a[2], rows.a[3], rows.a[4]}};
-    }
-    case timing_Class_Two: {
-        struct array_u64_4 t26 = rows.a[0];
-        struct array_u64_4 t27 = report_row_add(rows.a[1], one);
-        return (struct array_u64_4_5){{t26, t27, rows.a[2], rows.a[3], rows.a[4]}};
-    }
-    case timing_Class_Three: {
-        struct array_u64_4 t42 = rows.a[0];
-        struct array_u64_4 t45 = rows.a[1];
-        struct array_u64_4 t46 = report_row_add(rows.a[2], one);
-        return (struct array_u64_4_5){{t42, t45, t46, rows.a[3], rows.a[4]}};
-    }
-    case timing_Class_Four: {
-        struct array_u64_4 t58 = rows.a[0];
-        struct array_u64_4 t61 = rows.a[1];
-        struct array_u64_4 t64 = rows.a[2];
-        struct array_u64_4 t65 = report_row_add(rows.a[3], one);
-        return (struct array_u64_4_5){{t58, t61, t64, t65, rows.a[4]}};
-    }
-    default: { /* timing_Class_Wide */
-        struct array_u64_4 t74 = rows.a[0];
-        struct array_u64_4 t77 = rows.a[1];
-        struct array_u64_4 t80 = rows.a[2];
-        struct array_u64_4 t83 = rows.a[3];
-        return (struct array_u64_4_5){{t74, t77, t80, t83, report_row_add(rows.a[4], one)}};
-    }
-    }
-}
-
-/*
- * report::list::gather, crates/report/src/list.rt
- * The report of a list that is not overlong, from where the classing stands on.
- */
-static struct array_u64_4_5 report_list_gather(struct timing_cursor_Cursor start, struct slice_u16 intervals) {
-    struct timing_cursor_Cursor cursor = start;
-    struct array_u64_4_5 rows = {0};
-    uint64_t k = 0;
-    while (k < intervals.len) {
-        uint16_t interval = intervals.at[k];
-        struct timing_cursor_Classed classed = timing_cursor_Cursor_step(cursor, interval);
-        struct timing_Class class = classed.class;
-        struct array_u64_4_5 next = report_list_renew(rows, class, interval);
-        rows = next;
-        cursor = classed.next;
-        k++;
-    }
-    return rows;
-}
-
-/* report::report_list, crates/report/src/lib.rt: The report of a list; zeros where it has none. */
-static struct array_u64_4_5 report_report_list(struct timing_Profile p, struct slice_u16 intervals) {
-    if (report_check_list(p, intervals).tag == refusal_Verdict_Refused) {
-        return (struct array_u64_4_5){0};
-    }
-    return report_list_gather(timing_cursor_Cursor_start(p), intervals);
 }
 
 /* The crate track */

@@ -86,8 +86,8 @@ struct refusal_Counted {
     } u;
 };
 
-/* merge::span::Span, crates/merge/src/span.rt */
-struct merge_span_Span {
+/* sets::span::Span, crates/sets/src/span.rt */
+struct sets_span_Span {
     uint64_t low;
     uint64_t high;
 };
@@ -237,49 +237,49 @@ static uint64_t sectors_sector_size(uint8_t code) {
     }
 }
 
-/* The crate merge */
+/* The crate sets */
 
-/* merge::span::at_least, crates/merge/src/span.rt */
-static uint64_t merge_span_at_least(uint64_t least, uint64_t number) {
+/* sets::span::at_least, crates/sets/src/span.rt */
+static uint64_t sets_span_at_least(uint64_t least, uint64_t number) {
     if (least < number) return number;
     return least;
 }
 
-/* merge::index::entry, crates/merge/src/index.rt */
-static uint16_t merge_index_entry(uint16_t old, uint16_t place) {
+/* sets::index::entry, crates/sets/src/index.rt */
+static uint16_t sets_index_entry(uint16_t old, uint16_t place) {
     if (old == 0) return place;
     return 65535;
 }
 
-/* merge::span::join, crates/merge/src/span.rt: The span of the numbers of either. */
-static struct merge_span_Span merge_span_join(struct merge_span_Span a, struct merge_span_Span b) {
+/* sets::span::join, crates/sets/src/span.rt: The span of the numbers of either. */
+static struct sets_span_Span sets_span_join(struct sets_span_Span a, struct sets_span_Span b) {
     uint64_t t3 = lists_at_most(a.low, b.low);
-    return (struct merge_span_Span){.low = t3, .high = merge_span_at_least(a.high, b.high)};
+    return (struct sets_span_Span){.low = t3, .high = sets_span_at_least(a.high, b.high)};
 }
 
 /*
- * merge::index::index_set, crates/merge/src/index.rt
+ * sets::index::index_set, crates/sets/src/index.rt
  * Answers the span of the numbers. 32 sectors have at most 32,864 bytes, so a place fits 16 bits and is not 65,535.
  */
-static struct merge_span_Span merge_index_index_set(struct slice_u8 set, struct array_u16_256 *index) {
-    struct merge_span_Span span = {.low = 256, .high = 0};
+static struct sets_span_Span sets_index_index_set(struct slice_u8 set, struct array_u16_256 *index) {
+    struct sets_span_Span span = {.low = 256, .high = 0};
     uint64_t start = 0;
     while (start < set.len) {
         uint64_t code = start + 1;
         uint64_t number = (uint64_t)set.at[start];
-        index->a[number] = merge_index_entry(index->a[number], (uint16_t)code);
-        struct merge_span_Span here = {.low = number, .high = number + 1};
-        span = merge_span_join(span, here);
+        index->a[number] = sets_index_entry(index->a[number], (uint16_t)code);
+        struct sets_span_Span here = {.low = number, .high = number + 1};
+        span = sets_span_join(span, here);
         start = code + 2 + sectors_sector_size(set.at[code]);
     }
     return span;
 }
 
 /*
- * merge::alone::lowest_twice, crates/merge/src/alone.rt
+ * sets::alone::lowest_twice, crates/sets/src/alone.rt
  * The lowest number that an index shows twice; 256 where there is none.
  */
-static uint64_t merge_alone_lowest_twice(const struct array_u16_256 *index, struct merge_span_Span span) {
+static uint64_t sets_alone_lowest_twice(const struct array_u16_256 *index, struct sets_span_Span span) {
     uint64_t n = span.low;
     while (n < span.high) {
         if (index->a[n] == 65535) return n;
@@ -288,8 +288,8 @@ static uint64_t merge_alone_lowest_twice(const struct array_u16_256 *index, stru
     return 256;
 }
 
-/* merge::index::sector_end, crates/merge/src/index.rt: The place after the sector that begins at a place. */
-static struct refusal_Counted merge_index_sector_end(struct slice_u8 set, uint64_t start) {
+/* sets::index::sector_end, crates/sets/src/index.rt: The place after the sector that begins at a place. */
+static struct refusal_Counted sets_index_sector_end(struct slice_u8 set, uint64_t start) {
     uint64_t left = set.len - start;
     if (left < 3) {
         return (struct refusal_Counted){.tag = refusal_Counted_Refused,
@@ -309,14 +309,14 @@ static struct refusal_Counted merge_index_sector_end(struct slice_u8 set, uint64
 }
 
 /*
- * merge::index::count_sectors, crates/merge/src/index.rt
+ * sets::index::count_sectors, crates/sets/src/index.rt
  * 13, looked for to the end of the set, or how many sectors it has.
  */
-static struct refusal_Counted merge_index_count_sectors(struct slice_u8 set) {
+static struct refusal_Counted sets_index_count_sectors(struct slice_u8 set) {
     uint64_t count = 0;
     uint64_t start = 0;
     while (start < set.len) {
-        struct refusal_Counted t8 = merge_index_sector_end(set, start);
+        struct refusal_Counted t8 = sets_index_sector_end(set, start);
         if (t8.tag == refusal_Counted_Refused) {
             return (struct refusal_Counted){.tag = refusal_Counted_Refused, .u.Refused = t8.u.Refused};
         }
@@ -327,11 +327,11 @@ static struct refusal_Counted merge_index_count_sectors(struct slice_u8 set) {
 }
 
 /*
- * merge::alone::index_alone, crates/merge/src/alone.rt
+ * sets::alone::index_alone, crates/sets/src/alone.rt
  * 13, 15, 17; else how many sectors there are, and their index.
  */
-static struct refusal_Counted merge_alone_index_alone(struct slice_u8 set, struct array_u16_256 *index) {
-    struct refusal_Counted t7 = merge_index_count_sectors(set);
+static struct refusal_Counted sets_alone_index_alone(struct slice_u8 set, struct array_u16_256 *index) {
+    struct refusal_Counted t7 = sets_index_count_sectors(set);
     if (t7.tag == refusal_Counted_Refused) {
         return (struct refusal_Counted){.tag = refusal_Counted_Refused, .u.Refused = t7.u.Refused};
     }
@@ -340,8 +340,8 @@ static struct refusal_Counted merge_alone_index_alone(struct slice_u8 set, struc
         return (struct refusal_Counted){.tag = refusal_Counted_Refused,
                 .u.Refused = {.tag = refusal_Refusal_TooManySectors}};
     }
-    struct merge_span_Span span = merge_index_index_set(set, index);
-    uint64_t lowest = merge_alone_lowest_twice(index, span);
+    struct sets_span_Span span = sets_index_index_set(set, index);
+    uint64_t lowest = sets_alone_lowest_twice(index, span);
     if (lowest < 256) {
         return (struct refusal_Counted){.tag = refusal_Counted_Refused,
                 .u.Refused = {.tag = refusal_Refusal_SectorsAtOdds, .u.SectorsAtOdds = (uint32_t)lowest}};
@@ -567,7 +567,7 @@ static struct refusal_Counted page_reading_gather(struct slice_u8 set, uint64_t 
                 .u.Refused = {.tag = refusal_Refusal_CountOutOfRange}};
     }
     struct array_u16_256 index = {0};
-    struct refusal_Counted t10 = merge_alone_index_alone(set, &index);
+    struct refusal_Counted t10 = sets_alone_index_alone(set, &index);
     if (t10.tag == refusal_Counted_Refused) {
         return (struct refusal_Counted){.tag = refusal_Counted_Refused, .u.Refused = t10.u.Refused};
     }

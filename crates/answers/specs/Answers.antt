@@ -3,9 +3,9 @@ use Prim.Native.Nat.{ℕ}
 use mathlib.Core.List.{List, [], _∷_}
 use Rattle.lists.specs.YesNo.{asNumber}
 use Rattle.refusal.specs.Answer.{Answer}
-use Rattle.merge.specs.Rule.{MergeAnswer}
 use Rattle.timing.specs.Numbers.{fromNumbers}
 use Rattle.timing.specs.declared.Profile.{Profile}
+use Rattle.merge.specs.Rule.{MergeAnswer}
 use Rattle.clearance.specs.Answers.{ClearAnswer, ClearFieldAnswer}
 use Rattle.answers.specs.declared.IsmProfile.{IsmProfile}
 use Rattle.answers.specs.declared.IsmAnswer.{IsmAnswer}

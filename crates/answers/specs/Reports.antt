@@ -1,6 +1,6 @@
 -- The C interface: a report as it crosses it. No lemmas here.
 use Prim.Native.Nat.{ℕ}
-use mathlib.Core.List.{List, [], _∷_}
+use mathlib.Core.List.{[], _∷_}
 use lib.ListN.{getD}
 use Rattle.refusal.specs.Answer.{Answer}
 use Rattle.report.specs.Row.{Row, countIn, leastIn, greatestIn, sumIn}

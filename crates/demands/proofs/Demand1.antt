@@ -16,6 +16,7 @@ use Rattle.timing.specs.declared.Class.{Class}
 use Rattle.timing.specs.Profile.{outside, profileRule}
 use Rattle.items.specs.Written.{written}
 use Rattle.items.specs.Rule.{listRule}
+use Rattle.fifo.specs.Sides.{Processor, Chip}
 use Rattle.symbols.specs.Strip.{stripRule}
 use Rattle.symbols.specs.Bits.{O}
 use Rattle.images.specs.Image.{imageOf, bytesIn}
@@ -27,23 +28,24 @@ use Rattle.intervals.specs.Cells.{edgeRule, cellsRead}
 use Rattle.codec.specs.Writer.{streamRule, writeRule, writeOutput}
 use Rattle.codec.specs.Reader.{itemsOfStream, readRule, readOutput}
 use Rattle.locks.specs.Lock.{lockAt, firstLock, lockFrom, countedFrom, searchRule, findRule}
+use Rattle.locks.proofs.FirstLockLaws.{lock-from-found, adrift-has-no-lock}
 use Rattle.fields.specs.Field.{fieldStop, fieldStray}
 use Rattle.fields.specs.FieldRule.{fieldRule, fieldOutput}
-use Rattle.locks.proofs.FirstLockLaws.{lock-from-found, adrift-has-no-lock}
 use Rattle.fields.proofs.FieldLaws.{field-items-count}
 use Rattle.sectors.specs.Sector.{isMisfitInMaker, sectorRule, sectorOutput}
-use Rattle.merge.specs.Merge.{isCrowded, numbers, atOddsAt}
-use Rattle.merge.specs.Set.{isMisfitSet, sectorsIn}
+use Rattle.sets.specs.Held.{numbers}
+use Rattle.sets.specs.Set.{isMisfitSet, sectorsIn}
+use Rattle.merge.specs.Merge.{isCrowded, atOddsAt}
 use Rattle.merge.specs.Rule.{roomRule as merge-room, mergeRule, mergeAnswer, mergeOutput}
 use Rattle.report.specs.Report.{reportRule, addRule}
 use Rattle.entries.specs.Entries.{entriesOf}
 use Rattle.track.specs.Index.{crowdRule, indexRule}
 use Rattle.track_set.specs.TrackSectors.{trackRule, trackAnswer, trackOutput}
+use Rattle.speed.proofs.ReadLaws.{answer-is-rule}
 use Rattle.limits.specs.Limits.{limitsRule}
 use Rattle.demands.specs.Order.{accept, turn, at0, Answers}
 use Rattle.demands.specs.Causes.{stripOrder}
 use Rattle.demands.specs.Demand1.{Demand1}
-use Rattle.fifo.specs.Sides.{Processor, Chip}
 use Rattle.demands.proofs.ProgramLaws.{program-in-turn, program-refuses}
 use Rattle.demands.proofs.FifoLaws.{put-in-turn, takes-refuse-nothing}
 use Rattle.demands.proofs.RestLaws.{field-answer, field-rest, whole-list}
@@ -57,7 +59,6 @@ use Rattle.demands.proofs.BestTurn.{best-in-turn}
 use Rattle.demands.proofs.StopLaws.{edges-in-turn, stop-in-turn}
 use Rattle.demands.proofs.LockOrder.{lock-in-turn}
 use Rattle.demands.proofs.SpeedOrder.{corrected-in-turn, corrected-is-lent}
-use Rattle.speed.proofs.ReadLaws.{answer-is-rule}
 use Rattle.demands.proofs.TrackSetLaws.{track-rule-in-turn}
 
 -- ---- images

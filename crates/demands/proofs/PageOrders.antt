@@ -9,8 +9,8 @@ use lib.Dec.{eqb}
 use lib.ListN.{length}
 use Rattle.refusal.specs.Answer.{accepted}
 use Rattle.timing.specs.Profile.{outside}
-use Rattle.merge.specs.Set.{sectorsIn}
-use Rattle.merge.specs.Alone.{setRule}
+use Rattle.sets.specs.Set.{sectorsIn}
+use Rattle.sets.specs.Alone.{setRule}
 use Rattle.page.specs.Reading.{pagesIn, pagesRule, readRule, readAnswer, readOutput}
 use Rattle.page.specs.Making.{madeSet, makeRule, makeAnswer, makeOutput}
 use Rattle.page.proofs.SectorLaws.{read-fills}

@@ -8,7 +8,7 @@ use lib.ListN.{length}
 use Rattle.refusal.specs.Answer.{Answer, accepted, refuseIf, firstRefusal}
 use Rattle.timing.specs.Profile.{profileRule}
 use Rattle.timing.specs.declared.Profile.{Profile}
-use Rattle.merge.specs.Set.{setBytes}
+use Rattle.sets.specs.Set.{setBytes}
 use Rattle.entries.specs.Entries.{entriesOf}
 use Rattle.track.specs.Index.{crowdRule, indexRule}
 use Rattle.track_set.specs.TrackSectors.{sectorsFound, trackRule}

@@ -9,6 +9,11 @@ use lib.ListN.{length, drop}
 use Rattle.timing.specs.Class.{classesOf, classRule}
 use Rattle.timing.specs.declared.Profile.{Profile}
 use Rattle.items.specs.Written.{written}
+use Rattle.fifo.specs.State.{State}
+use Rattle.fifo.specs.Sides.{Processor, Chip}
+use Rattle.fifo.specs.Rules.{Put, ChipPut, ruleOf}
+use Rattle.images.specs.Image.{imageOf, bytesIn}
+use Rattle.images.specs.Rules.{makeRule, makeOutput, readImageRule, readImageOutput}
 use Rattle.lengths.specs.Stream.{streamOf}
 use Rattle.lengths.specs.Margin.{marginRule}
 use Rattle.codec.specs.Writer.{writeRule, writeOutput}
@@ -17,12 +22,10 @@ use Rattle.locks.specs.Lock.{findRule}
 use Rattle.fields.specs.Field.{fieldUsed, fieldItems}
 use Rattle.fields.specs.FieldRule.{fieldRule, fieldReading, fieldOutput, fieldRest, restPlace}
 use Rattle.sectors.specs.Sector.{sectorItems, sectorRule, sectorOutput}
-use Rattle.report.specs.Report.{Report, reportRule, addRule}
-use Rattle.images.specs.Image.{imageOf, bytesIn}
-use Rattle.images.specs.Rules.{makeRule, makeOutput, readImageRule, readImageOutput}
-use Rattle.merge.specs.Set.{setBytes, sectorsIn}
+use Rattle.sets.specs.Set.{setBytes, sectorsIn}
 use Rattle.merge.specs.Merge.{merged}
 use Rattle.merge.specs.Rule.{mergeRule, mergeAnswer, mergeOutput}
+use Rattle.report.specs.Report.{Report, reportRule, addRule}
 use Rattle.track.specs.Index.{indexRule}
 use Rattle.track_set.specs.TrackSectors.{sectorsFound, trackRule, trackAnswer, trackOutput}
 use Rattle.page.specs.Reading.{pagesIn, readRule as readPagesRule, readAnswer, readOutput as readPagesOutput}
@@ -32,9 +35,6 @@ use Rattle.speed.specs.Reading.{lockOf, correctedRule, correctedReading, correc
 use Rattle.limits.specs.Limits.{limitsRule}
 use Rattle.best.specs.Best.{bestRule}
 use Rattle.best.specs.declared.Writing.{Writing}
-use Rattle.fifo.specs.State.{State}
-use Rattle.fifo.specs.Sides.{Processor, Chip}
-use Rattle.fifo.specs.Rules.{Put, ChipPut, ruleOf}
 use Rattle.strip.specs.Output.{refusalText}
 use Rattle.strip.specs.Program.{programRule, programText}
 use Rattle.demands.specs.Order.{accept, Answers, Lent}

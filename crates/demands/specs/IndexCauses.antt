@@ -3,7 +3,7 @@ use Prim.Native.Nat.{ℕ, _<_}
 use mathlib.Core.List.{List}
 use lib.ListN.{length}
 use Rattle.timing.specs.declared.Profile.{Profile}
-use Rattle.merge.specs.Set.{setBytes}
+use Rattle.sets.specs.Set.{setBytes}
 use Rattle.entries.specs.Entries.{entriesOf}
 use Rattle.track_set.specs.TrackSectors.{sectorsFound}
 use Rattle.demands.specs.Order.{Order, accept, turn, at0}

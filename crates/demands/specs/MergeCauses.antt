@@ -7,8 +7,9 @@ use mathlib.Core.Logic.{_⊎_}
 use lib.ListN.{length}
 use Rattle.lists.specs.Place.{anywhere, lowest}
 use Rattle.refusal.specs.Answer.{Answer}
-use Rattle.merge.specs.Set.{Sector, setBytes, isMisfitSet, sectorsIn}
-use Rattle.merge.specs.Merge.{numbers, merged, inEither, howMany, atOddsAt}
+use Rattle.sets.specs.Set.{Sector, setBytes, isMisfitSet, sectorsIn}
+use Rattle.sets.specs.Held.{numbers, howMany}
+use Rattle.merge.specs.Merge.{merged, inEither, atOddsAt}
 use Rattle.merge.specs.Rule.{MergeAnswer}
 use Rattle.demands.specs.Order.{Order, accept, turn, at0}
 

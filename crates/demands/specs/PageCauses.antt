@@ -8,9 +8,9 @@ use mathlib.Core.Logic.{_⊎_}
 use lib.ListN.{length}
 use Rattle.lists.specs.Place.{anywhere, lowest}
 use Rattle.refusal.specs.Answer.{Answer}
-use Rattle.merge.specs.Set.{isMisfitSet, sectorsIn}
-use Rattle.merge.specs.Merge.{numbers}
-use Rattle.merge.specs.Alone.{isTwiceIn}
+use Rattle.sets.specs.Set.{isMisfitSet, sectorsIn}
+use Rattle.sets.specs.Held.{numbers}
+use Rattle.sets.specs.Alone.{isTwiceIn}
 use Rattle.page.specs.Page.{pageCells, pageNumbers}
 use Rattle.page.specs.Reading.{PagesAnswer, lostAt, soiledAt}
 use Rattle.page.specs.Making.{madeSet}

@@ -16,11 +16,11 @@ use Rattle.lists.proofs.BoolLaws.{both}
 use Rattle.refusal.specs.Answer.{Answer}
 use Rattle.timing.specs.Class.{classesOf}
 use Rattle.timing.specs.declared.Profile.{Profile}
+use Rattle.locks.specs.Lock.{beginsWith}
+use Rattle.locks.specs.machine.Marks.{threeMarks}
 use Rattle.fields.specs.Field.{fieldItems}
 use Rattle.fields.specs.FieldRule.{fieldTurnedAway, fieldRule, fieldReading}
 use Rattle.fields.specs.machine.Gather.{GathersItems}
-use Rattle.locks.specs.Lock.{beginsWith}
-use Rattle.locks.specs.machine.Marks.{threeMarks}
 use Rattle.fields.proofs.FieldLaws.{field-items-count}
 use Rattle.fields.proofs.RuleLaws.{gather-stops-nowhere, gather-accepts}
 use Rattle.fields.proofs.ReaderLaws.{output-is-items}

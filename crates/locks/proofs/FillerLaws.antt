@@ -16,8 +16,8 @@ use Rattle.refusal.specs.Answer.{Answer, accepted}
 use Rattle.timing.specs.Class.{classNumber}
 use Rattle.timing.specs.declared.Class.{Class}
 use Rattle.timing.specs.declared.Class.the-variants.{Narrow, Two, Three, Four}
+use Rattle.runs.specs.machine.Scan.{Twos}
 use Rattle.locks.specs.Lock.{beginsWith, lockPatterns, markAhead, lockFrom}
-use Rattle.locks.specs.machine.Scan.{Twos}
 use Rattle.locks.proofs.FinderLaws.{lock-stands, broken-run-is-passed, longer-run-is-passed}
 use Rattle.locks.proofs.FinderLaws.{first-64-are-passed, search-ends-in-lock}
 

@@ -13,8 +13,8 @@ use lib.Seq.{getD-drop, drop-cons}
 use Rattle.refusal.specs.Answer.{accepted, refused}
 use Rattle.timing.specs.declared.Class.{Class}
 use Rattle.timing.specs.declared.Class.the-variants.{Narrow, Two}
+use Rattle.runs.specs.machine.Scan.{Twos}
 use Rattle.locks.specs.Lock.{markAhead, lockAt, firstLock, lockFrom}
-use Rattle.locks.specs.machine.Scan.{Twos}
 use Rattle.locks.proofs.LockLaws.{run-ahead, run-broken, no-mark-of-none, two-begins-no-mark}
 
 module _ (cs : List Class) (k : ℕ) where

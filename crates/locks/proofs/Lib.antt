@@ -1,7 +1,6 @@
 pub mod LockLaws
 pub mod FinderLaws
 pub mod MarkLaws
-pub mod RunLaws
 pub mod FirstLockLaws
 pub mod FillerLaws
 pub mod StartLaws

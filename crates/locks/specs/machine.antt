@@ -1,5 +1,3 @@
--- Machines, not meaning.
--- What the finder has passed over
-pub mod Scan
+-- Machine, not meaning.
 -- What a sector's field begins with
 pub mod Marks

@@ -7,11 +7,11 @@ ghost use Rattle.timing.specs.Profile.{profileRule};
 ghost use Rattle.timing.specs.Class.{classesOf, classesFrom};
 ghost use Rattle.locks.specs.Lock.{beginsWith, markAhead, lockFrom, searchRule, findRule};
 ghost use Rattle.locks.specs.machine.Marks.{threeMarks};
-use crate::runs::next_two;
-use crate::runs::pass_run;
 use refusal::Counted;
 use refusal::Refusal;
 use refusal::Verdict;
+use runs::next_two;
+use runs::pass_run;
 use timing::Cursor;
 use timing::Profile;
 

@@ -7,12 +7,14 @@ use native.Mathlib.Omega.{arith}
 use borrow.Author.Tests.{le-ltb}
 use Rattle.lists.specs.Place.{anywhere}
 use Rattle.refusal.proofs.AnswerLaws.{first-refusal-accepts}
-use Rattle.merge.specs.Set.{isMisfitSet, sectorsIn, setOf, setWithin}
-use Rattle.merge.specs.Merge.{numbers, howMany, inEither, isCrowded, atOddsAt}
+use Rattle.sets.specs.Set.{isMisfitSet, sectorsIn, setOf, setWithin}
+use Rattle.sets.specs.Held.{numbers, howMany}
+use Rattle.sets.proofs.SetRuleLaws.{Fits}
+use Rattle.merge.specs.Merge.{inEither, isCrowded, atOddsAt}
 use Rattle.merge.specs.Rule.{roomRule, mergeRule}
 use Rattle.merge.specs.Claims.{Takes}
-use Rattle.merge.specs.machine.Index.{checkedRule}
-use Rattle.merge.proofs.RuleLaws.{Fits, accepted-numbers, accepted-sets-fit}
+use Rattle.merge.specs.machine.Tests.{checkedRule}
+use Rattle.merge.proofs.RuleLaws.{accepted-numbers, accepted-sets-fit}
 use Rattle.merge.proofs.SettleLaws.{merge-rule-in-steps}
 
 module _ (first second : List ℕ) where

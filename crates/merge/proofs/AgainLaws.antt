@@ -5,17 +5,18 @@ use mathlib.Core.Bool.{false, true}
 use mathlib.Core.List.{List, flatMap}
 use mathlib.Core.Option.{some}
 use Rattle.lists.specs.Place.{everywhere}
-use Rattle.merge.specs.Set.{Sector, setOf, isNone, isMisfitSet, sectorsIn}
-use Rattle.merge.specs.Merge.{heldOf, taken, asList, takenAt, merged, numbers, isThere, inEither, howMany}
-use Rattle.merge.specs.Merge.{isTwice}
-use Rattle.merge.specs.Claims.{isSector}
+use Rattle.sets.specs.Set.{Sector, setOf, isNone, isMisfitSet, sectorsIn}
+use Rattle.sets.specs.Held.{heldOf, numbers, howMany}
+use Rattle.sets.specs.Held.{isTwice}
+use Rattle.sets.specs.Claims.{isSector}
+use Rattle.sets.proofs.NumberLaws.{lists-agree, counts-agree}
+use Rattle.sets.proofs.SetRuleLaws.{Fits}
+use Rattle.sets.proofs.FormLaws.{fits-is-some, sets-as-bytes}
+use Rattle.merge.specs.Merge.{taken, asList, takenAt, merged, isThere, inEither}
 use Rattle.merge.specs.Rule.{result}
-use Rattle.merge.proofs.NumberLaws.{lists-agree, counts-agree}
 use Rattle.merge.proofs.HeldLaws.{held-of-merged, taken-once}
 use Rattle.merge.proofs.AcceptLaws.{Accepts}
 use Rattle.merge.proofs.MergedLaws.{taken-is-there, merged-is-sectors, merged-count, none-is-twice}
-use Rattle.merge.proofs.RuleLaws.{Fits}
-use Rattle.merge.proofs.FormLaws.{fits-is-some, sets-as-bytes}
 
 module _ (first second : List ℕ) (a : Accepts first second) where
   abbrev ss : List Sector

@@ -1,23 +1,25 @@
 -- A set by itself and its merge with the empty set are turned away alike: a set of at most 32 sectors has at most 32
 -- different numbers, and with nothing beside it a number is at odds where it is there twice. Rests on no axiom.
 use Prim.Native.Nat.{ℕ, zero, suc, _+_, _≤_, _<_}
-use mathlib.Core.Path.{_≡_, refl, sym, ap, _∙_, fun-ext}
+use mathlib.Core.Path.{_≡_, refl, _∙_, fun-ext}
 use mathlib.Core.Bool.{Bool, true, false, cond, _||_, or-false}
 use mathlib.Core.List.{List, [], _∷_}
 use native.Mathlib.Omega.{arith}
-use borrow.Author.Tests.{eqb-true, ltb-false, le-ltb, ne-eqb}
+use borrow.Author.Tests.{eqb-true, ltb-false, le-ltb}
 use lib.Dec.{eqb, ltb}
 use lib.ListN.{length}
 use Rattle.lists.specs.Place.{anywhere, lowest}
 use Rattle.lists.specs.Table.{tabulated}
 use Rattle.refusal.specs.Answer.{Answer, accepted, refuseIf, firstRefusal}
-use Rattle.merge.specs.Set.{Sector, isMisfitSet, sectorsIn, setOf, setWithin}
-use Rattle.merge.specs.Merge.{Held, Nothing, One, Twice, withCopy, heldOf, isThere, isTwice, inEither, howMany}
-use Rattle.merge.specs.Merge.{isCrowded, atOddsAt, numbers}
+use Rattle.sets.specs.Set.{Sector, isMisfitSet, sectorsIn, setOf, setWithin}
+use Rattle.sets.specs.Held.{Held, Nothing, One, Twice, withCopy, heldOf, howMany}
+use Rattle.sets.specs.Held.{numbers}
+use Rattle.sets.specs.Alone.{isTwiceIn, setRule}
+use Rattle.sets.proofs.NumberLaws.{counts-agree, each-number}
+use Rattle.merge.specs.Merge.{isThere, inEither}
+use Rattle.merge.specs.Merge.{isCrowded, atOddsAt}
 use Rattle.merge.specs.Rule.{roomRule, mergeRule, result}
-use Rattle.merge.specs.Alone.{isTwiceIn, setRule}
 use Rattle.merge.proofs.ChoiceLaws.{odds-with-nothing}
-use Rattle.merge.proofs.NumberLaws.{counts-agree, each-number}
 use Rattle.merge.proofs.AcceptLaws.{empty-fits, acceptance-says}
 use Rattle.merge.proofs.AgainLaws.{held-again}
 use Rattle.merge.proofs.OnceLaws.{with-nothing}

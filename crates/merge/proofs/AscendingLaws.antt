@@ -6,11 +6,12 @@ use mathlib.Core.Bool.{false}
 use mathlib.Core.List.{List, [], _++_, flatMap}
 use lib.ListN.{length, drop, getD, length-append}
 use Rattle.lists.specs.Place.{anywhere}
-use Rattle.merge.specs.Set.{setBytes, sectorsIn}
-use Rattle.merge.specs.Merge.{numbers, taken, asList, takenAt, merged, atOdds, atOddsAt}
+use Rattle.sets.specs.Set.{setBytes, sectorsIn}
+use Rattle.sets.specs.Held.{numbers}
+use Rattle.sets.specs.machine.Index.{shown, Indexed, Within}
+use Rattle.sets.proofs.NumberLaws.{numbers-from, numbers-end, nowhere-at-number}
+use Rattle.merge.specs.Merge.{taken, asList, takenAt, merged, atOdds, atOddsAt}
 use Rattle.merge.specs.Rule.{result}
-use Rattle.merge.specs.machine.Index.{shown, Indexed, Within}
-use Rattle.merge.proofs.NumberLaws.{numbers-from, numbers-end, nowhere-at-number}
 use Rattle.merge.proofs.OutputLaws.{bytes-of-append}
 use Rattle.merge.proofs.ChoiceLaws.{entries-at-odds}
 

@@ -1,14 +1,15 @@
 -- Laws of what two sets have of one number, from their index entries. Rests on no axiom.
 use Prim.Native.Nat.{ℕ, suc, _<_}
 use mathlib.Core.Path.{_≡_, refl, sym, ap, ap₂, _∙_}
-use mathlib.Core.Bool.{true, false, cond, true≢false, and-false}
+use mathlib.Core.Bool.{true, false, true≢false, and-false}
 use mathlib.Core.List.{List, [], _∷_}
-use borrow.Author.Tests.{ne-eqb}
 use lib.Dec.{eqb}
 use lib.ListN.{length, getD}
-use Rattle.merge.specs.Set.{sectorsIn}
-use Rattle.merge.specs.Merge.{Held, Nothing, One, Twice, isTwice, sameBytes, atOdds, atOddsAt}
-use Rattle.merge.specs.machine.Index.{sectorAt, shown, Indexed}
+use Rattle.sets.specs.Set.{sectorsIn}
+use Rattle.sets.specs.Held.{Held, Nothing, One, Twice, isTwice}
+use Rattle.sets.specs.machine.Index.{shown, Indexed}
+use Rattle.sets.proofs.ShownLaws.{highest-shows-twice}
+use Rattle.merge.specs.Merge.{sameBytes, atOdds, atOddsAt}
 
 -- ---- equal bytes
 
@@ -19,28 +20,6 @@ unlike-lengths-are-unlike [] (y ∷ ys) n = refl
 unlike-lengths-are-unlike (x ∷ xs) [] n = refl
 unlike-lengths-are-unlike (x ∷ xs) (y ∷ ys) n =
     rw (unlike-lengths-are-unlike xs ys (λ e. n (ap suc e))) (and-false (eqb x y))
-
--- ---- what an entry shows
-
-module _ (set : List ℕ) (entry : ℕ) where
-  pub zero-shows-nothing : entry ≡ 0 → shown set entry ≡ Nothing
-  unfolding shown
-  zero-shows-nothing e = rw e
-
-  pub highest-shows-twice : entry ≡ 65535 → shown set entry ≡ Twice
-  unfolding shown
-  highest-shows-twice e = rw e
-
-  pub place-shows-one : (entry ≡ 0 → ⊥) → (entry ≡ 65535 → ⊥) → shown set entry ≡ One (sectorAt set entry)
-  unfolding shown
-  place-shows-one n m = rw (ne-eqb entry 0 n, ne-eqb entry 65535 m)
-
-  pub other-shows-no-twice : (entry ≡ 65535 → ⊥) → isTwice (shown set entry) ≡ false
-  unfolding shown
-  other-shows-no-twice m =
-      rw (ne-eqb entry 65535 m)
-      (elim (eqb entry 0) as (λ t. isTwice (cond t Nothing (One (sectorAt set entry))) ≡ false)
-      [ true ↦ refl | false ↦ refl ])
 
 -- ---- at odds
 

@@ -4,9 +4,9 @@ use mathlib.Core.Bool.{false}
 use mathlib.Core.Path.{sym, _≡_, _∙_, ap}
 use mathlib.Core.List.{[]}
 use lib.ListN.{length}
+use Rattle.sets.specs.Set.{sectorsIn, setBytes}
+use Rattle.sets.specs.Held.{heldOf, isTwice}
 use Rattle.merge.specs.Claims.{MergeLaws}
-use Rattle.merge.specs.Set.{sectorsIn, setBytes}
-use Rattle.merge.specs.Merge.{heldOf, isTwice}
 use Rattle.merge.specs.Rule.{mergeAnswer, mergeOutput, result}
 use Rattle.merge.proofs.AcceptLaws.{acceptance-says, accepts-takes, empty-fits}
 use Rattle.merge.proofs.HeldLaws.{held-of-merged}

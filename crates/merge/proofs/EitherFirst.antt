@@ -9,12 +9,13 @@ use lib.ListN.{length}
 use borrow.Author.Tests.{eqb-true}
 use Rattle.lists.specs.Place.{anywhere}
 use Rattle.refusal.specs.Answer.{Answer, refuseIf, settled}
-use Rattle.merge.specs.Set.{Sector, isMisfitSet, sectorsIn}
-use Rattle.merge.specs.Merge.{heldOf, asList, takenAt, merged, numbers, inEither, howMany, isCrowded, isThere}
+use Rattle.sets.specs.Set.{Sector, isMisfitSet, sectorsIn}
+use Rattle.sets.specs.Held.{heldOf, numbers, howMany}
+use Rattle.sets.proofs.NumberLaws.{nowhere-at-number, lists-agree}
+use Rattle.merge.specs.Merge.{asList, takenAt, merged, inEither, isCrowded, isThere}
 use Rattle.merge.specs.Merge.{atOddsAt}
 use Rattle.merge.specs.Rule.{roomRule, mergeRule, storing}
 use Rattle.merge.specs.Claims.{bothFail}
-use Rattle.merge.proofs.NumberLaws.{nowhere-at-number, lists-agree}
 use Rattle.merge.proofs.HeldLaws.{held-has-number}
 use Rattle.merge.proofs.SwapLaws.{odds-swap, taken-swaps}
 

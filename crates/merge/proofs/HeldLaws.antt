@@ -8,10 +8,11 @@ use native.Mathlib.Omega.{arith}
 use borrow.Author.Tests.{eqb-true, eq-eqb, ne-eqb}
 use lib.Dec.{eqb}
 use Rattle.lists.specs.Table.{tabulated}
-use Rattle.merge.specs.Set.{Sector}
-use Rattle.merge.specs.Merge.{Held, Nothing, One, Twice, withCopy, heldOf, taken, asList, takenAt, merged}
-use Rattle.merge.specs.Merge.{numbers, isTwice}
-use Rattle.merge.proofs.IndexLaws.{joined, joined-assoc, joined-nothing}
+use Rattle.sets.specs.Set.{Sector}
+use Rattle.sets.specs.Held.{Held, Nothing, One, Twice, withCopy, heldOf}
+use Rattle.sets.specs.Held.{numbers, isTwice}
+use Rattle.sets.proofs.IndexLaws.{joined, joined-assoc, joined-nothing}
+use Rattle.merge.specs.Merge.{taken, asList, takenAt, merged}
 use Rattle.merge.proofs.OutputLaws.{taken-keeps}
 
 -- ---- a sector more at the front

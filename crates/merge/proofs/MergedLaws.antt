@@ -10,13 +10,16 @@ use lib.ListN.{length, length-map}
 use Rattle.lists.specs.Place.{anywhere, everywhere}
 use Rattle.lists.proofs.PlaceLaws.{everywhere-of-none, everywhere-of-append, everywhere-passes-at-first}
 use Rattle.lists.proofs.PlaceLaws.{everywhere-in-rest, everywhere-of-passing}
-use Rattle.merge.specs.Set.{Sector}
-use Rattle.merge.specs.Merge.{Held, Nothing, One, Twice, withCopy, heldOf, taken, asList, takenAt, merged}
-use Rattle.merge.specs.Merge.{numbers, isThere, inEither, isTwice, atOddsAt, howMany}
-use Rattle.merge.specs.Claims.{isSector, those}
+use Rattle.sets.specs.Set.{Sector}
+use Rattle.sets.specs.Held.{Held, Nothing, One, Twice, withCopy, heldOf}
+use Rattle.sets.specs.Held.{numbers, isTwice, howMany}
+use Rattle.sets.specs.Claims.{isSector}
+use Rattle.sets.proofs.NumberLaws.{each-number, nowhere-at-number}
+use Rattle.merge.specs.Merge.{taken, asList, takenAt, merged}
+use Rattle.merge.specs.Merge.{isThere, inEither, atOddsAt}
+use Rattle.merge.specs.Claims.{those}
 use Rattle.merge.proofs.ChoiceLaws.{at-peace-is-not-twice}
 use Rattle.merge.proofs.HeldLaws.{hasNumber, taken-own, taken-once}
-use Rattle.merge.proofs.NumberLaws.{each-number, nowhere-at-number}
 use Rattle.merge.proofs.OutputLaws.{taken-keeps}
 
 -- ---- each number once, in ascending order

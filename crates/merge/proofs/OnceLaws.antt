@@ -5,13 +5,15 @@ use mathlib.Core.Path.{_≡_, refl, ap, fun-ext}
 use mathlib.Core.Bool.{Bool, true, false, cond, _&&_, _||_, and-false}
 use mathlib.Core.List.{List, [], _∷_, flatMap}
 use borrow.Author.Tests.{eq-eqb}
-use Rattle.merge.specs.Set.{Sector, sectorsIn, setOf, setWithin}
-use Rattle.merge.specs.Merge.{Held, Nothing, One, Twice, heldOf, better, taken, asList, takenAt, merged, numbers}
-use Rattle.merge.specs.Merge.{isThere, inEither, howMany, isTwice, sameBytes, disagree, atOdds, atOddsAt}
+use Rattle.sets.specs.Set.{Sector, sectorsIn, setOf, setWithin}
+use Rattle.sets.specs.Held.{Held, Nothing, One, Twice, heldOf, numbers}
+use Rattle.sets.specs.Held.{howMany, isTwice}
+use Rattle.sets.proofs.NumberLaws.{nowhere-if-never}
+use Rattle.sets.proofs.SetRuleLaws.{Fits}
+use Rattle.merge.specs.Merge.{better, taken, asList, takenAt, merged}
+use Rattle.merge.specs.Merge.{isThere, inEither, sameBytes, disagree, atOdds, atOddsAt}
 use Rattle.merge.specs.Claims.{Takes}
-use Rattle.merge.proofs.NumberLaws.{nowhere-if-never}
 use Rattle.merge.proofs.AcceptLaws.{accepts-takes}
-use Rattle.merge.proofs.RuleLaws.{Fits}
 
 -- ---- one copy with nothing, and with itself
 

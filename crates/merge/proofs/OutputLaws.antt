@@ -9,10 +9,12 @@ use lib.ListN.{length, drop, getD, length-take, length-drop}
 use lib.Seq.{length-take-le}
 use Rattle.sectors.specs.Sector.{sectorSize}
 use Rattle.sectors.proofs.SectorCounts.{size-at-most-1024}
-use Rattle.merge.specs.Set.{Sector, sectorOf, sectorBytes, setBytes}
-use Rattle.merge.specs.Merge.{Held, Nothing, One, Twice, better, taken, asList}
-use Rattle.merge.specs.machine.Index.{sectorAt, endOf, shown, takesSecond}
-use Rattle.merge.proofs.ChoiceLaws.{zero-shows-nothing, place-shows-one}
+use Rattle.sets.specs.Set.{Sector, sectorOf, sectorBytes, setBytes}
+use Rattle.sets.specs.Held.{Held, Nothing, One, Twice}
+use Rattle.sets.specs.machine.Index.{sectorAt, endOf, shown}
+use Rattle.sets.proofs.ShownLaws.{zero-shows-nothing, place-shows-one}
+use Rattle.merge.specs.Merge.{better, taken, asList}
+use Rattle.merge.specs.machine.Tests.{takesSecond}
 
 -- ---- bytes
 

@@ -5,17 +5,20 @@ use mathlib.Core.Bool.{Bool, true, false, _||_, true≢false}
 use mathlib.Core.List.{List}
 use mathlib.Core.Option.{Option, none, some}
 use native.Mathlib.Nat.{zero-add}
-use borrow.Author.Tests.{lt-ltb, ltb-false}
+use borrow.Author.Tests.{ltb-false}
 use lib.Dec.{ltb}
 use lib.ListN.{length}
 use Rattle.lists.specs.Place.{anywhere, lowest}
-use Rattle.lists.proofs.PlaceLaws.{lowest-of-none, lowest-of-some}
 use Rattle.refusal.specs.Answer.{Answer, accepted, refuseIf, firstRefusal}
 use Rattle.refusal.proofs.AnswerLaws.{refuse-if-accepts}
-use Rattle.merge.specs.Set.{Sector, setOf, isNone, orEmpty, isMisfitSet, sectorsIn}
-use Rattle.merge.specs.Merge.{numbers, merged, howMany, inEither, atOddsAt}
-use Rattle.merge.specs.machine.Index.{countRule, setsRule, numbersRule, Indexed, entryInEither}
-use Rattle.merge.proofs.NumberLaws.{numbers-length}
+use Rattle.sets.specs.Set.{Sector, setBytes, setOf, isNone, orEmpty, isMisfitSet, sectorsIn}
+use Rattle.sets.specs.Held.{numbers, howMany}
+use Rattle.sets.specs.machine.Index.{countRule, Indexed}
+use Rattle.sets.proofs.NumberLaws.{lowest-below-256}
+use Rattle.sets.proofs.SetRuleLaws.{Fits}
+use Rattle.merge.specs.Merge.{merged, inEither, atOddsAt}
+use Rattle.merge.specs.Rule.{roomRule}
+use Rattle.merge.specs.machine.Tests.{setsRule, numbersRule, entryInEither}
 use Rattle.merge.proofs.CountLaws.{entries-count-numbers}
 use Rattle.merge.proofs.MergedLaws.{merged-count}
 
@@ -29,11 +32,6 @@ neither false u h = (refl, h)
 abbrev pub countsRule : Answer → Answer → Answer
 countsRule a b =
     firstRefusal a (firstRefusal b (refuseIf (ltb 32 (a .count) || ltb 32 (b .count)) 15 0 (accepted 0)))
-
--- a set that is let pass
-pub record Fits (bs : List ℕ) : Type 0 where
-  pub whole : isMisfitSet bs ≡ false
-  pub few : length (sectorsIn bs) ≤ 32
 
 module _ (first second : List ℕ) where
   pub counts-are-the-rule
@@ -63,13 +61,6 @@ module _ (first second : List ℕ) where
 
 -- ---- 15 for different numbers, and 17
 
-pub lowest-below-256 : (f : ℕ → Bool) → anywhere f numbers ≡ ltb (lowest f numbers) 256
-lowest-below-256 f = by (anywhere f numbers) refl
-  where
-    by : (t : Bool) → anywhere f numbers ≡ t → t ≡ ltb (lowest f numbers) 256
-    by true e = sym (lt-ltb _ _ (rw numbers-length at (lowest-of-some f numbers e)))
-    by false e = rw (lowest-of-none f numbers e, numbers-length)
-
 pub numbers-decide
     : (first second a b : List ℕ) (count low : ℕ)
     → Indexed first a
@@ -94,3 +85,17 @@ accepted-numbers first second e =
     let crowd = refuse-if-accepts (ltb 32 (howMany (inEither first second) numbers)) 14 0 _ e in
     let odds = refuse-if-accepts (anywhere (atOddsAt first second) numbers) 16 _ _ (crowd .1) in
     (ltb-false _ _ (crowd .0), odds .0, rw (crowd .0, odds .0, merged-count first second (odds .0)))
+
+-- the last test of the merge gives 9 alone
+pub room-refuses-with-9
+    : (first second : List Sector) (room n : ℕ) → roomRule first second room .number ≡ n → (n ≡ 0 → ⊥) → n ≡ 9
+unfolding roomRule
+room-refuses-with-9 first second room n e there =
+    by (ltb room (length (setBytes (merged first second)))) e
+  where
+    by
+        : (t : Bool)
+        → refuseIf t 9 0 (accepted (length (merged first second))) .number ≡ n
+        → n ≡ 9
+    by true q = sym q
+    by false q = absurd (there (sym q))

@@ -11,10 +11,11 @@ use Rattle.refusal.specs.Table.{numberOf, placeOf}
 use Rattle.refusal.specs.Answer.{Answer, accepted, refused, refuseIf, firstRefusal}
 use Rattle.refusal.specs.declared.Refusal.{Refusal}
 use Rattle.refusal.proofs.AnswerLaws.{number-is-not-zero, refusal-decides}
-use Rattle.merge.specs.Set.{sectorsIn, isMisfitSet}
-use Rattle.merge.specs.Merge.{isCrowded, atOddsAt, howMany, inEither, numbers}
+use Rattle.sets.specs.Set.{sectorsIn, isMisfitSet}
+use Rattle.sets.specs.Held.{howMany, numbers}
+use Rattle.merge.specs.Merge.{isCrowded, atOddsAt, inEither}
 use Rattle.merge.specs.Rule.{mergeRule, MergeAnswer, mergeAnswer, mergeOutput}
-use Rattle.merge.specs.machine.Index.{setsRule, numbersRule, checkedRule, Settles}
+use Rattle.merge.specs.machine.Tests.{setsRule, numbersRule, checkedRule, Settles}
 
 module _ (first second : List ℕ) where
   -- ---- an earlier rule, then a later one

@@ -7,8 +7,9 @@ use mathlib.Core.List.{List, [], _∷_}
 use borrow.Author.Tests.{eqb-true, eqb-false, ne-eqb, not-false}
 use lib.Dec.{eqb}
 use Rattle.lists.proofs.BoolLaws.{both}
-use Rattle.merge.specs.Set.{Sector}
-use Rattle.merge.specs.Merge.{Held, Nothing, One, Twice, better, taken, sameBytes, disagree, atOdds}
+use Rattle.sets.specs.Set.{Sector}
+use Rattle.sets.specs.Held.{Held, Nothing, One, Twice}
+use Rattle.merge.specs.Merge.{better, taken, sameBytes, disagree, atOdds}
 use Rattle.merge.specs.Claims.{bothFail}
 use Rattle.merge.proofs.HeldLaws.{hasNumber}
 use Rattle.merge.proofs.ChoiceLaws.{odds-with-nothing, twice-second-is-at-odds}

@@ -1,40 +1,15 @@
--- Document 02 (vii): what holds of sets as bytes and of the merge. No lemmas here.
+-- Document 02 (vii): what holds of the merge. No lemmas here.
 use Prim.Native.Nat.{ℕ, _≤_, _<_}
 use mathlib.Core.Path.{_≡_}
-use mathlib.Core.Bool.{Bool, true, false, not, cond, _&&_}
+use mathlib.Core.Bool.{Bool, false, not, cond, _&&_}
 use mathlib.Core.List.{List, [], _∷_, map}
-use mathlib.Core.Option.{some}
-use lib.Dec.{eqb, leb}
 use lib.ListN.{length}
-use Rattle.lists.specs.Place.{everywhere}
 use Rattle.refusal.specs.Answer.{accepted, firstRefusal}
-use Rattle.sectors.specs.Sector.{sectorSize}
-use Rattle.merge.specs.Set.{Sector, setBytes, setOf, sectorsIn}
-use Rattle.merge.specs.Merge.{Held, Nothing, One, Twice, numbers, heldOf, taken, merged, inEither}
+use Rattle.sets.specs.Set.{Sector, sectorsIn}
+use Rattle.sets.specs.Held.{Held, Nothing, One, Twice, numbers, heldOf}
+use Rattle.sets.specs.Alone.{setRule}
+use Rattle.merge.specs.Merge.{taken, merged, inEither}
 use Rattle.merge.specs.Rule.{roomRule, mergeRule, result, mergeAnswer, mergeOutput}
-use Rattle.merge.specs.Alone.{setRule}
-
--- ---- sets as bytes
-
--- a sector has a length code of 0 to 3 and as many bytes of data
-unfoldable pub isSector : Sector → Bool
-isSector s = leb (s .code) 3 && eqb (length (s .bytes)) (sectorSize (s .code))
-
--- the same bytes, but that 1 may stand where the other list has another number that is not 0
-pub data Restates : List ℕ → List ℕ → Type 0 where
-  end : Restates [] []
-  same : {b : ℕ} {new old : List ℕ} → Restates new old → Restates (b ∷ new) (b ∷ old)
-  yes : {b : ℕ} {new old : List ℕ} → (b ≡ 0 → ⊥) → Restates new old → Restates (1 ∷ new) (b ∷ old)
-
-pub record SetsAsBytes : Type 0 where
-  -- the bytes of a set are read as that set
-  pub print-then-read : (ss : List Sector) → everywhere isSector ss ≡ true → setOf (setBytes ss) ≡ some ss
-  -- a set that was read has these bytes, a sum that holds now told by 1
-  pub read-then-print : (bs : List ℕ) (ss : List Sector) → setOf bs ≡ some ss → Restates (setBytes ss) bs
-  -- what was read are sectors
-  pub read-is-sectors : (bs : List ℕ) (ss : List Sector) → setOf bs ≡ some ss → everywhere isSector ss ≡ true
-
--- ---- the merge
 
 -- the numbers that pass a test, in order
 unfoldable pub those : (ℕ → Bool) → List ℕ → List ℕ

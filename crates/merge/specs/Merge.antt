@@ -1,31 +1,11 @@
 -- Document 02 (vii): which sectors the merged set has, and when two sets are crowded or at odds. No lemmas here.
-use Prim.Native.Nat.{ℕ, suc}
+use Prim.Native.Nat.{ℕ}
 use mathlib.Core.Bool.{Bool, true, false, cond, not, _&&_, _||_}
 use mathlib.Core.List.{List, [], _∷_, flatMap}
 use lib.Dec.{eqb, ltb}
 use lib.ListN.{length}
-use Rattle.lists.specs.Table.{tabulated}
-use Rattle.merge.specs.Set.{Sector}
-
--- the sector numbers in ascending order: a number is a byte
-unfoldable pub numbers : List ℕ
-numbers = tabulated (λ n. n) 0 256
-
--- what a set has of a number: nothing, one sector, or the number twice
-pub data Held : Type 0 where
-  Nothing : Held
-  One : Sector → Held
-  Twice : Held
-
--- one copy more
-abbrev pub withCopy : Sector → Held → Held
-withCopy s Nothing = One s
-withCopy s (One t) = Twice
-withCopy s Twice = Twice
-
-unfoldable pub heldOf : ℕ → List Sector → Held
-heldOf n [] = Nothing
-heldOf n (s ∷ ss) = cond (eqb (s .number) n) (withCopy s (heldOf n ss)) (heldOf n ss)
+use Rattle.sets.specs.Set.{Sector}
+use Rattle.sets.specs.Held.{numbers, Held, Nothing, One, Twice, heldOf, isTwice, howMany}
 
 -- the copy whose sum holds is taken; if neither holds, the first; if both hold and the bytes agree, that one
 unfoldable pub better : Sector → Sector → Sector
@@ -62,21 +42,11 @@ isThere Twice = true
 unfoldable pub inEither : List Sector → List Sector → ℕ → Bool
 inEither first second n = isThere (heldOf n first) || isThere (heldOf n second)
 
--- how many of a list pass a test
-unfoldable pub howMany : {A : Type 0} → (A → Bool) → List A → ℕ
-howMany f [] = 0
-howMany f (x ∷ xs) = cond (f x) (suc (howMany f xs)) (howMany f xs)
-
 unfoldable pub isCrowded : List Sector → List Sector → Bool
 isCrowded first second =
     ltb 32 (length first) || ltb 32 (length second) || ltb 32 (howMany (inEither first second) numbers)
 
 -- ---- 17, at odds: a number twice in one set, or with both sums good and unlike bytes
-
-abbrev pub isTwice : Held → Bool
-isTwice Nothing = false
-isTwice (One s) = false
-isTwice Twice = true
 
 unfoldable pub sameBytes : List ℕ → List ℕ → Bool
 sameBytes [] [] = true

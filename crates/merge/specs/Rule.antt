@@ -7,8 +7,9 @@ use lib.ListN.{length}
 use Rattle.lists.specs.Place.{anywhere, lowest}
 use Rattle.refusal.specs.Table.{numberOf, placeOf}
 use Rattle.refusal.specs.Answer.{Answer, accepted, refused, refuseIf, settled}
-use Rattle.merge.specs.Set.{Sector, setBytes, isMisfitSet, sectorsIn}
-use Rattle.merge.specs.Merge.{numbers, merged, isCrowded, atOddsAt}
+use Rattle.sets.specs.Set.{Sector, setBytes, isMisfitSet, sectorsIn}
+use Rattle.sets.specs.Held.{numbers}
+use Rattle.merge.specs.Merge.{merged, isCrowded, atOddsAt}
 use Rattle.merge.specs.declared.Merged.{Merged}
 use Rattle.merge.specs.declared.Merged.the-variants.{Set, Refused}
 

@@ -1,5 +1,2 @@
--- Machines, not meaning.
--- Where a set has its numbers
-pub mod Index
--- Between which numbers
-pub mod Span
+-- Machine, not meaning.
+pub mod Tests

@@ -5,12 +5,13 @@ ghost use mathlib.Core.Bool.{false};
 ghost use lib.ListN.{length};
 ghost use Rattle.lists.specs.Place.{anywhere};
 ghost use Rattle.lists.specs.Filled.{storedAt};
-ghost use Rattle.merge.specs.Set.{setBytes, sectorsIn};
-ghost use Rattle.merge.specs.Merge.{numbers, merged, atOddsAt};
-ghost use Rattle.merge.specs.machine.Span.{Indexes};
+ghost use Rattle.sets.specs.Set.{setBytes, sectorsIn};
+ghost use Rattle.sets.specs.Held.{numbers};
+ghost use Rattle.sets.specs.machine.Span.{Indexes};
+ghost use Rattle.merge.specs.Merge.{merged, atOddsAt};
 use crate::output::put_taken;
 use crate::output::taken_size;
-use crate::span::Span;
+use sets::span::Span;
 
 pub fn merged_size(first: &[u8], a: &[u16; 256], second: &[u8], b: &[u16; 256], span: Span) -> usize
     requires { ⌜

@@ -5,11 +5,13 @@ ghost use mathlib.Core.Path.{_≡_};
 ghost use mathlib.Core.Bool.{false};
 ghost use lib.ListN.{length};
 ghost use Rattle.lists.specs.Place.{lowest};
-ghost use Rattle.merge.specs.Set.{sectorsIn};
-ghost use Rattle.merge.specs.Merge.{numbers, sameBytes, disagree, atOdds, atOddsAt};
-ghost use Rattle.merge.specs.machine.Index.{sectorAt, endOf, shown, Within, takesSecond};
-ghost use Rattle.merge.specs.machine.Span.{Indexes};
-use crate::span::Span;
+ghost use Rattle.sets.specs.Set.{sectorsIn};
+ghost use Rattle.sets.specs.Held.{numbers};
+ghost use Rattle.sets.specs.machine.Index.{sectorAt, endOf, shown, Within};
+ghost use Rattle.sets.specs.machine.Span.{Indexes};
+ghost use Rattle.merge.specs.Merge.{sameBytes, disagree, atOdds, atOddsAt};
+ghost use Rattle.merge.specs.machine.Tests.{takesSecond};
+use sets::span::Span;
 
 // Looks at every byte: a loop that could end early would go byte by byte.
 fn same_bytes(a: &[u8], b: &[u8]) -> bool

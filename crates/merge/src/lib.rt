@@ -4,29 +4,26 @@ ghost use mathlib.Core.Bool.{_||_};
 ghost use lib.Dec.{ltb};
 ghost use lib.ListN.{length};
 ghost use Rattle.refusal.specs.Answer.{accepted, refuseIf, verdictAnswer, countedAnswer};
-ghost use Rattle.merge.specs.Set.{sectorsIn};
+ghost use Rattle.sets.specs.Set.{sectorsIn};
+ghost use Rattle.sets.specs.machine.Span.{Indexes};
 ghost use Rattle.merge.specs.Rule.{roomRule, mergedAnswer, mergeAnswer, mergeOutput};
-ghost use Rattle.merge.specs.machine.Index.{setsRule, numbersRule, checkedRule, Settles};
-ghost use Rattle.merge.specs.machine.Span.{Indexes};
-pub use alone::index_alone;
+ghost use Rattle.merge.specs.machine.Tests.{setsRule, numbersRule, checkedRule, Settles};
 use ascending::merged_size;
 use ascending::write_merged;
 use choice::lowest_at_odds;
-use index::count_numbers;
-use index::count_sectors;
-use index::index_set;
+use numbers::count_numbers;
 use refusal::Counted;
 use refusal::Refusal;
 use refusal::Verdict;
-use span::Span;
-use span::join;
+use sets::index::count_sectors;
+use sets::index::index_set;
+use sets::span::Span;
+use sets::span::join;
 
-mod alone;
 mod ascending;
 mod choice;
-mod index;
+mod numbers;
 mod output;
-mod span;
 
 // How many sectors the merged set has and how many bytes it takes.
 pub enum Merged {

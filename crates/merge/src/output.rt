@@ -7,9 +7,9 @@ ghost use lib.Dec.{eqb};
 ghost use lib.ListN.{length, getD};
 ghost use Rattle.lists.specs.Filled.{storedAt};
 ghost use Rattle.sectors.specs.Sector.{sectorSize};
-ghost use Rattle.merge.specs.Set.{asByte, sectorBytes, setBytes};
+ghost use Rattle.sets.specs.Set.{asByte, sectorBytes, setBytes};
+ghost use Rattle.sets.specs.machine.Index.{sectorAt, endOf, shown, Within};
 ghost use Rattle.merge.specs.Merge.{taken, asList, atOdds};
-ghost use Rattle.merge.specs.machine.Index.{sectorAt, endOf, shown, Within};
 use crate::choice::takes_second;
 use lists::copy;
 

@@ -18,14 +18,14 @@ use Rattle.refusal.specs.Answer.{accepted}
 use Rattle.refusal.proofs.AnswerLaws.{refuse-if-accepts}
 use Rattle.timing.specs.Profile.{outside}
 use Rattle.sectors.specs.Sector.{sectorSize}
-use Rattle.merge.specs.Set.{Sector, setOf, sectorsIn}
-use Rattle.merge.specs.Merge.{Nothing, One, withCopy, heldOf, isTwice}
-use Rattle.merge.specs.Alone.{isTwiceIn, setRule}
-use Rattle.merge.specs.Claims.{isSector}
-use Rattle.merge.proofs.FormLaws.{sets-as-bytes, sectors-of-set}
+use Rattle.sets.specs.Set.{Sector, setOf, sectorsIn}
+use Rattle.sets.specs.Held.{Nothing, One, withCopy, heldOf, isTwice}
+use Rattle.sets.specs.Alone.{isTwiceIn, setRule}
+use Rattle.sets.specs.Claims.{isSector}
+use Rattle.sets.proofs.FormLaws.{sets-as-bytes, sectors-of-set}
+use Rattle.sets.proofs.NumberLaws.{nowhere-if-never}
+use Rattle.sets.proofs.SetRuleLaws.{set-is-accepted}
 use Rattle.merge.proofs.HeldLaws.{held-of-none, held-of-own-first, held-of-other-first}
-use Rattle.merge.proofs.NumberLaws.{nowhere-if-never}
-use Rattle.merge.proofs.SetRuleLaws.{set-is-accepted}
 use Rattle.page.specs.Page.{pageNumbers, cellsIn, fillIn, isDirt, isSoiled, dotsOf}
 use Rattle.page.specs.Reading.{isLost, dataIn, lostAt, soiledAt, pageAt, pagesIn, dotsIn, readRule}
 use Rattle.page.specs.Making.{pageOf, sectorOfPage, madeSectors, madeSet, makeRule}

@@ -12,8 +12,8 @@ use Rattle.lists.specs.Place.{everywhere}
 use Rattle.lists.specs.Table.{tabulated}
 use Rattle.lists.proofs.BoolLaws.{both}
 use Rattle.lists.proofs.PlaceLaws.{everywhere-at-entry}
-use Rattle.merge.specs.Merge.{howMany, numbers}
-use Rattle.merge.proofs.NumberLaws.{number-at, numbers-length}
+use Rattle.sets.specs.Held.{howMany, numbers}
+use Rattle.sets.proofs.NumberLaws.{number-at, numbers-length}
 use Rattle.page.specs.Page.{isRaised, dotsOfCell}
 use Rattle.page.specs.machine.Columns.{pairsOf, halvesOf}
 

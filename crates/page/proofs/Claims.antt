@@ -5,7 +5,7 @@ use mathlib.Core.List.{List}
 use native.Mathlib.Omega.{arith}
 use lib.ListN.{length}
 use Rattle.lists.specs.Sum.{sumOf}
-use Rattle.merge.specs.Merge.{One}
+use Rattle.sets.specs.Held.{One}
 use Rattle.page.specs.Reading.{readAnswer, readOutput}
 use Rattle.page.specs.Making.{sectorOfPage, stretchSet}
 use Rattle.page.specs.Claims.{PageLaws}

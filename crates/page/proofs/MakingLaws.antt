@@ -6,8 +6,8 @@ use native.Mathlib.Omega.{arith}
 use lib.ListN.{length, set, take, drop, replicate, length-append, length-drop, length-replicate, drop-of-length-le}
 use lib.Seq.{length-take-le}
 use Rattle.lists.specs.Filled.{storedAt}
-use Rattle.merge.specs.Set.{Sector, sectorBytes, setBytes}
-use Rattle.merge.proofs.FormLaws.{bytes-of-first}
+use Rattle.sets.specs.Set.{Sector, sectorBytes, setBytes}
+use Rattle.sets.proofs.FormLaws.{bytes-of-first}
 use Rattle.page.specs.Page.{pageNumbers}
 use Rattle.page.specs.Making.{pageOf, sectorOfPage, madeSectors, madeSet}
 use Rattle.page.proofs.PageLaws.{pages-length, pages-from}

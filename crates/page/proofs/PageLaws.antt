@@ -15,12 +15,12 @@ use Rattle.lists.proofs.BoolLaws.{both}
 use Rattle.lists.proofs.PlaceLaws.{lowest-of-none, below-lowest-fails}
 use Rattle.lists.proofs.TableLaws.{entry-is-rule}
 use Rattle.sectors.specs.Sector.{sectorSize}
-use Rattle.merge.specs.Set.{sectorsIn}
-use Rattle.merge.specs.Merge.{One, heldOf, numbers}
-use Rattle.merge.specs.Alone.{isTwiceIn}
-use Rattle.merge.specs.machine.Index.{sectorAt, shown, Indexed}
-use Rattle.merge.proofs.ChoiceLaws.{place-shows-one}
-use Rattle.merge.proofs.EntryLaws.{code-at, holds-at, bytes-at, no-entry-is-missing, entry-is-sector, sector-ends}
+use Rattle.sets.specs.Set.{sectorsIn}
+use Rattle.sets.specs.Held.{One, heldOf, numbers}
+use Rattle.sets.specs.Alone.{isTwiceIn}
+use Rattle.sets.specs.machine.Index.{sectorAt, shown, Indexed}
+use Rattle.sets.proofs.ShownLaws.{place-shows-one}
+use Rattle.sets.proofs.EntryLaws.{code-at, holds-at, bytes-at, no-entry-is-missing, entry-is-sector, sector-ends}
 use Rattle.page.specs.Page.{pageNumbers, cellsIn, fillIn, isDirt, isSoiled}
 use Rattle.page.specs.Reading.{isLost, dataIn, lostAt, soiledAt, pageAt}
 

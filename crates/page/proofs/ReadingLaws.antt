@@ -14,9 +14,9 @@ use Rattle.lists.proofs.PlaceLaws.{lowest-of-none, lowest-of-some}
 use Rattle.refusal.specs.Answer.{Answer, accepted, refused, refuseIf, firstRefusal}
 use Rattle.refusal.proofs.AnswerLaws.{first-refusal-passes}
 use Rattle.timing.specs.Profile.{outside}
-use Rattle.merge.specs.Set.{Sector, isMisfitSet, sectorsIn}
-use Rattle.merge.specs.Merge.{numbers}
-use Rattle.merge.specs.Alone.{isTwiceIn, setRule}
+use Rattle.sets.specs.Set.{Sector, isMisfitSet, sectorsIn}
+use Rattle.sets.specs.Held.{numbers}
+use Rattle.sets.specs.Alone.{isTwiceIn, setRule}
 use Rattle.page.specs.Page.{pageNumbers, dotsOf}
 use Rattle.page.specs.Reading.{lostAt, soiledAt, pageAt, pagesIn, dotsIn, pagesRule, readRule}
 use Rattle.page.proofs.PageLaws.{pages-length, pages-from}

@@ -13,12 +13,12 @@ use Rattle.lists.specs.Place.{anywhere, lowest}
 use Rattle.refusal.specs.Answer.{Answer, accepted, refused, refuseIf, firstRefusal, settled}
 use Rattle.refusal.proofs.AnswerLaws.{first-refusal-accepts}
 use Rattle.timing.specs.Profile.{outside}
-use Rattle.merge.specs.Set.{Sector, sectorsIn}
-use Rattle.merge.specs.Merge.{heldOf}
-use Rattle.merge.specs.Alone.{setRule}
+use Rattle.sets.specs.Set.{Sector, sectorsIn}
+use Rattle.sets.specs.Held.{heldOf}
+use Rattle.sets.specs.Alone.{setRule}
 use Rattle.merge.specs.Rule.{mergeRule, roomRule, result}
 use Rattle.merge.proofs.Claims.{merge-laws}
-use Rattle.merge.proofs.SetRuleLaws.{room-refuses-with-9}
+use Rattle.merge.proofs.RuleLaws.{room-refuses-with-9}
 use Rattle.page.specs.Page.{pageNumbers, isSoiled, cellsIn, dotsOf}
 use Rattle.page.specs.Reading.{isLost, dataIn, lostAt, soiledAt, pageAt, pagesIn, dotsIn, pagesRule, readRule}
 use Rattle.page.specs.Reading.{readAnswer, readOutput}

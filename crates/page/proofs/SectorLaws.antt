@@ -16,14 +16,15 @@ use Rattle.refusal.specs.Answer.{accepted}
 use Rattle.refusal.proofs.AnswerLaws.{refuse-if-accepts, first-refusal-accepts}
 use Rattle.timing.specs.Profile.{outside}
 use Rattle.sectors.specs.Sector.{sectorSize}
-use Rattle.merge.specs.Set.{Sector, sectorsIn}
-use Rattle.merge.specs.Merge.{Held, Nothing, One, Twice, asList, heldOf}
-use Rattle.merge.specs.Alone.{setRule}
-use Rattle.merge.specs.Claims.{isSector}
-use Rattle.merge.proofs.FormLaws.{sets-as-bytes, fits-is-some}
+use Rattle.sets.specs.Set.{Sector, sectorsIn}
+use Rattle.sets.specs.Held.{Held, Nothing, One, Twice, heldOf}
+use Rattle.sets.specs.Alone.{setRule}
+use Rattle.sets.specs.Claims.{isSector}
+use Rattle.sets.proofs.FormLaws.{sets-as-bytes, fits-is-some}
+use Rattle.sets.proofs.SetRuleLaws.{accepted-set}
+use Rattle.merge.specs.Merge.{asList}
 use Rattle.merge.proofs.HeldLaws.{hasNumber, held-has-number}
 use Rattle.merge.proofs.MergedLaws.{held-is-sectors}
-use Rattle.merge.proofs.SetRuleLaws.{accepted-set}
 use Rattle.page.specs.Page.{pageNumbers, cellsIn, fillIn, isDirt, isSoiled}
 use Rattle.page.specs.Reading.{isLost, dataIn, lostAt, soiledAt, pageAt, pagesIn, pagesRule, readRule}
 use Rattle.page.specs.Making.{pageOf, sectorOfPage}

@@ -11,16 +11,18 @@ use Rattle.lists.specs.Place.{everywhere}
 use Rattle.lists.specs.Sum.{sumOf}
 use Rattle.lists.specs.Table.{tabulated}
 use Rattle.lists.proofs.PlaceLaws.{everywhere-of-none, everywhere-of-passing}
-use Rattle.merge.specs.Set.{Sector, setBytes, setOf, sectorsIn}
-use Rattle.merge.specs.Merge.{asList, takenAt, merged, heldOf, isThere, inEither, atOddsAt}
-use Rattle.merge.specs.Claims.{isSector, Takes}
+use Rattle.sets.specs.Set.{Sector, setBytes, setOf, sectorsIn}
+use Rattle.sets.specs.Held.{heldOf}
+use Rattle.sets.specs.Claims.{isSector}
+use Rattle.sets.proofs.FormLaws.{sets-as-bytes, sectors-of-set}
+use Rattle.sets.proofs.NumberLaws.{lists-agree, counts-agree, nowhere-if-never}
+use Rattle.sets.proofs.SetRuleLaws.{Fits}
+use Rattle.merge.specs.Merge.{asList, takenAt, merged, isThere, inEither, atOddsAt}
+use Rattle.merge.specs.Claims.{Takes}
 use Rattle.merge.specs.Rule.{result}
 use Rattle.merge.proofs.AcceptLaws.{accepts-takes}
 use Rattle.merge.proofs.AloneLaws.{numbers-at-most-sectors}
-use Rattle.merge.proofs.FormLaws.{sets-as-bytes, sectors-of-set}
 use Rattle.merge.proofs.MergedLaws.{taken-is-there}
-use Rattle.merge.proofs.NumberLaws.{lists-agree, counts-agree, nowhere-if-never}
-use Rattle.merge.proofs.RuleLaws.{Fits}
 use Rattle.page.specs.Page.{pageNumbers}
 use Rattle.page.specs.Making.{madeSectors, madeSet, stretchSet}
 use Rattle.page.specs.Claims.{mergedAll, AllTaken, stretchSets}

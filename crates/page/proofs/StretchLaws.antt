@@ -9,8 +9,9 @@ use native.Mathlib.Omega.{arith}
 use borrow.Author.Tests.{eqb-true, eqb-false, leb-true, leb-false}
 use lib.Dec.{eqb, leb}
 use Rattle.lists.specs.Table.{tabulated}
-use Rattle.merge.specs.Set.{Sector}
-use Rattle.merge.specs.Merge.{Held, Nothing, withCopy, taken, asList, heldOf, numbers, atOdds}
+use Rattle.sets.specs.Set.{Sector}
+use Rattle.sets.specs.Held.{Held, Nothing, withCopy, heldOf, numbers}
+use Rattle.merge.specs.Merge.{taken, asList, atOdds}
 use Rattle.merge.proofs.ChoiceLaws.{odds-with-nothing}
 use Rattle.merge.proofs.HeldLaws.{held-of-none, held-of-own-first, held-of-other-first}
 use Rattle.merge.proofs.OnceLaws.{with-nothing}

@@ -8,8 +8,8 @@ use lib.ListN.{length}
 use Rattle.lists.specs.Filled.{filled}
 use Rattle.lists.specs.Sum.{sumOf}
 use Rattle.refusal.specs.Answer.{accepted, refused}
-use Rattle.merge.specs.Set.{sectorsIn}
-use Rattle.merge.specs.Merge.{One, heldOf}
+use Rattle.sets.specs.Set.{sectorsIn}
+use Rattle.sets.specs.Held.{One, heldOf}
 use Rattle.merge.specs.Rule.{mergeRule, result}
 use Rattle.merge.specs.Claims.{Takes}
 use Rattle.page.specs.Page.{pageCells, pageNumbers, dotsOf}

@@ -8,7 +8,7 @@ use Rattle.lists.specs.Table.{tabulated}
 use Rattle.refusal.specs.Table.{numberOf, placeOf}
 use Rattle.refusal.specs.Answer.{Answer, accepted, refused, refuseIf, settled}
 use Rattle.timing.specs.Profile.{outside}
-use Rattle.merge.specs.Set.{Sector, setBytes}
+use Rattle.sets.specs.Set.{Sector, setBytes}
 use Rattle.merge.specs.Rule.{MergeAnswer, storing}
 use Rattle.page.specs.Page.{pageCells, fillBytes, pageNumbers}
 use Rattle.page.specs.declared.making.Made.{Made}

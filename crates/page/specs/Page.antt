@@ -7,7 +7,7 @@ use lib.ListN.{take, drop}
 use Rattle.lists.specs.Place.{anywhere}
 use Rattle.lists.specs.Sum.{sumOf}
 use Rattle.lists.specs.Table.{tabulated}
-use Rattle.merge.specs.Merge.{howMany}
+use Rattle.sets.specs.Held.{howMany}
 
 -- a page is 25 lines of 40 cells, one byte a cell
 abbrev pub pageCells : ℕ

@@ -7,9 +7,9 @@ use lib.ListN.{length, replicate}
 use Rattle.lists.specs.Place.{anywhere, lowest}
 use Rattle.refusal.specs.Answer.{Answer, accepted, refuseIf, firstRefusal, settled}
 use Rattle.timing.specs.Profile.{outside}
-use Rattle.merge.specs.Set.{Sector, sectorsIn}
-use Rattle.merge.specs.Merge.{Held, Nothing, One, Twice, heldOf}
-use Rattle.merge.specs.Alone.{setRule}
+use Rattle.sets.specs.Set.{Sector, sectorsIn}
+use Rattle.sets.specs.Held.{Held, Nothing, One, Twice, heldOf}
+use Rattle.sets.specs.Alone.{setRule}
 use Rattle.page.specs.Page.{pageCells, pageNumbers, cellsIn, isSoiled, dotsOf}
 use Rattle.page.specs.declared.reading.Pages.{Pages}
 

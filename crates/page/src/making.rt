@@ -3,7 +3,7 @@ ghost use Prim.Native.Nat.{_+_, _*_, _≤_};
 ghost use mathlib.Core.Path.{_≡_};
 ghost use lib.ListN.{length, replicate};
 ghost use Rattle.lists.specs.Filled.{storedAt};
-ghost use Rattle.merge.specs.Set.{sectorBytes};
+ghost use Rattle.sets.specs.Set.{sectorBytes};
 ghost use Rattle.page.specs.Making.{sectorOfPage, madeSet, makeAnswer, makeOutput, madeAnswer};
 use lists::copy;
 use refusal::Refusal;

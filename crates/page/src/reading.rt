@@ -6,10 +6,10 @@ ghost use lib.ListN.{length};
 ghost use Rattle.lists.specs.Place.{anywhere};
 ghost use Rattle.lists.specs.Filled.{storedAt};
 ghost use Rattle.refusal.specs.Answer.{countedAnswer, settled};
-ghost use Rattle.merge.specs.Set.{sectorsIn};
-ghost use Rattle.merge.specs.Merge.{numbers};
-ghost use Rattle.merge.specs.Alone.{isTwiceIn};
-ghost use Rattle.merge.specs.machine.Index.{Indexed};
+ghost use Rattle.sets.specs.Set.{sectorsIn};
+ghost use Rattle.sets.specs.Held.{numbers};
+ghost use Rattle.sets.specs.Alone.{isTwiceIn};
+ghost use Rattle.sets.specs.machine.Index.{Indexed};
 ghost use Rattle.page.specs.Page.{pageNumbers};
 ghost use Rattle.page.specs.Reading.{lostAt, pagesIn, dotsIn, pagesRule, readRule, readAnswer, readOutput};
 ghost use Rattle.page.specs.Reading.{handedBack};
@@ -111,7 +111,7 @@ fn gather(set: &[u8], pages: usize, cells: &mut [u8], dots: &mut [u32; 16]) -> C
         return Counted::Refused(Refusal::CountOutOfRange);
     }
     let mut index = [0u16; 256];
-    match merge::index_alone(set, &mut index) {
+    match sets::index_alone(set, &mut index) {
         Counted::Refused(refusal) => Counted::Refused(refusal),
         Counted::Count(_) => deliver(set, &index, pages, cells, dots),
     }

@@ -5,10 +5,10 @@ ghost use mathlib.Core.Path.{_≡_};
 ghost use mathlib.Core.Bool.{false};
 ghost use lib.ListN.{length};
 ghost use Rattle.lists.specs.Place.{anywhere, lowest};
-ghost use Rattle.merge.specs.Set.{sectorsIn};
-ghost use Rattle.merge.specs.Merge.{numbers};
-ghost use Rattle.merge.specs.Alone.{isTwiceIn};
-ghost use Rattle.merge.specs.machine.Index.{shown, Within, Indexed};
+ghost use Rattle.sets.specs.Set.{sectorsIn};
+ghost use Rattle.sets.specs.Held.{numbers};
+ghost use Rattle.sets.specs.Alone.{isTwiceIn};
+ghost use Rattle.sets.specs.machine.Index.{shown, Within, Indexed};
 ghost use Rattle.page.specs.Page.{pageNumbers, isDirt};
 ghost use Rattle.page.specs.Reading.{isLost, lostAt, soiledAt};
 

@@ -11,9 +11,10 @@ use lib.ListN.{length}
 use Rattle.lists.specs.Place.{everywhere}
 use Rattle.lists.specs.Table.{tabulated}
 use Rattle.lists.proofs.PlaceLaws.{everywhere-passes-at-first, everywhere-in-rest}
-use Rattle.merge.specs.Set.{Sector}
-use Rattle.merge.specs.Merge.{Held, Nothing, heldOf, isThere, isTwice, howMany, numbers}
-use Rattle.merge.proofs.NumberLaws.{each-number}
+use Rattle.sets.specs.Set.{Sector}
+use Rattle.sets.specs.Held.{Held, Nothing, heldOf, isTwice, howMany, numbers}
+use Rattle.sets.proofs.NumberLaws.{each-number}
+use Rattle.merge.specs.Merge.{isThere}
 use Rattle.readback.proofs.SetOrder.{first-alone, rest-once, other-than-first, only-first}
 
 -- ---- two tests of numbers

@@ -15,7 +15,7 @@ use Rattle.lists.proofs.PlaceLaws.{everywhere-passes-at-first, everywhere-in-re
 use Rattle.items.specs.Item.{isByte}
 use Rattle.items.proofs.ItemLaws.{data-is-byte}
 use Rattle.sectors.specs.Sector.{sectorSize, isMisfit}
-use Rattle.merge.specs.Set.{Sector as SetSector}
+use Rattle.sets.specs.Set.{Sector as SetSector}
 use Rattle.page.specs.Making.{pageOf, sectorOfPage}
 use Rattle.page.proofs.BackLaws.{page-is-whole}
 use Rattle.page.proofs.PageLaws.{length-from}

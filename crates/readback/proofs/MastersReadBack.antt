@@ -14,7 +14,7 @@ use Rattle.lists.specs.Table.{tabulated}
 use Rattle.lists.proofs.PlaceLaws.{everywhere-of-none, everywhere-of-passing}
 use Rattle.refusal.specs.Answer.{accepted}
 use Rattle.timing.specs.declared.Profile.{Profile}
-use Rattle.merge.specs.Set.{setBytes}
+use Rattle.sets.specs.Set.{setBytes}
 use Rattle.merge.specs.Claims.{Takes}
 use Rattle.track_set.specs.TrackSectors.{sectorsFound, trackRule}
 use Rattle.page.specs.Making.{pageOf, sectorOfPage, madeSet, stretchSet, makeRule}

@@ -14,10 +14,10 @@ use Rattle.lists.proofs.PlaceLaws.{everywhere-in-rest}
 use Rattle.refusal.specs.Answer.{refused}
 use Rattle.sectors.specs.Sector.{sectorSize, isMisfit, sectorRule}
 use Rattle.sectors.proofs.Claims.{no-128-byte-sectors}
-use Rattle.merge.specs.Set.{Sector as SetSector, setBytes, isMisfitSet, sectorsIn}
+use Rattle.sets.specs.Set.{Sector as SetSector, setBytes, isMisfitSet, sectorsIn}
+use Rattle.sets.specs.Claims.{isSector}
+use Rattle.sets.proofs.FormLaws.{print-then-read}
 use Rattle.merge.specs.Rule.{mergeRule}
-use Rattle.merge.specs.Claims.{isSector}
-use Rattle.merge.proofs.FormLaws.{print-then-read}
 use Rattle.readback.specs.TrackIndexed.{Sector, Makes, AllMade}
 use Rattle.readback.specs.OldDisks.{Old, AllOld, isOld, withoutMisfit, OldDisksRead}
 use Rattle.readback.proofs.SectorReads.{made-sectors-read-back}

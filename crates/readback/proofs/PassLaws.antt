@@ -11,8 +11,9 @@ use lib.ListN.{length}
 use Rattle.lists.specs.Place.{anywhere, everywhere}
 use Rattle.lists.proofs.BoolLaws.{both}
 use Rattle.lists.proofs.PlaceLaws.{everywhere-passes-at-first, everywhere-in-rest}
-use Rattle.merge.specs.Set.{Sector as SetSector}
-use Rattle.merge.specs.Merge.{Held, Nothing, One, Twice, withCopy, heldOf, better, taken, isThere, isTwice, sameBytes}
+use Rattle.sets.specs.Set.{Sector as SetSector}
+use Rattle.sets.specs.Held.{Held, Nothing, One, Twice, withCopy, heldOf, isTwice}
+use Rattle.merge.specs.Merge.{better, taken, isThere, sameBytes}
 use Rattle.merge.specs.Merge.{disagree, atOdds}
 use Rattle.readback.specs.TrackIndexed.{Sector}
 use Rattle.readback.specs.TrackRead.{DifferentNumbers, asRead, ofNumber, isSame}

@@ -20,10 +20,10 @@ use Rattle.sectors.proofs.SectorCounts.{size-of-code}
 use Rattle.entries.specs.FieldKinds.{opensWith, identifies, isId, dataBytes, isData}
 use Rattle.entries.specs.Entries.{hasLock, lockPlace, fieldEnd, hasData, dataFrom, idByte, entryAt, entryEnd, nextStart}
 use Rattle.entries.specs.Entries.{entriesAt, entriesFrom}
-use Rattle.track_set.specs.TrackSectors.{dataAt}
 use Rattle.entries.specs.declared.DataField.the-variants.{Found}
 use Rattle.entries.specs.declared.Entry.{Entry}
 use Rattle.entries.proofs.SearchLaws.{search-goes-on}
+use Rattle.track_set.specs.TrackSectors.{dataAt}
 use Rattle.readback.specs.SectorReads.{ReadsField}
 use Rattle.readback.specs.TrackIndexed.{Sector, Makes}
 use Rattle.readback.proofs.FieldIndexed.{field-is-read, items-are-its-bytes, lock-there}

@@ -9,8 +9,9 @@ use native.Mathlib.Omega.{arith}
 use borrow.Author.Tests.{eqb-true, eqb-false, eq-eqb, ne-eqb}
 use lib.Dec.{eqb}
 use Rattle.lists.specs.Table.{tabulated}
-use Rattle.merge.specs.Set.{Sector}
-use Rattle.merge.specs.Merge.{Held, Nothing, One, Twice, withCopy, heldOf, asList, isTwice, numbers}
+use Rattle.sets.specs.Set.{Sector}
+use Rattle.sets.specs.Held.{Held, Nothing, One, Twice, withCopy, heldOf, isTwice, numbers}
+use Rattle.merge.specs.Merge.{asList}
 
 -- ---- in any order
 

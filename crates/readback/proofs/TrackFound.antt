@@ -18,14 +18,14 @@ use Rattle.symbols.specs.Bits.{O, byteBits, writtenBits, allBits}
 use Rattle.symbols.specs.Bytes.{isGap}
 use Rattle.lengths.specs.Stream.{streamOf}
 use Rattle.locks.specs.Lock.{lockAt}
-use Rattle.fields.specs.Bytes.{byteOf}
 use Rattle.locks.proofs.MarkLaws.{no-lock-behind}
 use Rattle.locks.proofs.FirstLockLaws.{none-is-found}
+use Rattle.fields.specs.Bytes.{byteOf}
 use Rattle.entries.specs.Entries.{entriesFrom, entriesOf}
-use Rattle.track.specs.HandedBack.{dataPlaceOf}
-use Rattle.track_set.specs.TrackSectors.{dataAt}
 use Rattle.entries.specs.declared.Entry.{Entry}
 use Rattle.entries.proofs.SearchLaws.{refused-is-no-lock, search-ends}
+use Rattle.track.specs.HandedBack.{dataPlaceOf}
+use Rattle.track_set.specs.TrackSectors.{dataAt}
 use Rattle.demands.specs.Streams.{AcceptedProfile, Moved}
 use Rattle.demands.specs.Demand3.{stated}
 use Rattle.demands.proofs.Demand3.{moved-has-classes}

@@ -12,10 +12,10 @@ use Rattle.lists.proofs.PlaceLaws.{everywhere-in-rest}
 use Rattle.refusal.specs.Answer.{accepted}
 use Rattle.timing.specs.declared.Profile.{Profile}
 use Rattle.items.specs.Written.{written}
-use Rattle.track.specs.Order.{isBefore, inOrder, Ascending}
 use Rattle.entries.specs.Entries.{entriesOf}
-use Rattle.track.specs.Index.{crowdRule, indexRule, padded, handedBack, indexEntries}
 use Rattle.entries.specs.declared.Entry.{Entry}
+use Rattle.track.specs.Order.{isBefore, inOrder, Ascending}
+use Rattle.track.specs.Index.{crowdRule, indexRule, padded, handedBack, indexEntries}
 use Rattle.track.proofs.OrderLaws.{later-place}
 use Rattle.track.proofs.InOrderLaws.{isLater, PlacesAscend, in-order-stays}
 use Rattle.track.proofs.FoundLaws.{places-ascend}

@@ -16,16 +16,17 @@ use Rattle.refusal.specs.Answer.{accepted}
 use Rattle.timing.specs.declared.Profile.{Profile}
 use Rattle.sectors.specs.Sector.{sectorSize, isMisfit}
 use Rattle.sectors.proofs.SectorCounts.{size-of-code}
-use Rattle.merge.specs.Set.{Sector as SetSector, setBytes, setOf, isMisfitSet, isNone, orEmpty, sectorsIn}
-use Rattle.merge.specs.Merge.{Held, heldOf, asList, taken, takenAt, merged, isThere, isTwice, inEither, howMany, numbers}
+use Rattle.sets.specs.Set.{Sector as SetSector, setBytes, setOf, isMisfitSet, isNone, orEmpty, sectorsIn}
+use Rattle.sets.specs.Held.{Held, heldOf, isTwice, howMany, numbers}
+use Rattle.sets.specs.Claims.{isSector}
+use Rattle.sets.proofs.FormLaws.{print-then-read}
+use Rattle.sets.proofs.NumberLaws.{nowhere-if-never, counts-agree, lists-agree}
+use Rattle.sets.proofs.SetRuleLaws.{Fits}
+use Rattle.merge.specs.Merge.{asList, taken, takenAt, merged, isThere, inEither}
 use Rattle.merge.specs.Merge.{atOddsAt}
 use Rattle.merge.specs.Rule.{mergeRule, mergeOutput, result}
-use Rattle.merge.specs.Claims.{isSector}
-use Rattle.merge.proofs.FormLaws.{print-then-read}
-use Rattle.merge.proofs.NumberLaws.{nowhere-if-never, counts-agree, lists-agree}
 use Rattle.merge.proofs.MergedLaws.{merged-count, merged-is-sectors}
 use Rattle.merge.proofs.OnceLaws.{with-nothing}
-use Rattle.merge.proofs.RuleLaws.{Fits}
 use Rattle.merge.proofs.AcceptLaws.{Accepts, accepts-takes}
 use Rattle.track.specs.Index.{indexRule}
 use Rattle.track_set.specs.TrackSectors.{sectorsFound, trackRule, trackOutput}

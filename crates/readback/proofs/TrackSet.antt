@@ -15,18 +15,19 @@ use Rattle.lists.proofs.PlaceLaws.{everywhere-in-rest}
 use Rattle.timing.specs.declared.Profile.{Profile}
 use Rattle.items.specs.Written.{written}
 use Rattle.fields.specs.Bytes.{byteOf}
-use Rattle.merge.specs.Set.{Sector as SetSector}
-use Rattle.merge.specs.Merge.{Held, Nothing, withCopy, heldOf, asList, isTwice, numbers}
-use Rattle.track.specs.Order.{lowerKeys, isBefore, inOrder, Rearranged, none, one, Ascending}
+use Rattle.sets.specs.Set.{Sector as SetSector}
+use Rattle.sets.specs.Held.{Held, Nothing, withCopy, heldOf, isTwice, numbers}
+use Rattle.merge.specs.Merge.{asList}
 use Rattle.entries.specs.Entries.{entriesOf}
-use Rattle.track.specs.HandedBack.{dataPlaceOf}
-use Rattle.track_set.specs.TrackSectors.{dataAt, sectorsOf, sectorsFound}
 use Rattle.entries.specs.declared.DataField.{DataField}
 use Rattle.entries.specs.declared.DataField.the-variants.{Found, Missing}
 use Rattle.entries.specs.declared.Entry.{Entry}
+use Rattle.track.specs.Order.{lowerKeys, isBefore, inOrder, Rearranged, none, one, Ascending}
+use Rattle.track.specs.HandedBack.{dataPlaceOf}
 use Rattle.track.proofs.InOrderLaws.{ordered-everywhere, ordered-ascends, ordered-has-each}
 use Rattle.track.proofs.InsertionLaws.{ordered-length}
 use Rattle.track.proofs.FoundLaws.{places-ascend}
+use Rattle.track_set.specs.TrackSectors.{dataAt, sectorsOf, sectorsFound}
 use Rattle.readback.specs.TrackIndexed.{Sector, itemsOfSector, Makes, AllMade, entryBehind, entriesBehind}
 use Rattle.readback.specs.TrackRead.{otherNumber, DifferentNumbers, isDataByte, AllData, asRead, byNumber}
 use Rattle.readback.proofs.SetOrder.{held-beside, first-alone, rest-once, none-there, other-than-first, only-first}

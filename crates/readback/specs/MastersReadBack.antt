@@ -13,7 +13,7 @@ use Rattle.lists.specs.Table.{tabulated}
 use Rattle.refusal.specs.Answer.{accepted}
 use Rattle.timing.specs.declared.Profile.{Profile}
 use Rattle.lengths.specs.Stream.{streamOf}
-use Rattle.merge.specs.Set.{setBytes}
+use Rattle.sets.specs.Set.{setBytes}
 use Rattle.track_set.specs.TrackSectors.{sectorsFound, trackRule}
 use Rattle.page.specs.Page.{pageCells, fillBytes}
 use Rattle.page.specs.Reading.{readAnswer, readOutput}

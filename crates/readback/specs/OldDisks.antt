@@ -12,8 +12,9 @@ use Rattle.timing.specs.declared.Profile.{Profile}
 use Rattle.items.specs.Item.{isByte}
 use Rattle.lengths.specs.Stream.{streamOf}
 use Rattle.sectors.specs.Sector.{sectorRule}
-use Rattle.merge.specs.Set.{Sector as SetSector, setBytes}
-use Rattle.merge.specs.Merge.{isCrowded, atOddsAt, numbers}
+use Rattle.sets.specs.Set.{Sector as SetSector, setBytes}
+use Rattle.sets.specs.Held.{numbers}
+use Rattle.merge.specs.Merge.{isCrowded, atOddsAt}
 use Rattle.merge.specs.Rule.{roomRule, mergeRule}
 use Rattle.demands.specs.Streams.{AcceptedProfile, Moved}
 use Rattle.demands.specs.Demand3.{stated}

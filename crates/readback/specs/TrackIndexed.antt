@@ -13,10 +13,10 @@ use Rattle.items.specs.Item.{isByte}
 use Rattle.items.specs.Written.{written}
 use Rattle.lengths.specs.Stream.{streamOf}
 use Rattle.sectors.specs.Sector.{sectorItems, isMisfit}
-use Rattle.track.specs.Order.{inOrder}
-use Rattle.track.specs.Index.{indexRule, padded, indexEntries}
 use Rattle.entries.specs.declared.DataField.the-variants.{Found}
 use Rattle.entries.specs.declared.Entry.{Entry}
+use Rattle.track.specs.Order.{inOrder}
+use Rattle.track.specs.Index.{indexRule, padded, indexEntries}
 use Rattle.demands.specs.Streams.{AcceptedProfile, Moved}
 use Rattle.demands.specs.Demand3.{stated}
 use Rattle.readback.specs.SectorReads.{placeAfter, idField}

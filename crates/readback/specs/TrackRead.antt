@@ -11,8 +11,9 @@ use Rattle.lists.specs.Filled.{filled}
 use Rattle.refusal.specs.Answer.{accepted}
 use Rattle.timing.specs.declared.Profile.{Profile}
 use Rattle.lengths.specs.Stream.{streamOf}
-use Rattle.merge.specs.Set.{Sector as SetSector, setBytes, setOf}
-use Rattle.merge.specs.Merge.{numbers, heldOf, asList, isTwice, sameBytes}
+use Rattle.sets.specs.Set.{Sector as SetSector, setBytes, setOf}
+use Rattle.sets.specs.Held.{numbers, heldOf, isTwice}
+use Rattle.merge.specs.Merge.{asList, sameBytes}
 use Rattle.merge.specs.Rule.{mergeRule, mergeOutput}
 use Rattle.track_set.specs.TrackSectors.{sectorsFound, trackRule, trackOutput}
 use Rattle.demands.specs.Streams.{AcceptedProfile, Moved}

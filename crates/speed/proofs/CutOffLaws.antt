@@ -1,13 +1,13 @@
 -- Numbers that are cut off at 65,535 are answered as they are: no edge is above it, so that each keeps its class, and what
 -- is cut off is wide before and after. Rests on no axiom.
 use Prim.Native.Nat.{ℕ, zero, suc, _*_, _/_, _≤_, min}
-use mathlib.Core.Path.{_≡_, refl, sym, ap, ap₂, _∙_}
+use mathlib.Core.Path.{_≡_, refl, ap, ap₂, _∙_}
 use mathlib.Core.Bool.{Bool, true, false}
 use mathlib.Core.List.{List, [], _∷_, map}
 use native.Mathlib.Decide.{decLe}
 use native.Mathlib.Omega.{arith}
 use lib.Dec.{ltb}
-use lib.ListN.{length, take}
+use lib.ListN.{take}
 use borrow.Author.Tests.{le-ltb}
 use Rattle.lists.specs.Span.{least}
 use Rattle.timing.specs.Profile.{profileRule}
@@ -21,9 +21,9 @@ use Rattle.timing.proofs.ProfileLaws.{kept}
 use Rattle.fields.specs.FieldRule.{fieldRule, fieldReading, fieldOutput}
 use Rattle.clearance.specs.Clearance.{clearanceIn, clearancesFrom, leastFrom, leastClearance}
 use Rattle.clearance.specs.Answers.{fieldWithClearance}
-use Rattle.speed.specs.Claims.{CutOffChangesNothing}
 use Rattle.pace.specs.Pace.{corrected, correctedFrom}
 use Rattle.pace.specs.machine.Cut.{cutOff, cut, cutFrom}
+use Rattle.speed.specs.Claims.{CutOffChangesNothing}
 
 -- no edge is above it, now or behind any interval
 record Low (c : Cursor) : Type 0 where

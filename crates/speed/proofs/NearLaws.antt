@@ -1,13 +1,12 @@
 -- A sum that is not off speed is within a sixteenth of 32 × T1, and so above 0; a number that is corrected by it is within
 -- that as well. Rests on no axiom.
-use Prim.Native.Nat.{ℕ, _+_, _*_, _/_, _≤_, _<_}
+use Prim.Native.Nat.{ℕ, _*_, _/_, _≤_, _<_}
 use mathlib.Core.Path.{_≡_, sym, ap, _∙_}
 use mathlib.Core.Bool.{false}
 use native.Mathlib.Nat.{mul-comm, mul-assoc, mul-le-mul-left, mul-le-mul-right, le-div-iff-mul-le, div-mul-le-self}
 use native.Mathlib.Nat.{le-of-mul-le-mul-right}
 use native.Mathlib.Omega.{arith}
 use borrow.Author.Tests.{ltb-false}
-use Rattle.refusal.specs.Answer.{refuseIf, accepted}
 use Rattle.refusal.proofs.AnswerLaws.{refuse-if-accepts}
 use Rattle.pace.specs.Pace.{differs, offSpeed, paceRule, corrected}
 

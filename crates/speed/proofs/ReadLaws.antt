@@ -1,5 +1,5 @@
 -- What the functions of the reader hand to each other is the entry's answer. Rests on no axiom.
-use Prim.Native.Nat.{ℕ, _+_, _-_, _*_, _≤_, _<_}
+use Prim.Native.Nat.{ℕ, _+_, _-_, _≤_, _<_}
 use mathlib.Core.Path.{_≡_, refl, sym, ap, _∙_}
 use mathlib.Core.Bool.{Bool, true, false, cond}
 use mathlib.Core.List.{List, map}
@@ -10,7 +10,7 @@ use lib.IntN.{ℤ}
 use lib.ListN.{length, take, drop, length-drop}
 use Rattle.lists.proofs.BoolLaws.{both}
 use Rattle.refusal.specs.Table.{numberOf, placeOf}
-use Rattle.refusal.specs.Answer.{Answer, accepted, refused, firstRefusal, settled}
+use Rattle.refusal.specs.Answer.{Answer, accepted, refused}
 use Rattle.refusal.specs.declared.Refusal.{Refusal}
 use Rattle.refusal.proofs.AnswerLaws.{number-is-not-zero, first-refusal-accepts, first-refusal-passes}
 use Rattle.timing.specs.Profile.{outside, profileRule}
@@ -20,25 +20,25 @@ use Rattle.timing.specs.declared.Class.{Class}
 use Rattle.timing.proofs.ClassLaws.{classes-length}
 use Rattle.timing.proofs.ProfileLaws.{kept}
 use Rattle.locks.specs.Lock.{lockAt, lockFrom, searchRule, findRule}
+use Rattle.locks.proofs.FinderLaws.{lock-is-within}
+use Rattle.locks.proofs.FirstLockLaws.{lock-from-found}
 use Rattle.fields.specs.Field.{fieldUsed, fieldHolds}
 use Rattle.fields.specs.FieldRule.{FieldAnswer, fieldAnswer, fieldTurnedAway, answerWith, fieldRule, fieldReading, fieldOutput}
 use Rattle.fields.specs.machine.Gather.{gatherRule, checkedRule, checkedReading, checkedOutput}
 use Rattle.fields.specs.declared.reader.FieldRead.the-variants.{Field}
-use Rattle.locks.proofs.FinderLaws.{lock-is-within}
-use Rattle.locks.proofs.FirstLockLaws.{lock-from-found}
 use Rattle.fields.proofs.ReaderLaws.{answer-is-its-rule, count-refuses, checked-settles}
 use Rattle.fields.proofs.RuleLaws.{gather-refuses}
 use Rattle.clearance.specs.Clearance.{leastClearance}
-use Rattle.clearance.specs.Answers.{ClearFieldAnswer, clearFieldAnswer, clearanceFor, leastUsed, fieldWithClearance}
+use Rattle.clearance.specs.Answers.{clearFieldAnswer, clearanceFor, leastUsed, fieldWithClearance}
 use Rattle.clearance.specs.declared.ClearFieldRead.{ClearFieldRead}
-use Rattle.pace.specs.Pace.{difference, offSpeed, paceRule}
-use Rattle.speed.specs.Speed.{s0, s1, nominal, speedRule, runBefore, correctedAt}
-use Rattle.speed.specs.Reading.{CorrectedAnswer, turnedAway, comesWith, ruleAt, readingAt, outputAt}
-use Rattle.speed.specs.Reading.{correctedRule, correctedReading, correctedOutput}
+use Rattle.pace.specs.Pace.{difference, paceRule}
 use Rattle.pace.specs.machine.Cut.{cutOff, slowed, Measured, Able}
+use Rattle.pace.specs.declared.Pace.{Pace}
+use Rattle.speed.specs.Speed.{s0, s1, nominal, speedRule, runBefore, correctedAt}
+use Rattle.speed.specs.Reading.{turnedAway, comesWith, ruleAt, readingAt, outputAt}
+use Rattle.speed.specs.Reading.{correctedRule, correctedReading, correctedOutput}
 use Rattle.speed.specs.machine.Along.{TellsLeast}
 use Rattle.speed.specs.machine.Read.{clearedBy, checkedWithClearance, toldBy}
-use Rattle.pace.specs.declared.Pace.{Pace}
 use Rattle.speed.proofs.NearLaws.{sum-is-some, pace-accepts}
 use Rattle.speed.proofs.CutOffLaws.{cut-off-changes-nothing, cut-is-cut-off}
 

@@ -1,27 +1,26 @@
 -- The claims on drives that run slow. Rests on no axiom.
-use Prim.Native.Nat.{ℕ, _+_, _-_, _*_, _≤_, _<_}
+use Prim.Native.Nat.{ℕ, _+_, _-_, _*_, _<_}
 use mathlib.Core.Path.{_≡_, refl, sym, ap, ap₂, _∙_}
 use mathlib.Core.Bool.{Bool, true, false}
 use mathlib.Core.List.{List, [], _∷_}
 use native.Mathlib.Nat.{mul-div-cancel}
 use native.Mathlib.Omega.{arith}
 use borrow.Author.Tests.{le-ltb, eq-eqb, eqb-true}
-use lib.Dec.{eqb, ltb}
+use lib.Dec.{eqb}
 use lib.ListN.{length, drop}
-use Rattle.refusal.specs.Answer.{Answer, accepted, firstRefusal}
-use Rattle.refusal.proofs.AnswerLaws.{first-refusal-accepts, first-refusal-passes}
-use Rattle.timing.specs.Profile.{profileRule}
+use Rattle.refusal.specs.Answer.{Answer, firstRefusal}
+use Rattle.refusal.proofs.AnswerLaws.{first-refusal-accepts}
 use Rattle.timing.specs.declared.Profile.{Profile}
 use Rattle.timing.proofs.ProfileLaws.{kept}
 use Rattle.locks.specs.Lock.{findRule}
-use Rattle.fields.specs.FieldRule.{fieldRule, fieldReading, fieldOutput}
-use Rattle.clearance.specs.Answers.{ClearFieldAnswer, fieldWithClearance}
+use Rattle.fields.specs.FieldRule.{fieldOutput}
+use Rattle.clearance.specs.Answers.{fieldWithClearance}
 use Rattle.pace.specs.Pace.{offSpeed, paceRule, corrected, correctedFrom}
-use Rattle.speed.specs.Speed.{s0, s1, nominal, speedRule, correctedAt}
-use Rattle.speed.specs.Reading.{comesWith, ruleAt, readingAt, outputAt, correctedRule, correctedReading}
-use Rattle.speed.specs.Claims.{SameLock, NominalChangesNothing, NearSpeed, WithinASixteenth}
-use Rattle.speed.specs.Claims.{SpeedDropsOut, ProductsFit, SlowDrives}
 use Rattle.pace.proofs.CutLaws.{product-fits}
+use Rattle.speed.specs.Speed.{s0, s1, nominal, speedRule, correctedAt}
+use Rattle.speed.specs.Reading.{readingAt, correctedRule, correctedReading}
+use Rattle.speed.specs.Claims.{SameLock, NominalChangesNothing, WithinASixteenth}
+use Rattle.speed.specs.Claims.{SpeedDropsOut, ProductsFit, SlowDrives}
 use Rattle.speed.proofs.NearLaws.{near-speed, at-least, at-most}
 use Rattle.speed.proofs.CutOffLaws.{cut-off-changes-nothing}
 use Rattle.speed.proofs.ScaledLaws.{same-numbers}

@@ -11,8 +11,8 @@ use Rattle.locks.specs.Lock.{findRule}
 use Rattle.fields.specs.FieldRule.{fieldOutput}
 use Rattle.clearance.specs.Answers.{fieldWithClearance}
 use Rattle.pace.specs.Pace.{offSpeed, corrected}
-use Rattle.speed.specs.Speed.{s0, s1, nominal, speedRule, correctedAt}
 use Rattle.pace.specs.machine.Cut.{cutOff}
+use Rattle.speed.specs.Speed.{s0, s1, nominal, speedRule, correctedAt}
 use Rattle.speed.specs.Reading.{ruleAt, readingAt, outputAt, correctedRule, correctedReading}
 
 -- ---- which lock

@@ -1,13 +1,12 @@
 -- The entries found stand in the order of their ID places, since each search starts behind the lock before it; so the
 -- index is the only list of them in order. Rests on no axiom.
 use Prim.Native.Nat.{ℕ, zero, suc, _-_, _≤_, _<_}
-use mathlib.Core.Path.{_≡_, refl, sym, ap, _∙_}
+use mathlib.Core.Path.{_≡_, refl, sym, _∙_}
 use mathlib.Core.Bool.{Bool, true, false, cond}
 use mathlib.Core.List.{List, [], _∷_, _++_}
 use native.Mathlib.Omega.{arith}
 use borrow.Author.Tests.{ltb-true, lt-ltb}
 use lib.ListN.{length, drop}
-use lib.Dec.{ltb}
 use Rattle.lists.specs.Place.{everywhere}
 use Rattle.lists.proofs.BoolLaws.{both}
 use Rattle.lists.proofs.PlaceLaws.{everywhere-of-none, everywhere-of-passing, everywhere-passes-at-first}
@@ -15,9 +14,9 @@ use Rattle.lists.proofs.PlaceLaws.{everywhere-in-rest, everywhere-of-append}
 use Rattle.timing.specs.declared.Profile.{Profile}
 use Rattle.entries.specs.FieldKinds.{isId}
 use Rattle.entries.specs.Entries.{hasLock, lockPlace, entryAt, nextStart, entriesAt, entriesBy, entriesFrom, entriesOf}
-use Rattle.track.specs.Claims.{IndexesAreInOneOrder}
 use Rattle.entries.specs.declared.Entry.{Entry}
 use Rattle.entries.proofs.SearchLaws.{lock-is-ahead, lock-is-before-next}
+use Rattle.track.specs.Claims.{IndexesAreInOneOrder}
 use Rattle.track.proofs.InOrderLaws.{isLater, PlacesAscend, ordered-ascends, ordered-has-each, only-in-order}
 
 -- ---- behind a place

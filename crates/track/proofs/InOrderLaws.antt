@@ -11,8 +11,8 @@ use lib.Dec.{ltb}
 use Rattle.lists.specs.Place.{everywhere}
 use Rattle.lists.proofs.PlaceLaws.{everywhere-of-none, everywhere-of-passing, everywhere-passes-at-first}
 use Rattle.lists.proofs.PlaceLaws.{everywhere-in-rest}
-use Rattle.track.specs.Order.{isBefore, putAmong, inOrder, Rearranged, none, one, Ascending, Orders}
 use Rattle.entries.specs.declared.Entry.{Entry}
+use Rattle.track.specs.Order.{isBefore, putAmong, inOrder, Rearranged, none, one, Ascending}
 use Rattle.track.proofs.OrderLaws.{before-is-not-behind, before-one-behind, one-is-before, apartFrom}
 use Rattle.track.proofs.OrderLaws.{put-everywhere, beside, put-ascends}
 

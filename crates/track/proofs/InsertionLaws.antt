@@ -2,7 +2,7 @@
 -- are all that stand behind the first of them. Rests on no axiom.
 use Prim.Native.Nat.{ℕ, zero, suc, _-_, _≤_, _<_}
 use mathlib.Core.Path.{_≡_, refl, sym, ap, _∙_}
-use mathlib.Core.Bool.{Bool, true, false, cond}
+use mathlib.Core.Bool.{true, false, cond}
 use mathlib.Core.List.{List, [], _∷_, _++_, map, map-append}
 use native.Mathlib.Numerals.{add-one}
 use native.Mathlib.Omega.{arith}
@@ -12,11 +12,11 @@ use Rattle.lists.specs.Place.{everywhere}
 use Rattle.lists.proofs.BoolLaws.{both}
 use Rattle.lists.proofs.PlaceLaws.{everywhere-of-none, everywhere-of-passing, everywhere-passes-at-first}
 use Rattle.lists.proofs.PlaceLaws.{everywhere-in-rest, everywhere-of-append}
+use Rattle.entries.specs.declared.Entry.{Entry}
 use Rattle.track.specs.Order.{isBefore, putAmong, inOrder, Ascending}
 use Rattle.track.specs.Index.{noEntry, padded}
 use Rattle.track.specs.HandedBack.{indexEntryOf}
 use Rattle.track.specs.machine.Insertion.{handedBefore, blank, slidIn}
-use Rattle.entries.specs.declared.Entry.{Entry}
 use Rattle.track.specs.declared.index.IndexEntry.{IndexEntry}
 use Rattle.track.proofs.OrderLaws.{all-behind}
 

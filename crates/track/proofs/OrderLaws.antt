@@ -1,7 +1,7 @@
 -- Which of two entries goes before the other, and an entry put among others that are in order: by cases of the two keys,
 -- then by induction on the others. Rests on no axiom.
 use Prim.Native.Nat.{ℕ, _≤_, _<_}
-use mathlib.Core.Path.{_≡_, refl, sym, ap, _∙_}
+use mathlib.Core.Path.{_≡_, refl, sym, _∙_}
 use mathlib.Core.Bool.{Bool, true, false, cond, not, _&&_, _||_, true≢false}
 use mathlib.Core.List.{List, [], _∷_, _++_}
 use mathlib.Core.Logic.{_⊎_, inl, inr, ⊎-elim}
@@ -13,8 +13,8 @@ use Rattle.lists.specs.Place.{everywhere}
 use Rattle.lists.proofs.BoolLaws.{both}
 use Rattle.lists.proofs.PlaceLaws.{everywhere-of-none, everywhere-of-passing, everywhere-passes-at-first}
 use Rattle.lists.proofs.PlaceLaws.{everywhere-in-rest, everywhere-of-append}
-use Rattle.track.specs.Order.{lowerKeys, isBefore, putAmong, Ascending}
 use Rattle.entries.specs.declared.Entry.{Entry}
+use Rattle.track.specs.Order.{lowerKeys, isBefore, putAmong, Ascending}
 
 -- ---- two sector numbers, each with an ID place
 

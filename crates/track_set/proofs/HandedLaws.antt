@@ -2,7 +2,7 @@
 -- length code says. Rests on no axiom.
 use Prim.Native.Nat.{ℕ, zero, suc, _+_, _-_, _≤_, _<_}
 use mathlib.Core.Path.{_≡_, refl, sym, ap, _∙_}
-use mathlib.Core.Bool.{Bool, true, false, cond, not}
+use mathlib.Core.Bool.{true, false, cond, not}
 use mathlib.Core.List.{List, [], _∷_, flatMap, append-nil}
 use native.Mathlib.Decide.{decLt}
 use native.Mathlib.Omega.{arith}
@@ -15,13 +15,13 @@ use Rattle.timing.specs.declared.Profile.{Profile}
 use Rattle.fields.specs.Bytes.{byteOf}
 use Rattle.sectors.specs.Sector.{sectorSize}
 use Rattle.sectors.proofs.SectorCounts.{size-at-most-1024}
-use Rattle.merge.specs.Set.{Sector, asByte, sectorBytes, setBytes}
+use Rattle.sets.specs.Set.{Sector, asByte, sectorBytes, setBytes}
 use Rattle.merge.proofs.OutputLaws.{bytes-of-append}
 use Rattle.entries.specs.FieldKinds.{itemsOf, reads, opensWith, dataBytes, isData}
+use Rattle.entries.proofs.OpeningLaws.{items-count}
+use Rattle.track.specs.declared.index.IndexEntry.{IndexEntry}
 use Rattle.track_set.specs.TrackSectors.{dataAt}
 use Rattle.track_set.specs.machine.Handed.{handedSectors, handedBytes, Stands, sizeOf, sizesOf, foundsOf}
-use Rattle.track.specs.declared.index.IndexEntry.{IndexEntry}
-use Rattle.entries.proofs.OpeningLaws.{items-count}
 
 module _ (p : Profile) (ds : List ℕ) where
   -- ---- the data of a length code

@@ -1,35 +1,35 @@
 -- What the set of a track answers and leaves, from its index: a refusal of the index decides, then the room. Rests on no
 -- axiom.
-use Prim.Native.Nat.{ℕ, zero, suc, _+_, _-_, _≤_, _<_}
+use Prim.Native.Nat.{ℕ, zero, _+_, _-_, _≤_, _<_}
 use mathlib.Core.Path.{_≡_, refl, sym, ap, _∙_}
 use mathlib.Core.Bool.{true, false, cond}
 use mathlib.Core.List.{List, [], _∷_, _++_, map, flatMap}
 use native.Mathlib.Numerals.{add-one}
 use native.Mathlib.Omega.{arith}
 use borrow.Author.Tests.{eq-eqb, ne-eqb, le-ltb, lt-ltb, ltb-false}
-use lib.Dec.{eqb, ltb}
+use lib.Dec.{ltb}
 use lib.ListN.{length, getD, drop, replicate, length-append, length-map, length-replicate, drop-of-length-le}
 use lib.Seq.{drop-cons}
-use Rattle.lists.specs.Filled.{filled, storedAt}
-use Rattle.lists.proofs.StoreLaws.{stored-none, stored-at-front-fills}
-use Rattle.refusal.specs.Answer.{Answer, accepted, refused}
+use Rattle.lists.specs.Filled.{storedAt}
+use Rattle.lists.proofs.StoreLaws.{stored-at-front-fills}
+use Rattle.refusal.specs.Answer.{accepted, refused}
 use Rattle.refusal.proofs.AnswerLaws.{first-refusal-accepts}
 use Rattle.timing.specs.Profile.{profileRule}
 use Rattle.timing.specs.declared.Profile.{Profile}
-use Rattle.merge.specs.Set.{setBytes}
-use Rattle.merge.specs.Rule.{MergeAnswer, storing}
+use Rattle.sets.specs.Set.{setBytes}
+use Rattle.merge.specs.Rule.{MergeAnswer}
 use Rattle.merge.proofs.OutputLaws.{bytes-of-append}
-use Rattle.track.specs.Order.{inOrder}
 use Rattle.entries.specs.Entries.{entriesOf}
+use Rattle.entries.specs.declared.Entry.{Entry}
+use Rattle.track.specs.Order.{inOrder}
 use Rattle.track.specs.Index.{crowdRule, indexRule, noEntry, padded, handedBack, indexEntries}
 use Rattle.track.specs.HandedBack.{indexEntryOf, indexAnswerOf}
-use Rattle.track_set.specs.TrackSectors.{sectorsFound, trackRule, trackAnswer, trackOutput}
 use Rattle.track.specs.machine.Insertion.{blank}
-use Rattle.track_set.specs.machine.Handed.{handedSectors, handedBytes, sizeOf, sizesOf, foundsOf}
-use Rattle.entries.specs.declared.Entry.{Entry}
 use Rattle.track.specs.declared.index.IndexEntry.{IndexEntry}
 use Rattle.track.specs.declared.index.TrackIndex.{TrackIndex}
 use Rattle.track.proofs.InsertionLaws.{ordered-length}
+use Rattle.track_set.specs.TrackSectors.{sectorsFound, trackRule, trackAnswer, trackOutput}
+use Rattle.track_set.specs.machine.Handed.{handedSectors, handedBytes, sizeOf, sizesOf, foundsOf}
 use Rattle.track_set.proofs.HandedLaws.{AllStand}
 use Rattle.track_set.proofs.TrackSetLaws.{index-stands, index-sectors}
 

@@ -17,12 +17,12 @@ use Rattle.fields.specs.Bytes.{byteOf}
 use Rattle.fields.specs.machine.Gather.{gatherRule}
 use Rattle.fields.proofs.RuleLaws.{gather-accepts}
 use Rattle.sectors.specs.Sector.{sectorSize}
-use Rattle.merge.specs.Set.{setBytes}
+use Rattle.sets.specs.Set.{setBytes}
 use Rattle.entries.specs.FieldKinds.{itemsOf, dataBytes, isData}
+use Rattle.entries.proofs.OpeningLaws.{reading-is-accepted, items-are-read, items-count}
+use Rattle.track.specs.declared.index.IndexEntry.{IndexEntry}
 use Rattle.track_set.specs.TrackSectors.{dataAt}
 use Rattle.track_set.specs.machine.Handed.{handedSectors, Stands}
-use Rattle.track.specs.declared.index.IndexEntry.{IndexEntry}
-use Rattle.entries.proofs.OpeningLaws.{reading-is-accepted, items-are-read, items-count}
 use Rattle.track_set.proofs.HandedLaws.{data-reads, data-count, without-data, bytes-with-data}
 
 -- ---- the data

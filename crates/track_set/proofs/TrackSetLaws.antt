@@ -1,11 +1,11 @@
 -- The set of a track: the entries of its index are what they say, those beyond the count have no data, and so the sectors
 -- that are stored are those found. Rests on no axiom.
 use Prim.Native.Nat.{ℕ, zero, suc, _-_, _≤_}
-use mathlib.Core.Path.{_≡_, refl, sym, ap, _∙_}
+use mathlib.Core.Path.{_≡_, refl, _∙_}
 use mathlib.Core.Bool.{Bool, true, false, cond, _&&_}
 use mathlib.Core.List.{List, [], _∷_, _++_, map, flatMap}
 use native.Mathlib.Omega.{arith}
-use borrow.Author.Tests.{leb-true, le-leb, eq-eqb}
+use borrow.Author.Tests.{leb-true, le-leb}
 use lib.Dec.{leb}
 use lib.ListN.{length, drop, replicate}
 use Rattle.lists.specs.YesNo.{asNumber}
@@ -15,18 +15,18 @@ use Rattle.lists.proofs.PlaceLaws.{everywhere-of-none, everywhere-of-passing, e
 use Rattle.lists.proofs.PlaceLaws.{everywhere-in-rest, everywhere-of-append}
 use Rattle.timing.specs.declared.Profile.{Profile}
 use Rattle.entries.specs.FieldKinds.{fieldOf, isId, dataBytes, isData}
-use Rattle.track.specs.Order.{inOrder}
 use Rattle.entries.specs.Entries.{hasLock, lockPlace, fieldEnd, hasData, dataFrom, idByte, entryAt, nextStart}
 use Rattle.entries.specs.Entries.{entriesAt, entriesBy, entriesFrom, entriesOf}
-use Rattle.track.specs.Index.{noEntry, padded}
-use Rattle.track.specs.HandedBack.{indexEntryOf}
-use Rattle.track_set.specs.TrackSectors.{sectorsOf, sectorsFound}
-use Rattle.track_set.specs.machine.Handed.{handedSectors, Stands}
 use Rattle.entries.specs.declared.DataField.{DataField}
 use Rattle.entries.specs.declared.DataField.the-variants.{Found, Missing}
 use Rattle.entries.specs.declared.Entry.{Entry}
 use Rattle.entries.proofs.SearchLaws.{lock-is-ahead}
+use Rattle.track.specs.Order.{inOrder}
+use Rattle.track.specs.Index.{noEntry, padded}
+use Rattle.track.specs.HandedBack.{indexEntryOf}
 use Rattle.track.proofs.InOrderLaws.{ordered-everywhere}
+use Rattle.track_set.specs.TrackSectors.{sectorsOf, sectorsFound}
+use Rattle.track_set.specs.machine.Handed.{handedSectors, Stands}
 use Rattle.track_set.proofs.HandedLaws.{AllStand}
 
 module _ (p : Profile) (ds : List ℕ) where

@@ -8,15 +8,15 @@ use Rattle.refusal.specs.Answer.{Answer, accepted, refuseIf, firstRefusal, sett
 use Rattle.timing.specs.declared.Profile.{Profile}
 use Rattle.fields.specs.Bytes.{byteOf}
 use Rattle.sectors.specs.Sector.{sectorSize}
-use Rattle.merge.specs.Set.{Sector, setBytes}
+use Rattle.sets.specs.Set.{Sector, setBytes}
 use Rattle.merge.specs.Rule.{MergeAnswer, storing}
 use Rattle.entries.specs.FieldKinds.{itemsOf, dataBytes}
-use Rattle.track.specs.Order.{inOrder}
 use Rattle.entries.specs.Entries.{entriesOf}
-use Rattle.track.specs.Index.{indexRule}
 use Rattle.entries.specs.declared.DataField.{DataField}
 use Rattle.entries.specs.declared.DataField.the-variants.{Found, Missing}
 use Rattle.entries.specs.declared.Entry.{Entry}
+use Rattle.track.specs.Order.{inOrder}
+use Rattle.track.specs.Index.{indexRule}
 use Rattle.track_set.specs.declared.TrackSet.{TrackSet}
 
 module _ (p : Profile) (ds : List ℕ) where

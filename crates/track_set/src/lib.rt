@@ -4,7 +4,7 @@ ghost use mathlib.Core.Path.{_≡_};
 ghost use lib.ListN.{length};
 ghost use Rattle.lists.specs.Filled.{storedAt};
 ghost use Rattle.timing.specs.Profile.{profileRule};
-ghost use Rattle.merge.specs.Set.{setBytes};
+ghost use Rattle.sets.specs.Set.{setBytes};
 ghost use Rattle.track_set.specs.TrackSectors.{trackSetAnswer, trackAnswer, trackOutput};
 ghost use Rattle.track_set.specs.machine.Handed.{handedSectors, Stands, sizeOf};
 use fields::data::read_bytes;

@@ -1,4 +1,4 @@
--- Why `ism::answer` hands over number, place and count: each is the answer's own. Rests on no axiom.
+-- Why `answer` hands over number, place and count: each is the answer's own. Rests on no axiom.
 use borrow.Author.Needs.{needs}
 use Rattle.answers.proofs.answer.Statement.{statement}
 use Rattle.answers.proofs.answer.Tie as tie

@@ -1,4 +1,4 @@
--- Why `ism::clear_answer` hands over number, place and count with the clearance: the first three as `answer` does.
+-- Why `clear_answer` hands over number, place and count with the clearance: the first three as `answer` does.
 -- Rests on no axiom.
 use borrow.Author.Needs.{needs}
 use Rattle.answers.proofs.clear_answer.Statement.{statement}

@@ -1,4 +1,4 @@
--- Why `ism::disk::field_answer` hands over what the field reader gave: a case of the code for each of the definition.
+-- Why `field_answer` hands over what the field reader gave: a case of the code for each of the definition.
 -- Rests on no axiom.
 use borrow.Author.Needs.{needs}
 use Rattle.lists.proofs.BoolLaws.{number-of-yes}

@@ -1,4 +1,4 @@
--- Why `ism::passes::merged_answer` hands over what the merge gave: a case of the code for each of the definition. Rests
+-- Why `merged_answer` hands over what the merge gave: a case of the code for each of the definition. Rests
 -- on no axiom.
 use borrow.Author.Needs.{needs}
 use Rattle.answers.proofs.merged_answer.Statement.{statement}

@@ -1,4 +1,4 @@
--- Machine, not meaning: laws tie it to Index. What the functions hand to each other. No lemmas here.
+-- Machine, not meaning: laws tie it to Entries. What the functions hand to each other. No lemmas here.
 use Prim.Native.Nat.{ℕ}
 use mathlib.Core.Path.{_≡_}
 use mathlib.Core.Bool.{Bool, true, cond, _&&_}

@@ -6,8 +6,8 @@ use borrow.Author.Tests.{le-ltb, lt-ltb}
 use lib.Dec.{ltb}
 use borrow.Author.Needs.{needs}
 use Rattle.refusal.specs.Answer.{accepted, refuseIf}
-use Rattle.merge.specs.Set.{sectorsIn}
-use Rattle.merge.specs.machine.Index.{numbersRule}
+use Rattle.sets.specs.Set.{sectorsIn}
+use Rattle.merge.specs.machine.Tests.{numbersRule}
 use Rattle.merge.proofs.RuleLaws.{numbers-decide}
 use Rattle.merge.proofs.check_numbers.Statement.{statement}
 use Rattle.merge.proofs.check_numbers.Tie as tie

@@ -4,8 +4,8 @@ use mathlib.Core.Path.{ap, _∙_, ap₂}
 use borrow.Author.Needs.{needs}
 use Rattle.refusal.specs.Answer.{Answer}
 use Rattle.refusal.proofs.AnswerLaws.{refusal-decides}
-use Rattle.merge.specs.machine.Index.{countRule}
-use Rattle.merge.specs.Set.{setOf}
+use Rattle.sets.specs.machine.Index.{countRule}
+use Rattle.sets.specs.Set.{setOf}
 use Rattle.merge.proofs.RuleLaws.{countsRule, counts-are-the-rule}
 use Rattle.merge.proofs.check_sets.Statement.{statement}
 use Rattle.merge.proofs.check_sets.Tie as tie

@@ -3,11 +3,11 @@
 use mathlib.Core.Path.{refl, sym, ap}
 use borrow.Author.Needs.{needs}
 use Rattle.refusal.specs.Answer.{Answer}
-use Rattle.merge.specs.machine.Index.{checkedRule}
+use Rattle.sets.proofs.ShortLaws.{set-is-short}
+use Rattle.sets.proofs.SpanLaws.{both-indexed}
+use Rattle.merge.specs.machine.Tests.{checkedRule}
 use Rattle.merge.proofs.SettleLaws.{refusal-settles, acceptance-leaves}
-use Rattle.merge.proofs.CountLaws.{set-is-short}
 use Rattle.merge.proofs.RuleLaws.{accepted-sets-fit}
-use Rattle.merge.proofs.SpanLaws.{both-indexed}
 use Rattle.merge.proofs.merge_checked.Statement.{statement}
 use Rattle.merge.proofs.merge_checked.Tie as tie
 

@@ -1,8 +1,5 @@
 -- Why `pace::corrected` is `cut`: no product needs more than 32 bits, and what is above 65,535 is cut off. Rests on no
 -- axiom.
-use Prim.Native.Nat.{ℕ, _*_, _≤_, _<_}
-use mathlib.Core.Path.{_≡_, sym, ap, _∙_}
-use native.Mathlib.Nat.{mul-le-mul}
 use native.Mathlib.Omega.{arith}
 use borrow.Author.Needs.{needs}
 use Rattle.pace.specs.Pace.{corrected}

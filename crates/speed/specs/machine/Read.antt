@@ -10,8 +10,8 @@ use Rattle.fields.specs.FieldRule.{FieldAnswer}
 use Rattle.fields.specs.machine.Gather.{checkedReading}
 use Rattle.clearance.specs.Answers.{ClearFieldAnswer, clearanceFor, leastUsed}
 use Rattle.pace.specs.Pace.{difference}
-use Rattle.speed.specs.Reading.{CorrectedAnswer, turnedAway}
 use Rattle.pace.specs.declared.Pace.{Pace}
+use Rattle.speed.specs.Reading.{CorrectedAnswer, turnedAway}
 
 -- a field with a clearance, a refusal without
 abbrev pub clearedBy : FieldAnswer → ℕ → ClearFieldAnswer

@@ -1,4 +1,4 @@
--- Why `set::entry_size` answers `sizeOf`: by whether the entry has data. Rests on no axiom.
+-- Why `entry_size` answers `sizeOf`: by whether the entry has data. Rests on no axiom.
 use Prim.Native.Nat.{_+_}
 use mathlib.Core.Path.{ap, _∙_}
 use native.Mathlib.Omega.{arith}

@@ -1,16 +1,16 @@
--- Why `set::read_track` answers and stores the set of the track: a refusal of the index decides; else the entries are
+-- Why `read_track` answers and stores the set of the track: a refusal of the index decides; else the entries are
 -- counted and measured, and where they have room, stored one after the other. Rests on no axiom.
-use Prim.Native.Nat.{ℕ, _+_, _-_, _*_, _≤_, _<_}
+use Prim.Native.Nat.{_+_, _-_, _*_, _≤_, _<_}
 use mathlib.Core.Path.{_≡_, refl, sym, ap, _∙_}
-use mathlib.Core.List.{List, flatMap}
+use mathlib.Core.List.{flatMap}
 use native.Mathlib.Nat.{zero-add}
 use native.Mathlib.Omega.{arith}
 use lib.ListN.{length, getD, drop}
 use borrow.Author.Needs.{needs}
 use Rattle.lists.specs.Filled.{storedAt}
 use Rattle.lists.proofs.StoreLaws.{stored-none, stored-next, stored-length}
-use Rattle.track_set.specs.machine.Handed.{handedSectors, handedBytes, Stands, sizesOf, foundsOf}
 use Rattle.track.specs.machine.Insertion.{blank}
+use Rattle.track_set.specs.machine.Handed.{handedSectors, handedBytes, Stands, sizesOf, foundsOf}
 use Rattle.track_set.proofs.HandedLaws.{stands-at, bytes-count, all-sizes, all-founds, size-is-small}
 use Rattle.track_set.proofs.SetAnswerLaws.{Listed, listed, founds-step, sizes-step, bytes-step, lengths-step}
 use Rattle.track_set.proofs.SetAnswerLaws.{none-left, no-founds, no-sizes, no-bytes, index-refuses, room-refuses, set-stored}

@@ -1,13 +1,13 @@
--- Why `set::store_entry` stores the sector of an entry: its three bytes, and then the data, which reads as the index has
+-- Why `store_entry` stores the sector of an entry: its three bytes, and then the data, which reads as the index has
 -- read it. Rests on no axiom.
 use Prim.Native.Nat.{ℕ, _+_, _≤_}
-use mathlib.Core.Path.{_≡_, refl, sym, ap, _∙_}
+use mathlib.Core.Path.{_≡_, ap, _∙_}
 use native.Mathlib.Omega.{arith}
 use lib.ListN.{length, set, length-set}
 use borrow.Author.Needs.{needs}
-use Rattle.sectors.proofs.SectorCounts.{size-at-most-1024}
 use Rattle.lists.proofs.StoreLaws.{stored-length}
 use Rattle.locks.proofs.LockLaws.{part-to-end}
+use Rattle.sectors.proofs.SectorCounts.{size-at-most-1024}
 use Rattle.entries.specs.FieldKinds.{dataBytes}
 use Rattle.track_set.proofs.HandedLaws.{bytes-count, size-with-data}
 use Rattle.track_set.proofs.StoredLaws.{data-gathers, as-long, nothing-stored, entry-stored}

@@ -7,10 +7,10 @@ use lib.Dec.{eqb}
 use lib.ListN.{length, drop}
 use Rattle.timing.specs.declared.Profile.{Profile}
 use Rattle.sectors.specs.Sector.{sectorSize}
-use Rattle.merge.specs.Set.{Sector, setBytes}
+use Rattle.sets.specs.Set.{Sector, setBytes}
 use Rattle.entries.specs.FieldKinds.{isData}
-use Rattle.track_set.specs.TrackSectors.{dataAt}
 use Rattle.track.specs.declared.index.IndexEntry.{IndexEntry}
+use Rattle.track_set.specs.TrackSectors.{dataAt}
 
 module _ (p : Profile) (ds : List ℕ) where
   -- the sector of an entry, where its data was found

@@ -1,4 +1,4 @@
--- Why `ism::slow::corrected_answer` hands over what the corrected reader gave: a case of the code for each of the
+-- Why `slow::corrected_answer` hands over what the corrected reader gave: a case of the code for each of the
 -- definition. Rests on no axiom.
 use borrow.Author.Needs.{needs}
 use mir.Syntax.{w32}

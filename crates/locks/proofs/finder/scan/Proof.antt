@@ -9,8 +9,8 @@ use borrow.Author.Needs.{needs}
 use lib.ListN.{length}
 use Rattle.timing.specs.Class.{cursorOf}
 use Rattle.timing.proofs.EdgeLaws.{either-ascends}
-use Rattle.locks.specs.machine.Scan.{Following}
-use Rattle.locks.proofs.RunLaws.{none-follow, more-follow, one-follows}
+use Rattle.runs.specs.machine.Scan.{Following}
+use Rattle.runs.proofs.RunLaws.{none-follow, more-follow, one-follows}
 use Turn.{Searched, search-starts, search-is-adrift, run-is-broken, run-begins-later, mark-is-found, mark-is-missed}
 use Rattle.locks.proofs.finder.scan.Statement.{statement}
 use Rattle.locks.proofs.finder.scan.Tie as tie

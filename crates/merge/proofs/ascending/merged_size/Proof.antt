@@ -8,7 +8,7 @@ use borrow.Author.Needs.{needs}
 use Rattle.merge.specs.Rule.{result}
 use Rattle.merge.proofs.OutputLaws.{taken-is-short}
 use Rattle.merge.proofs.AscendingLaws.{bytesFrom, entries-here, size-here}
-use Rattle.merge.proofs.SpanLaws.{bytes-before, bytes-after}
+use Rattle.merge.proofs.BothSpanLaws.{bytes-before, bytes-after}
 use Rattle.merge.proofs.ascending.merged_size.Statement.{statement}
 use Rattle.merge.proofs.ascending.merged_size.Tie as tie
 

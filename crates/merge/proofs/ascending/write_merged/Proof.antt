@@ -9,7 +9,7 @@ use Rattle.lists.specs.Filled.{storedAt}
 use Rattle.lists.proofs.StoreLaws.{stored-none, stored-next}
 use Rattle.merge.specs.Rule.{result}
 use Rattle.merge.proofs.AscendingLaws.{bytesFrom, bytes-here, entries-here, size-here}
-use Rattle.merge.proofs.SpanLaws.{bytes-before, bytes-after}
+use Rattle.merge.proofs.BothSpanLaws.{bytes-before, bytes-after}
 use Rattle.merge.proofs.ascending.write_merged.Statement.{statement}
 use Rattle.merge.proofs.ascending.write_merged.Tie as tie
 

@@ -1,8 +1,9 @@
 -- Why `merge::choice::at_odds` answers `atOdds`: the entries tell whether a number is there twice, not at all, or
 -- once. Rests on no axiom.
+use Rattle.sets.proofs.ShownLaws.{zero-shows-nothing, highest-shows-twice, place-shows-one}
+use Rattle.sets.proofs.ShownLaws.{other-shows-no-twice}
 use Rattle.merge.specs.Merge.{atOdds}
-use Rattle.merge.proofs.ChoiceLaws.{zero-shows-nothing, highest-shows-twice, place-shows-one}
-use Rattle.merge.proofs.ChoiceLaws.{other-shows-no-twice, odds-with-nothing, twice-second-is-at-odds}
+use Rattle.merge.proofs.ChoiceLaws.{odds-with-nothing, twice-second-is-at-odds}
 use Rattle.merge.proofs.choice.at_odds.Statement.{statement}
 use Rattle.merge.proofs.choice.at_odds.Tie as tie
 

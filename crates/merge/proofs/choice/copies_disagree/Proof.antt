@@ -8,9 +8,9 @@ use borrow.Author.Tests.{eq-eqb, ne-eqb}
 use lib.ListN.{getD}
 use borrow.Author.Needs.{needs}
 use Rattle.sectors.specs.Sector.{sectorSize}
+use Rattle.sets.specs.machine.Index.{sectorAt}
+use Rattle.sets.specs.Set.{sectorOf}
 use Rattle.merge.specs.Merge.{disagree}
-use Rattle.merge.specs.machine.Index.{sectorAt}
-use Rattle.merge.specs.Set.{sectorOf}
 use Rattle.merge.proofs.choice.copies_disagree.Statement.{statement}
 use Rattle.merge.proofs.choice.copies_disagree.Tie as tie
 

@@ -6,11 +6,13 @@ use native.Mathlib.Omega.{arith}
 use lib.ListN.{drop}
 use borrow.Author.Needs.{needs}
 use Rattle.lists.specs.Place.{lowest}
-use Rattle.merge.specs.Set.{sectorsIn}
-use Rattle.merge.specs.Merge.{atOddsAt, numbers}
+use Rattle.sets.specs.Set.{sectorsIn}
+use Rattle.sets.specs.Held.{numbers}
+use Rattle.sets.proofs.NumberLaws.{numbers-from}
+use Rattle.sets.proofs.SpanLaws.{lowest-before, lowest-after}
+use Rattle.merge.specs.Merge.{atOddsAt}
 use Rattle.merge.proofs.ChoiceLaws.{entries-at-odds}
-use Rattle.merge.proofs.NumberLaws.{numbers-from}
-use Rattle.merge.proofs.SpanLaws.{lowest-before, lowest-after, nothing-at-odds}
+use Rattle.merge.proofs.BothSpanLaws.{nothing-at-odds}
 use Rattle.merge.proofs.choice.lowest_at_odds.Statement.{statement}
 use Rattle.merge.proofs.choice.lowest_at_odds.Tie as tie
 

@@ -3,9 +3,11 @@
 use native.Mathlib.Omega.{arith}
 use borrow.Author.Tests.{eq-eqb, ne-eqb}
 use borrow.Author.Needs.{needs}
-use Rattle.merge.specs.Set.{sectorOf}
-use Rattle.merge.specs.machine.Index.{sectorAt, takesSecond}
-use Rattle.merge.proofs.ChoiceLaws.{zero-shows-nothing, place-shows-one, single-entries}
+use Rattle.sets.specs.Set.{sectorOf}
+use Rattle.sets.specs.machine.Index.{sectorAt}
+use Rattle.sets.proofs.ShownLaws.{zero-shows-nothing, place-shows-one}
+use Rattle.merge.specs.machine.Tests.{takesSecond}
+use Rattle.merge.proofs.ChoiceLaws.{single-entries}
 use Rattle.merge.proofs.choice.takes_second.Statement.{statement}
 use Rattle.merge.proofs.choice.takes_second.Tie as tie
 

@@ -7,8 +7,8 @@ use native.Mathlib.Omega.{arith}
 use lib.ListN.{length-set, length-take}
 use borrow.Author.Needs.{needs}
 use Rattle.lists.specs.Filled.{storedAt}
-use Rattle.merge.specs.machine.Index.{sectorAt}
-use Rattle.merge.specs.Set.{sectorBytes, sectorOf}
+use Rattle.sets.specs.machine.Index.{sectorAt}
+use Rattle.sets.specs.Set.{sectorBytes, sectorOf}
 use Rattle.merge.proofs.OutputLaws.{sector-bytes-length}
 use Rattle.merge.proofs.output.put_sector.Statement.{statement}
 use Rattle.merge.proofs.output.put_sector.Tie as tie

@@ -1,7 +1,5 @@
 -- `Pace::check` makes the tests of `paceRule` in its order. Rests on no axiom.
 use mathlib.Core.Path.{sym, _∙_}
-use native.Mathlib.Omega.{arith}
-use borrow.Author.Needs.{needs}
 use Rattle.pace.specs.Pace.{paceRule}
 use Rattle.pace.proofs.Pace.check.Statement.{statement}
 use Rattle.pace.proofs.Pace.check.Tie as tie

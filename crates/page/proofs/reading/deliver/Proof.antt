@@ -12,7 +12,7 @@ use Rattle.lists.proofs.StoreLaws.{stored-at-front-fills}
 use Rattle.refusal.specs.Answer.{Answer, refused}
 use Rattle.refusal.specs.declared.Refusal.the-variants.{PageLost, FillSoiled, OutputTooShort}
 use Rattle.refusal.proofs.AnswerLaws.{refusal-keeps-the-buffer, acceptance-fills-the-buffer}
-use Rattle.merge.specs.Set.{sectorsIn}
+use Rattle.sets.specs.Set.{sectorsIn}
 use Rattle.page.specs.Page.{pageNumbers}
 use Rattle.page.specs.Reading.{lostAt, soiledAt, pageAt, pagesIn, dotsIn, pagesRule}
 use Rattle.page.proofs.PageLaws.{none-of-pages, page-is-there, cells-count}

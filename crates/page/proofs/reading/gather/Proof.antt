@@ -8,8 +8,8 @@ use borrow.Author.Tests.{lt-ltb, le-ltb}
 use lib.ListN.{length}
 use Rattle.refusal.specs.Answer.{Answer}
 use Rattle.refusal.proofs.AnswerLaws.{refusal-decides, refusal-keeps-the-buffer}
-use Rattle.merge.specs.Alone.{setRule}
-use Rattle.merge.proofs.SetRuleLaws.{accepted-set}
+use Rattle.sets.specs.Alone.{setRule}
+use Rattle.sets.proofs.SetRuleLaws.{accepted-set}
 use Rattle.page.specs.Reading.{readRule, readOutput}
 use Rattle.page.proofs.ReadingLaws.{range-passes, set-passes}
 use Rattle.page.proofs.reading.gather.Statement.{statement}

@@ -9,7 +9,7 @@ use borrow.Author.Needs.{needs}
 use lib.ListN.{length, getD, take, drop, length-take, length-drop}
 use Rattle.lists.specs.Filled.{storedAt}
 use Rattle.lists.proofs.StoreLaws.{stored-none, stored-next}
-use Rattle.merge.specs.Set.{sectorsIn}
+use Rattle.sets.specs.Set.{sectorsIn}
 use Rattle.page.specs.Page.{dotsOf}
 use Rattle.page.specs.Reading.{lostAt, pageAt, pagesIn, dotsIn}
 use Rattle.page.proofs.PageLaws.{none-of-pages, There, page-is-there, cells-there, cells-count}

@@ -7,10 +7,10 @@ use borrow.Author.Tests.{eq-eqb, ne-eqb}
 use lib.Dec.{eqb}
 use lib.ListN.{length, getD}
 use Rattle.sectors.specs.Sector.{sectorSize}
-use Rattle.merge.specs.Merge.{One}
-use Rattle.merge.specs.machine.Index.{sectorAt, shown}
-use Rattle.merge.proofs.ChoiceLaws.{zero-shows-nothing, place-shows-one}
-use Rattle.merge.proofs.EntryLaws.{code-at, holds-at}
+use Rattle.sets.specs.Held.{One}
+use Rattle.sets.specs.machine.Index.{sectorAt, shown}
+use Rattle.sets.proofs.ShownLaws.{zero-shows-nothing, place-shows-one}
+use Rattle.sets.proofs.EntryLaws.{code-at, holds-at}
 use Rattle.page.specs.Reading.{isLost}
 use Rattle.page.proofs.PageLaws.{lost-by-place}
 use Rattle.page.proofs.search.is_lost.Statement.{statement}

@@ -9,8 +9,8 @@ use borrow.Author.Needs.{needs}
 use lib.ListN.{length, drop, getD}
 use Rattle.lists.specs.Place.{lowest}
 use Rattle.lists.proofs.PlaceLaws.{lowest-from-passing-is-here, lowest-from-failing-is-further, lowest-from-end-is-here}
-use Rattle.merge.specs.Set.{sectorsIn}
-use Rattle.merge.proofs.EntryLaws.{entry-is-single}
+use Rattle.sets.specs.Set.{sectorsIn}
+use Rattle.sets.proofs.EntryLaws.{entry-is-single}
 use Rattle.page.specs.Page.{pageNumbers}
 use Rattle.page.specs.Reading.{isLost, lostAt}
 use Rattle.page.proofs.PageLaws.{pages-length, page-number, lost-by-index}

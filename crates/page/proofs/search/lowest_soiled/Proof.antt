@@ -10,7 +10,7 @@ use lib.ListN.{length, drop, getD, take, length-take, length-drop}
 use lib.Seq.{length-take-le}
 use Rattle.lists.specs.Place.{lowest}
 use Rattle.lists.proofs.PlaceLaws.{lowest-from-passing-is-here, lowest-from-failing-is-further, lowest-from-end-is-here}
-use Rattle.merge.specs.Set.{sectorsIn}
+use Rattle.sets.specs.Set.{sectorsIn}
 use Rattle.page.specs.Page.{pageNumbers}
 use Rattle.page.specs.Reading.{lostAt, soiledAt}
 use Rattle.page.proofs.PageLaws.{pages-length, page-number, none-of-pages, There, page-is-there, fill-there}

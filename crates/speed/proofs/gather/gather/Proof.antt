@@ -1,6 +1,6 @@
 -- Why `gather::gather` answers `gatherRule` of the corrected numbers, tells the sum and the least clearance and stores the
 -- items: it ends as the field reader's pass over them does. Rests on no axiom.
-use mathlib.Core.Path.{_≡_, sym, ap, _∙_}
+use mathlib.Core.Path.{_≡_, ap, _∙_}
 use native.Mathlib.Omega.{arith}
 use borrow.Author.Needs.{needs}
 use Rattle.lists.specs.Filled.{storedAt}

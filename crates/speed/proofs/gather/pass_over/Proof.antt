@@ -1,5 +1,5 @@
 -- Why `gather::pass_over` reads the corrected numbers: how the pass stands is kept from block to block. Rests on no axiom.
-use Prim.Native.Nat.{ℕ, _+_, _-_, _≤_, _<_}
+use Prim.Native.Nat.{_+_, _-_, _<_}
 use mathlib.Core.Path.{_≡_, refl, sym, ap, _∙_}
 use native.Mathlib.Omega.{arith}
 use lib.ListN.{length}
@@ -11,8 +11,8 @@ use Rattle.intervals.specs.machine.Blocks.{atFirst, wordsOf}
 use Rattle.intervals.proofs.BlockLaws.{rest-wants, rest-stops, comes-nearer}
 use Rattle.fields.proofs.PartLaws.{itemsLeft}
 use Rattle.pace.specs.machine.Cut.{slowed}
-use Rattle.speed.specs.machine.Along.{atOnset}
 use Rattle.pace.proofs.CutLaws.{slowed-count}
+use Rattle.speed.specs.machine.Along.{atOnset}
 use Rattle.speed.proofs.AlongLaws.{Stands, onset-stands, reaches, stands-next, stored-next}
 use Rattle.speed.proofs.AlongLaws.{stands-near, edges-ascend, stands-ends, stored-ends}
 use Rattle.speed.proofs.gather.pass_over.Statement.{statement}

@@ -4,14 +4,14 @@ use Prim.Native.Nat.{ℕ, _-_, _≤_}
 use mathlib.Core.Path.{_≡_, sym, ap, _∙_}
 use mathlib.Core.List.{List}
 use native.Mathlib.Omega.{arith}
-use lib.ListN.{length, take, drop, length-take, length-drop}
+use lib.ListN.{take, drop, length-take, length-drop}
 use borrow.Author.Needs.{needs}
 use Rattle.refusal.specs.Answer.{verdictAnswer}
 use Rattle.refusal.proofs.AnswerLaws.{verdict-accepts}
 use Rattle.timing.proofs.ProfileLaws.{kept}
 use Rattle.locks.proofs.LockLaws.{part-to-end}
-use Rattle.speed.specs.Speed.{runBefore, speedRule}
 use Rattle.pace.specs.machine.Cut.{Measured}
+use Rattle.speed.specs.Speed.{runBefore, speedRule}
 use Rattle.speed.specs.machine.Read.{toldBy}
 use Rattle.speed.proofs.ReadLaws.{speed-refuses, pace-is, able, field-is, told-is, output-is}
 use Rattle.speed.proofs.reader.read_at.Statement.{statement}

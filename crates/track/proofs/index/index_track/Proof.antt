@@ -12,15 +12,15 @@ use Rattle.refusal.specs.Answer.{countedAnswer}
 use Rattle.refusal.proofs.AnswerLaws.{verdict-accepts}
 use Rattle.timing.specs.Profile.{profileRule}
 use Rattle.timing.specs.declared.Profile.{Profile}
-use Rattle.track.specs.Index.{indexRule, indexEntries}
 use Rattle.entries.specs.declared.Entry.{Entry}
-use Rattle.track.specs.machine.Insertion.{slidIn}
 use Rattle.entries.proofs.GoesLaws.{Goes, end-means, other-means, begins-means, goes-ahead}
+use Rattle.track.specs.Index.{indexRule, indexEntries}
+use Rattle.track.specs.machine.Insertion.{slidIn}
+use Rattle.track.specs.HandedBack.{indexEntryOf}
+use Rattle.track.specs.declared.index.IndexEntry.{IndexEntry}
 use Rattle.track.proofs.GatherLaws.{profile-refuses, Gathered, nothing-gathered, gathered-on, entry-slides-in}
 use Rattle.track.proofs.GatherLaws.{gathered-entry, all-gathered, crowded}
 use Rattle.track.proofs.InsertionLaws.{slides, stays, stays-in-front}
-use Rattle.track.specs.HandedBack.{indexEntryOf}
-use Rattle.track.specs.declared.index.IndexEntry.{IndexEntry}
 use Rattle.track.proofs.index.index_track.Statement.{statement}
 use Rattle.track.proofs.index.index_track.Tie as tie
 

@@ -14,12 +14,12 @@ use Rattle.timing.specs.declared.Profile.{Profile}
 use Rattle.timing.specs.declared.Class.{Class}
 use Rattle.timing.specs.declared.Class.the-variants.{Narrow, Two}
 use Rattle.timing.proofs.ClassLaws.{classes-length, classes-after-two}
+use Rattle.runs.specs.machine.Scan.{Twos, Following, PassesRun, NoTwos, NextTwo}
+use Rattle.runs.proofs.RunLaws.{is-two, is-not-two, run-follows, run-ends, none-follow, more-follow}
 use Rattle.locks.specs.Lock.{markAhead, lockAt, lockFrom}
-use Rattle.locks.specs.machine.Scan.{Twos, Following, PassesRun, NoTwos, NextTwo}
 use Rattle.locks.proofs.FinderLaws.{lock-stands, broken-run-has-no-lock, no-lock-without-mark, no-lock-past-end}
 use Rattle.locks.proofs.FinderLaws.{search-goes-on, longer-run-is-passed}
 use Rattle.locks.proofs.FinderLaws.{first-64-are-passed, search-ends-in-lock, search-ends-adrift}
-use Rattle.locks.proofs.RunLaws.{is-two, is-not-two, run-follows, run-ends, none-follow, more-follow}
 
 pub record Searched (p : Profile) (ds : List ℕ) (first seen : ℕ) : Type 0 where
   pub same : lockFrom (classesOf p ds) 0 ≡ lockFrom (classesOf p ds) (first + 64)

@@ -1,0 +1,11 @@
+pub mod SetLaws
+pub mod PlaceLaws
+pub mod NumberLaws
+pub mod IndexLaws
+pub mod ShownLaws
+pub mod TwiceLaws
+pub mod SpanLaws
+pub mod FormLaws
+pub mod ShortLaws
+pub mod SetRuleLaws
+pub mod EntryLaws
