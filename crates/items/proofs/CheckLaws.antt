@@ -1,6 +1,6 @@
 -- Laws of the register's state: it stays within 16 bits, and its own two bytes clear it.
-use Prim.Native.Nat.{ℕ, _+_, _%_, _<_, _≤_}
-use mathlib.Core.Path.{_≡_, refl, _∙_}
+use Prim.Native.Nat.{ℕ, zero, suc, _+_, _%_, _<_, _≤_}
+use mathlib.Core.Path.{_≡_, refl, sym, ap, ap₂, _∙_}
 use mathlib.Core.Bool.{true, false, cond}
 use mathlib.Core.List.{List, [], _∷_, _++_}
 use native.Mathlib.Nat.{mod-eq-of-lt}
@@ -9,10 +9,13 @@ use native.Mathlib.Omega.{arith}
 use lib.ListN.{length, getD, drop, drop-of-length-le}
 use lib.Seq.{drop-cons}
 use Rattle.register.specs.Register.{fed, highByte, lowByte}
+use Rattle.register.specs.machine.Bytes.{fedBytes}
+use Rattle.register.proofs.EightLaws.{fed-no-bytes, fed-bytes-and-one}
 use Rattle.register.proofs.RegisterLaws.{fed-bound, fed-own-bytes-is-zero}
 use Rattle.items.specs.Item.{isMark}
 use Rattle.items.specs.Written.{freshCheck, beforeMark, afterMark, afterData, afterByte, afterBytes, checkBytes}
 use Rattle.items.specs.Written.{itemBytes, afterCheck, afterItem}
+use Rattle.items.specs.machine.Lanes.{joinedAt}
 use Rattle.items.specs.declared.Check.{Check}
 use Rattle.items.proofs.ItemLaws.{data-is-no-mark}
 
@@ -74,6 +77,32 @@ pub after-two-data-from :
 after-two-data-from c ws k h high low =
     let second : k + 1 + 1 ≡ k + 2 = omega arith in
     rw (after-bytes-from c ws k (omega arith), after-data, after-bytes-from, after-data, second)
+
+-- n + 1 of them, joined
+pub after-joined-from
+    : (c : Check) (ws : List ℕ) (n k : ℕ)
+    → k + suc n ≤ length ws
+    → ((i : ℕ) → i < suc n → getD ws (k + i) 0 < 256)
+    → afterBytes c (drop k ws)
+    ≡ afterBytes (unmarked (fedBytes (suc n) (c .register) (joinedAt (suc n) ws k))) (drop (k + suc n) ws)
+unfolding joinedAt
+after-joined-from c ws zero k h small =
+    let w = getD ws (k + 0) 0 in
+    let here : k + 0 ≡ k = omega arith in
+    let byte = rw here at (small 0 (omega arith)) in
+    after-bytes-from c ws k (omega arith)
+    ∙ ap (λ (s : Check). afterBytes s (drop (k + 1) ws)) (after-data c (getD ws k 0) byte
+    ∙ ap unmarked (rw here (sym (fed-bytes-and-one 0 (c .register) 0 (getD ws k 0) byte
+    ∙ ap (λ (r : ℕ). fed r (getD ws k 0)) (fed-no-bytes (c .register) 0)))))
+after-joined-from c ws (suc n) k h small =
+    let r : ℕ = fedBytes (suc n) (c .register) (joinedAt (suc n) ws k) in
+    let w : ℕ = getD ws (k + suc n) 0 in
+    let byte : w < 256 = small (suc n) (omega arith) in
+    let place : k + suc n + 1 ≡ k + suc (suc n) = omega arith in
+    after-joined-from c ws n k (omega arith) (λ i l. small i (omega arith))
+    ∙ after-bytes-from (unmarked r) ws (k + suc n) (omega arith)
+    ∙ ap₂ (λ (s : Check) (i : ℕ). afterBytes s (drop i ws)) (after-data (unmarked r) w byte
+    ∙ ap unmarked (sym (fed-bytes-and-one (suc n) (c .register) (joinedAt (suc n) ws k) w byte))) place
 
 -- ---- marks
 

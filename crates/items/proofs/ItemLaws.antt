@@ -46,6 +46,10 @@ pub byte-is-no-check : (n : ℕ) → isByte n ≡ true → isCheck n ≡ false
 unfolding isCheck isByte isMark
 byte-is-no-check n e = ne-eqb n 512 (λ q. false≢true (rw q at e))
 
+pub below-512-is-no-check : (n : ℕ) → n < 512 → isCheck n ≡ false
+unfolding isCheck
+below-512-is-no-check n h = ne-eqb n 512 (λ e. omega arith)
+
 pub item-but-no-check-is-byte : (n : ℕ) → isItem n ≡ true → isCheck n ≡ false → isByte n ≡ true
 unfolding isItem
 item-but-no-check-is-byte n e f = sym (or-false (isByte n)) ∙ (rw f at e)
@@ -85,10 +89,6 @@ one-byte-is-no-check : (t : Bool) → cond t 2 1 ≤ 1 → t ≡ false
 one-byte-is-no-check true h = absurd (omega arith)
 one-byte-is-no-check false h = refl
 
-no-check-in-one : (n : ℕ) → bytesOf n ≤ 1 → isCheck n ≡ false
-unfolding bytesOf
-no-check-in-one n h = one-byte-is-no-check (isCheck n) h
-
 pub bytes-of-bounds : (n : ℕ) → (1 ≤ bytesOf n) × (bytesOf n ≤ 2)
 unfolding bytesOf
 bytes-of-bounds n =
@@ -123,27 +123,11 @@ pub written-bytes-from-end : (ns : List ℕ) (k : ℕ) → length ns ≤ k → w
 unfolding writtenBytes
 written-bytes-from-end ns k h = rw (drop-of-length-le ns h)
 
--- n numbers write n bytes at least, and where they write no more, none of them is a check order
-pub written-bytes-at-least : (ns : List ℕ) (n k : ℕ) → k + n ≤ length ns
-    → n + writtenBytes (drop (k + n) ns) ≤ writtenBytes (drop k ns)
-written-bytes-at-least ns zero k h = rw (add-zero k) (omega arith)
-written-bytes-at-least ns (suc n) k h =
-    let here = written-bytes-from ns k (omega arith) in
-    let one = bytes-of-bounds (getD ns k 0) in
-    let more = written-bytes-at-least ns n (k + 1) (omega arith) in
-    let place : k + 1 + n ≡ k + suc n = omega arith in
-    omega (arith, rw place at more)
-
 pub check-is-further : (ns : List ℕ) (n k : ℕ) → k + n ≤ length ns
-    → writtenBytes (drop k ns) ≤ n + writtenBytes (drop (k + n) ns)
+    → ((i : ℕ) → i < n → isCheck (getD ns (k + i) 0) ≡ false)
     → k + n + lowest isCheck (drop (k + n) ns) ≡ k + lowest isCheck (drop k ns)
-check-is-further ns zero k h few = rw (add-zero k)
-check-is-further ns (suc n) k h few =
-    let here = written-bytes-from ns k (omega arith) in
-    let place : k + 1 + n ≡ k + suc n = omega arith in
-    let more = rw place at (written-bytes-at-least ns n (k + 1) (omega arith)) in
-    let one = bytes-of-bounds (getD ns k 0) in
-    let none = no-check-in-one (getD ns k 0) (omega arith) in
-    let few′ : writtenBytes (drop (k + 1) ns) ≤ n + writtenBytes (drop (k + suc n) ns) = omega arith in
-    rw place at (check-is-further ns n (k + 1) (omega arith) (rw place few′))
-    ∙ sym (lowest-from-failing-is-further isCheck ns 0 k (omega arith) none)
+check-is-further ns zero k h none = rw (add-zero k)
+check-is-further ns (suc n) k h none =
+    let place : k + n + 1 ≡ k + suc n = omega arith in
+    let further = lowest-from-failing-is-further isCheck ns 0 (k + n) (omega arith) (none n (omega arith)) in
+    sym (rw place at further) ∙ check-is-further ns n k (omega arith) (λ i l. none i (omega arith))

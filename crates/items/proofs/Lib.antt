@@ -1,4 +1,5 @@
 pub mod ItemLaws
+pub mod LaneLaws
 pub mod CheckLaws
 pub mod WrittenLaws
 pub mod RunLaws

@@ -4,16 +4,15 @@ use mathlib.Core.Path.{_≡_, refl, sym, ap, ap₂, _∙_}
 use mathlib.Core.Bool.{true, false, cond, _&&_}
 use mathlib.Core.List.{List, [], _∷_, _++_, append-assoc}
 use mathlib.Core.Logic.{⊎-elim}
-use native.Mathlib.Numerals.{add-one}
 use native.Mathlib.Omega.{arith}
-use lib.ListN.{length, getD, take, drop, length-append, take-append-drop, drop-of-length-le}
-use lib.Seq.{drop-cons, drop-drop}
+use lib.ListN.{length, take, drop, length-append, take-append-drop, drop-of-length-le}
+use lib.Seq.{drop-drop}
 use Rattle.lists.specs.Place.{anywhere, everywhere}
 use Rattle.lists.proofs.PlaceLaws.{everywhere-of-none, everywhere-of-passing, everywhere-of-append}
 use Rattle.lists.proofs.PlaceLaws.{nowhere-fails-at-first, nowhere-in-rest}
 use Rattle.register.specs.Register.{highByte, lowByte}
 use Rattle.items.specs.Item.{isByte, isCheck, isItem, isForeign, bytesOf, writtenBytes}
-use Rattle.items.specs.Written.{freshCheck, afterByte, afterBytes, checkBytes, itemBytes, afterCheck, afterItem}
+use Rattle.items.specs.Written.{freshCheck, afterBytes, checkBytes, itemBytes, afterCheck, afterItem}
 use Rattle.items.specs.Written.{writtenFrom, written}
 use Rattle.items.specs.declared.Check.{Check}
 use Rattle.items.proofs.ItemLaws.{check-or-not, data-is-byte, item-but-no-check-is-byte, not-foreign-is-item}
@@ -33,10 +32,6 @@ item-bytes-of-byte c n e = rw e
 pub after-item-of-check : (c : Check) (n : ℕ) → isCheck n ≡ true → afterItem c n ≡ afterCheck c
 unfolding afterItem afterCheck
 after-item-of-check c n e = cc (item-bytes-of-check c n e)
-
-pub after-item-of-byte : (c : Check) (n : ℕ) → isCheck n ≡ false → afterItem c n ≡ afterByte c n
-unfolding afterItem afterBytes
-after-item-of-byte c n e = cc (item-bytes-of-byte c n e)
 
 pub length-of-item-bytes : (c : Check) (n : ℕ) → length (itemBytes c n) ≡ bytesOf n
 unfolding itemBytes bytesOf
@@ -64,11 +59,6 @@ pub written-from-item : (c : Check) (n : ℕ) (ns : List ℕ)
     → writtenFrom c (n ∷ ns) ≡ itemBytes c n ++ writtenFrom (afterItem c n) ns
 unfolding writtenFrom
 written-from-item c n ns = refl
-
--- from place k on
-pub written-from-place : (c : Check) (ns : List ℕ) (k : ℕ) → k < length ns
-    → writtenFrom c (drop k ns) ≡ itemBytes c (getD ns k 0) ++ writtenFrom (afterItem c (getD ns k 0)) (drop (k + 1) ns)
-written-from-place c ns k h = cc (drop-cons ns k 0 h, add-one k, written-from-item c (getD ns k 0) (drop (k + 1) ns))
 
 pub written-from-end : (c : Check) (ns : List ℕ) (k : ℕ) → length ns ≤ k → writtenFrom c (drop k ns) ≡ []
 written-from-end c ns k h = cc (drop-of-length-le ns h, written-from-none c)

@@ -1,3 +1,4 @@
 pub mod Item
 pub mod Written
 pub mod Rule
+pub mod machine

@@ -1,9 +1,11 @@
 // Document 01, "Items and the check register".
 mod bytes;
+mod lanes;
 mod list;
 
 pub use bytes::Stored;
 pub use bytes::write_bytes;
+use lanes::after_eights;
 pub use list::check_list;
 pub use list::find_check;
 pub use list::find_foreign;
@@ -77,8 +79,8 @@ impl Check {
         }
     }
 
-    // A run of bytes from a place on: the number there, and then data bytes, two at a time. Answers the state and the
-    // place after the run.
+    // A run of bytes from a place on: the number there, and then data bytes, eight and two at a time. Answers the state
+    // and the place after the run.
     fn after_run(self, bytes: &[u16], from: usize) -> Stored
         requires { ⌜ from < length (now bytes) ⌝ }
         ensures place { λ r. ⌜ (from < r .count) × (r .count ≤ length (now (bytes .entry))) ⌝ }
@@ -87,8 +89,10 @@ impl Check {
             ≡ afterBytes self (drop from (now (bytes .entry))) ⌝ }
     {
         let last = bytes.len() - 1;
-        let mut check = self.after_byte(bytes[from]);
-        let mut k = from + 1;
+        let first = self.after_byte(bytes[from]);
+        let eights = after_eights(first, bytes, from + 1);
+        let mut check = eights.check;
+        let mut k = eights.count;
         while k < last {
             let high = bytes[k];
             let low = bytes[k + 1];

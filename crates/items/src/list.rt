@@ -7,6 +7,7 @@ ghost use Rattle.lists.specs.Place.{everywhere, lowest};
 ghost use Rattle.refusal.specs.Answer.{verdictAnswer};
 ghost use Rattle.items.specs.Item.{isCheck, isItem, isForeign, writtenBytes};
 ghost use Rattle.items.specs.Rule.{listRule};
+use crate::lanes::clear_at;
 use refusal::Refusal;
 use refusal::Verdict;
 
@@ -16,8 +17,8 @@ const MAX_BYTES: usize = 6400;
 // How many numbers are counted together, at most 65,535.
 const COUNTED: usize = 32768;
 
-// How many numbers are looked at together for a check order.
-const STRETCH: usize = 32;
+// The bits of four lanes of which any number from a check order on has one.
+const FROM_512: u64 = 0xfe00fe00fe00fe00;
 
 // How many check orders stand from a place up to another, so few that 16 bits count them: added with no jump for any,
 // eight at a time.
@@ -50,18 +51,18 @@ pub fn written_bytes(items: &[u16]) -> usize
     count + (end - k) + count_checks(items, k, end) as usize
 }
 
-// Passes over whole stretches with no check order.
-fn pass_stretches(items: &[u16]) -> usize
+// Passes over numbers below a check order, eight at a time.
+fn pass_eights(items: &[u16]) -> usize
     ensures within { λ r. ⌜ r ≤ length (now (items .entry)) ⌝ }
     ensures lowest { λ r. ⌜ r + lowest isCheck (drop r (now (items .entry))) ≡ lowest isCheck (now (items .entry)) ⌝ }
 {
     let mut k: usize = 0;
-    while STRETCH <= items.len() - k {
-        let end = k + STRETCH;
-        if 0 < count_checks(items, k, end) {
+    while 8 <= items.len() - k {
+        if clear_at(items, k, FROM_512) {
+            k += 8;
+        } else {
             return k;
         }
-        k = end;
     }
     k
 }
@@ -70,7 +71,7 @@ fn pass_stretches(items: &[u16]) -> usize
 pub fn find_check(items: &[u16]) -> usize
     ensures { λ r. ⌜ r ≡ lowest isCheck (now (items .entry)) ⌝ }
 {
-    let mut k = pass_stretches(items);
+    let mut k = pass_eights(items);
     while k < items.len() {
         if crate::is_check(items[k]) {
             return k;

@@ -12,7 +12,7 @@ use Rattle.register.proofs.RegisterLaws.{shifted-by-of-xor, shifted-by-
 -- ---- the parts of the formulas
 
 -- a polynomial for each bit, within 16 bits
-abbrev spread : ℕ → ℕ
+abbrev pub spread : ℕ → ℕ
 spread x = bitXor (bitXor (x * 2 ^ 12 % 2 ^ 16) (x * 2 ^ 5 % 2 ^ 16)) x
 
 -- the bits that leave at the top: those of a byte, those of two, with what they bring there themselves
@@ -23,10 +23,10 @@ abbrev foldedTwo : ℕ → ℕ
 foldedTwo x = bitXor (bitXor (folded x) (folded x / 2 ^ 8)) (x / 2 ^ 11)
 
 -- what n steps make of bits that are set k places up
-abbrev movedOut : ℕ → ℕ → ℕ → ℕ
+abbrev pub movedOut : ℕ → ℕ → ℕ → ℕ
 movedOut n k x = shiftedBy n (x * 2 ^ k % 2 ^ 16)
 
-spread-is-linear : Linear spread
+pub spread-is-linear : Linear spread
 spread-is-linear = sum-is-linear (sum-is-linear (up-is-linear 12) (up-is-linear 5)) unshifted-is-linear
 
 folded-is-linear : Linear folded
@@ -37,7 +37,7 @@ folded-two-is-linear =
     sum-is-linear (sum-is-linear folded-is-linear (chain-is-linear folded-is-linear (down-is-linear 8)))
     (down-is-linear 11)
 
-moved-out-is-linear : (n k : ℕ) → Linear (movedOut n k)
+pub moved-out-is-linear : (n k : ℕ) → Linear (movedOut n k)
 moved-out-is-linear n k =
     record {
       on = λ a b.
@@ -80,7 +80,7 @@ two-moved-out =
     (chain-is-linear folded-two-is-linear spread-is-linear) refl
 
 -- the second byte can be added eight steps before its turn, as the low byte
-fed-twice-is-sixteen-steps : (r high low : ℕ) → r < 0x10000 → high < 256 → low < 256
+pub fed-twice-is-sixteen-steps : (r high low : ℕ) → r < 0x10000 → high < 256 → low < 256
     → fed (fed r high) low ≡ shiftedBy 16 (bitXor (bitXor r (high * 256)) low)
 unfolding fed shiftedBy
 fed-twice-is-sixteen-steps r high low hr hh hl =

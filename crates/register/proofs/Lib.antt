@@ -2,3 +2,4 @@ pub mod XorLaws
 pub mod LinearLaws
 pub mod RegisterLaws
 pub mod FormulaLaws
+pub mod EightLaws

@@ -24,6 +24,9 @@ down-is-linear k = record { on = λ a b. xor-shr a b k }
 pub up-is-linear : (k : ℕ) → Linear (λ (x : ℕ). x * 2 ^ k % 2 ^ 16)
 up-is-linear k = record { on = λ a b. cc (xor-up k a b, xor-mod (a * 2 ^ k) (b * 2 ^ k) 16) }
 
+pub low-is-linear : Linear (λ (x : ℕ). x % 2 ^ 16)
+low-is-linear = record { on = λ a b. xor-mod a b 16 }
+
 pub sum-is-linear : {f g : ℕ → ℕ} → Linear f → Linear g → Linear (λ (x : ℕ). bitXor (f x) (g x))
 sum-is-linear {f} {g} hf hg =
     record { on = λ a b. ap₂ bitXor (hf .on a b) (hg .on a b) ∙ xor-exchange (f a) (f b) (g a) (g b) }

@@ -2,6 +2,7 @@
 ghost use Prim.Native.Nat.{_%_, _<_};
 ghost use mathlib.Core.Path.{_≡_};
 ghost use Rattle.register.specs.Register.{fed};
+ghost use Rattle.register.specs.machine.Bytes.{fedBytes};
 
 // The byte and the register's high byte, added, leave at the top, and each of their bits adds the polynomial's terms,
 // x^12, x^5 and 1. Of what x^12 adds, four bits leave at the top in their turn.
@@ -22,5 +23,18 @@ pub fn feed_two(register: u16, high: u16, low: u16) -> u16
     let top = register ^ (high << 8) ^ low;
     let y = top ^ (top >> 4);
     let x = y ^ (y >> 8) ^ (top >> 11);
+    (x << 12) ^ (x << 5) ^ x
+}
+
+// Eight bytes at once, the first at the top. With z for a shift to the right by one, what leaves at the top is their
+// product with the inverse of 1 + z^4 + z^11 + z^16, which below z^64 has four factors.
+pub fn feed_eight(register: u16, eight: u64) -> u16
+    ensures { λ r. ⌜ r ≡ fedBytes 8 register eight ⌝ }
+{
+    let a = eight ^ ((register as u64) << 48);
+    let b = a ^ (a >> 4) ^ (a >> 11) ^ (a >> 16);
+    let c = b ^ (b >> 8) ^ (b >> 22) ^ (b >> 32);
+    let d = c ^ (c >> 16) ^ (c >> 44);
+    let x = ((d ^ (d >> 32)) % 65536) as u16;
     (x << 12) ^ (x << 5) ^ x
 }

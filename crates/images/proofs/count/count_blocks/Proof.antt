@@ -45,7 +45,8 @@ module _ {items : List ℕ} {tally : Tally} {check : Check} {bytes : List ℕ} {
 
   block-fits : listRule items .number ≡ 0 → tallied tally block .cells < 65536
   block-fits accepted =
-      let least = tally-at-least (tallied tally block) (writtenFrom (afterBytes check block) (drop (from + size) items)) in
+      let rest = writtenFrom (afterBytes check block) (drop (from + size) items) in
+      let least = tally-at-least (tallied tally block) rest in
       let same = ap (λ (t : Tally). t .cells) rest-makes-whole in
       omega (arith, tally-of-list-fits items accepted)
 
@@ -83,14 +84,16 @@ loop-holds c =
 taken : (c : tie.After-at-most Inv-loop μ-loop)
     → (0 < c .at-most .result)
     × (c .at-most .result ≤ 256)
-    × (c .before .before .loop .from + c .at-most .result ≤ length (now (c .before .before .before .before .before .args .items)))
+    × (c .before .before .loop .from + c .at-most .result
+    ≤ length (now (c .before .before .before .before .before .args .items)))
 taken c =
     let test = c .before .loop-test .taken in
     let e = c .at-most .ensures in
     omega (arith, test, e)
 
 -- the bytes of the items are the front of the array
-fits : (c : tie.After-write-bytes Inv-loop μ-loop) → c .write-bytes .result .count ≤ length (c .write-bytes .last .1 .1 .0)
+fits : (c : tie.After-write-bytes Inv-loop μ-loop)
+    → c .write-bytes .result .count ≤ length (c .write-bytes .last .1 .1 .0)
 fits c =
     let asked = c .before .before .before in
     let stored = c .write-bytes .ensures .1 in
@@ -123,7 +126,8 @@ loop-again c =
       room = ap length (stored .1 .1) ∙ stored-length _ _ _ ∙ head .inv .room;
       whole =
           ap₂ (λ (t : Tally) (s : Check). tallied t (writtenFrom s rest))
-          (c .before .count-bytes .ensures ∙ ap (tallied (head .tally)) (ap (take count) (stored .1 .1) ∙ bytes)) (stored .0)
+          (c .before .count-bytes .ensures ∙ ap (tallied (head .tally)) (ap (take count) (stored .1 .1) ∙ bytes))
+          (stored .0)
           ∙ rest-makes-whole (head .inv) (asked .at-most .result) few;
     }
 
@@ -138,9 +142,11 @@ pub count-blocks-spec : {M : Type 1} → statement M
 count-blocks-spec =
     tie.close
     (tie.spec Inv-loop μ-loop (λ c κs. search needs) loop-holds (λ c. c .before .loop .inv .within)
-    (λ c κs. search needs) (λ c. omega (arith, taken c .2)) (λ c. let h = c .before .before .loop .inv .within in search needs)
+    (λ c κs. search needs) (λ c. omega (arith, taken c .2))
+    (λ c. let h = c .before .before .loop .inv .within in search needs)
     (λ c. omega arith) (λ c. let h = c .before .before .loop .inv .within in search needs)
     (λ c. let h = taken c in search needs) (λ c. sym (c .before .before .before .before .loop .inv .room))
     (λ c κs. search needs) (λ c. fits (c .before))
     (λ c. sym (length-take-le _ _ (fits (c .before .before))))
-    count-bytes-requires (λ c. omega (arith, taken (c .before .before .before .before .before .before .before))) loop-again returns)
+    count-bytes-requires (λ c. omega (arith, taken (c .before .before .before .before .before .before .before)))
+    loop-again returns)

@@ -1,5 +1,5 @@
--- `bytes::write_bytes` stores all bytes of a list: each turn stores a run and the check order behind it, and the last run
--- is its own bytes. Rests on no axiom.
+-- `bytes::write_bytes` stores all bytes of a list: each turn stores a run and the check order behind it, and the last
+-- run is its own bytes. Rests on no axiom.
 use Prim.Native.Nat.{ℕ, _+_, _-_, _≤_, _<_}
 use mathlib.Core.Path.{_≡_, refl, sym, ap, ap₂, _∙_}
 use mathlib.Core.List.{List, _++_}
@@ -163,17 +163,20 @@ add-count c =
 keeps-length : tie.Need-same-length Inv-loop μ-loop
 keeps-length c =
     let wrote = c .before .before .before in
-    ap length (wrote .store .ensures) ∙ stored-length _ _ _ ∙ same-size (wrote .before .before .before .before .loop .inv)
+    ap length (wrote .store .ensures) ∙ stored-length _ _ _
+    ∙ same-size (wrote .before .before .before .before .loop .inv)
 
 pub write-bytes-spec : {M : Type 1} → statement M
 write-bytes-spec =
     tie.close
     (tie.spec Inv-loop μ-loop (λ c κs. search needs) loop-holds (λ c. c .loop .inv .within)
-    (λ c. let h = c .before .loop .inv .within in omega arith) (λ c. let h = c .before .loop .inv .within in search needs)
+    (λ c. let h = c .before .loop .inv .within in omega arith)
+    (λ c. let h = c .before .loop .inv .within in search needs)
     (λ c. omega arith) (λ c. search needs) (λ c. let h = c .before .loop .inv .within in search needs)
     write-run-requires add-at add-at-2
     (λ c. search needs) (λ c. search needs) (λ c. search needs) (λ c. search needs) (λ c. search needs)
     (λ c κs. search needs) (λ c. omega arith) loop-again
     (λ c. let h = c .before .loop .inv .within in search needs) (λ c. c .before .loop .inv .within)
-    (λ c. let h = c .before .loop .inv .within in search needs) (λ c. let h = c .before .loop .inv .within in search needs)
+    (λ c. let h = c .before .loop .inv .within in search needs)
+    (λ c. let h = c .before .loop .inv .within in search needs)
     (λ c κs. search needs) (λ c κs. search needs) add-count keeps-length returns)

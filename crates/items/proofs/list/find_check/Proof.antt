@@ -1,12 +1,11 @@
--- `find_check` scans for the lowest place, from the end of the stretches without a check order on: any other number
+-- `find_check` scans for the lowest place, from the end of the eights below a check order on: any other number
 -- moves it on by one, the first check order ends it.
-use Prim.Native.Nat.{ℕ, _+_, _-_, _≤_}
+use Prim.Native.Nat.{_+_, _-_, _≤_}
 use mathlib.Core.Path.{_≡_, sym, _∙_}
-use mathlib.Core.List.{List}
 use native.Mathlib.Omega.{arith}
 use borrow.Author.Count.{falls}
 use borrow.Author.Needs.{needs}
-use lib.ListN.{length, getD, drop}
+use lib.ListN.{length, drop}
 use Rattle.lists.specs.Place.{lowest}
 use Rattle.lists.proofs.PlaceLaws.{lowest-from-passing-is-here, lowest-from-failing-is-further, lowest-from-end-is-here}
 use Rattle.items.specs.Item.{isCheck}
@@ -49,6 +48,6 @@ returns-2 c =
 pub find-check-spec : {M : Type 1} → statement M
 find-check-spec =
     tie.close
-    (tie.spec Inv-loop μ-loop (λ c κs. search needs) (λ c. c .pass-stretches .ensures) (λ c. omega arith)
+    (tie.spec Inv-loop μ-loop (λ c κs. search needs) (λ c. c .pass-eights .ensures) (λ c. omega arith)
     (λ c. c .before .loop-test .taken) (λ c κs. search needs) returns (λ c. omega arith)
     (λ c. falls _ _ (c .before .before .before .loop-test .taken)) loop-again returns-2)

@@ -1,0 +1,2 @@
+-- Machine, not meaning.
+pub mod Bytes
