@@ -7,4 +7,6 @@ pub mod PassLaws
 pub mod FoursLaws
 pub mod BlockLaws
 pub mod TopLaws
+pub mod AddedLaws
+pub mod EightLaws
 pub mod SixteenLaws

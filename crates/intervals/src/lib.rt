@@ -13,6 +13,7 @@ pub mod block;
 pub mod edges;
 mod fours;
 mod shift;
+mod top;
 mod units;
 
 pub use units::all_sure;
