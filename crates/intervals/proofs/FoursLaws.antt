@@ -33,7 +33,7 @@ use Rattle.intervals.proofs.PassLaws.{pass-ends, pass-goes-on, pass-in-
 
 -- what a run of cells leaves of the register
 pub record Shifts (m : Reading) (us : List ℕ) : Type 0 where
-  pub low : m .held ≤ shiftedAll m us .held
+  pub low : m .held + 2 * length us ≤ shiftedAll m us .held
   pub high : shiftedAll m us .held ≤ m .held + 4 * length us
   pub words : shiftedAll m us .words ≡ m .words
   pub word : 17 ≤ m .held → wordOf (shiftedAll m us) ≡ wordOf m

@@ -7,6 +7,8 @@ pub mod PassLaws
 pub mod FoursLaws
 pub mod BlockLaws
 pub mod TopLaws
+pub mod AddedLaws
+pub mod EightLaws
 pub mod SixteenLaws
 pub mod LaneLaws
 pub mod ScanLaws

@@ -3,23 +3,19 @@
 use Prim.Native.Nat.{ℕ, _+_, _-_, _*_, _/_, _%_, _^_, _≤_, _<_}
 use mathlib.Core.Path.{_≡_, sym, ap, ap₂, _∙_}
 use mathlib.Core.Bool.{Bool, true, false}
-use mathlib.Core.List.{List, [], _∷_}
 use native.Mathlib.Nat.{add-mul, mul-assoc, one-mul, mod-eq-of-lt}
-use native.Mathlib.Numerals.{add-one}
 use native.Mathlib.Decide.{decLt}
 use native.Mathlib.Omega.{arith}
 use mir.Val.{boolByte}
 use borrow.Author.Tests.{lt-ltb, le-ltb, lt-leb, le-leb}
 use lib.Bits.{bitOr, or-shifted}
 use lib.Dec.{ltb}
-use lib.ListN.{length, take, drop, getD}
-use lib.Seq.{drop-cons}
 use lib.Pow.{pow-add, pow-lt, shl-shr, shr-shr, high, low, field, mod-pow-add, mod-mod-pow}
-use Rattle.symbols.specs.machine.Step.{AllCells, shifted, shiftedAll, isWhole, surplus, wordOf, eased}
+use Rattle.symbols.specs.machine.Step.{shifted, isWhole, surplus, wordOf, eased}
 use Rattle.symbols.specs.declared.Reading.{Reading}
-use Rattle.symbols.proofs.EaseLaws.{shifted-out, held-by-shift}
+use Rattle.symbols.proofs.EaseLaws.{shifted-out}
 use Rattle.intervals.specs.machine.Fours.{Tops}
-use Rattle.intervals.specs.declared.fours.Top.{Top}
+use Rattle.intervals.specs.declared.top.Top.{Top}
 
 -- ---- the half cells of a register
 
@@ -143,7 +139,32 @@ module _ (t : Top) (m : Reading) (top : Tops t m) where
         | no many ↦ lt-ltb (t .free) 48 (omega arith) ∙ sym (le-leb 17 h (omega arith))
       ]
 
-  -- what is left of a word that is whole, if one is
+  -- what is left of a word that is whole
+  pub top-past
+      : (r : Top)
+      → 17 ≤ h
+      → r .free ≡ (t .free + 16) % 2 ^ 32
+      → r .cells ≡ t .cells * 2 ^ 16 % 2 ^ 64
+      → Tops r (eased m)
+  unfolding eased
+  top-past r many free cells =
+      let sum = top .free in
+      let room = top .room in
+      let held : (h + (2 ^ 32 - 16)) % 2 ^ 32 ≡ h - 16 = omega arith in
+      let same : r .free ≡ t .free + 16 = free ∙ omega arith in
+      rw (le-leb 17 h many, held) (record {
+        room = omega arith;
+        free = omega arith;
+        cells =
+            cells
+            ∙ ap (λ (n : ℕ). n * 2 ^ 16 % 2 ^ 64) (top .cells)
+            ∙ ap (λ (n : ℕ). n % 2 ^ 64) (moved-twice b (t .free) 16)
+            ∙ shifted-out 64 b (h - 16) (t .free + 16) (omega arith)
+            ∙ ap (λ (n : ℕ). n * 2 ^ (t .free + 16)) (fewer (m .bits) h (h - 16) (omega arith))
+            ∙ ap (λ (k : ℕ). m .bits % 2 ^ (h - 16) * 2 ^ k) (sym same);
+      })
+
+  -- if one is
   pub top-eases
       : (r : Top) (whole : Bool)
       → whole ≡ isWhole m
@@ -171,81 +192,7 @@ module _ (t : Top) (m : Reading) (top : Tops t m) where
                   ∙ ap (λ (k : ℕ). b * 2 ^ k) (sym same);
             })
         | no many ↦
-            let many : 17 ≤ h = omega arith in
-            let one : whole ≡ true = told ∙ le-leb 17 h many in
-            let held : (h + (2 ^ 32 - 16)) % 2 ^ 32 ≡ h - 16 = omega arith in
-            let same : r .free ≡ t .free + 16 = rw one at free ∙ omega arith in
-            rw (le-leb 17 h many, held) (record {
-              room = omega arith;
-              free = omega arith;
-              cells =
-                  rw one at cells
-                  ∙ ap (λ (n : ℕ). n * 2 ^ 16 % 2 ^ 64) (top .cells)
-                  ∙ ap (λ (n : ℕ). n % 2 ^ 64) (moved-twice b (t .free) 16)
-                  ∙ shifted-out 64 b (h - 16) (t .free + 16) (omega arith)
-                  ∙ ap (λ (n : ℕ). n * 2 ^ (t .free + 16)) (fewer (m .bits) h (h - 16) (omega arith))
-                  ∙ ap (λ (k : ℕ). m .bits % 2 ^ (h - 16) * 2 ^ k) (sym same);
-            })
+            let whole-now : 17 ≤ h = omega arith in
+            let one : whole ≡ true = told ∙ le-leb 17 h whole-now in
+            top-past r whole-now (rw one at free) (rw one at cells)
       ]
-
--- ---- four cells
-
-element : (us : List ℕ) (k : ℕ) → k < length us → drop k us ≡ getD us k 0 ∷ drop (k + 1) us
-element us k h = rw (add-one k) (drop-cons us k 0 h)
-
-module _ (us : List ℕ) (k : ℕ) (inside : k + 4 ≤ length us) where
-  abbrev cell : ℕ → ℕ
-  cell i = getD us i 0
-
-  pub four-of : take 4 (drop k us) ≡ cell k ∷ cell (k + 1) ∷ cell (k + 2) ∷ cell (k + 3) ∷ []
-  four-of =
-      let two : k + 1 + 1 ≡ k + 2 = omega arith in
-      let three : k + 2 + 1 ≡ k + 3 = omega arith in
-      rw (
-        element us k (omega arith),
-        element us (k + 1) (omega arith),
-        two,
-        element us (k + 2) (omega arith),
-        three,
-        element us (k + 3) (omega arith),
-      )
-
-  -- as one cell after the other is added
-  abbrev Adds : Top → ℕ → Top → Type 0
-  Adds t u r = (m : Reading) → Tops t m → m .held + u ≤ 32 → (1 ≤ u) × (u ≤ 4) → Tops r (shifted m u)
-
-  pub top-four
-      : (t one two three four : Top)
-      → Adds t (cell k) one
-      → Adds one (cell (k + 1)) two
-      → Adds two (cell (k + 2)) three
-      → Adds three (cell (k + 3)) four
-      → (m : Reading)
-      → Tops t m
-      → m .held ≤ 16
-      → AllCells (take 4 (drop k us))
-      → Tops four (shiftedAll m (take 4 (drop k us)))
-  unfolding AllCells shiftedAll
-  top-four t one two three four first second third last m top low cells =
-      let all : AllCells (cell k ∷ cell (k + 1) ∷ cell (k + 2) ∷ cell (k + 3) ∷ []) = rw four-of at cells in
-      let (s₀, f₀, c₁) = all in
-      let (s₁, f₁, c₂) = c₁ in
-      let (s₂, f₂, c₃) = c₂ in
-      let (s₃, f₃, none) = c₃ in
-      let m₁ = shifted m (cell k) in
-      let m₂ = shifted m₁ (cell (k + 1)) in
-      let m₃ = shifted m₂ (cell (k + 2)) in
-      let h₁ = held-by-shift m (cell k) (omega arith) in
-      let h₂ = held-by-shift m₁ (cell (k + 1)) (omega arith) in
-      let h₃ = held-by-shift m₂ (cell (k + 2)) (omega arith) in
-      let t₁ = first m top (omega arith) (omega arith, f₀) in
-      let t₂ = second m₁ t₁ (omega arith) (omega arith, f₁) in
-      let t₃ = third m₂ t₂ (omega arith) (omega arith, f₂) in
-      rw four-of (last m₃ t₃ (omega arith) (omega arith, f₃))
-
-  pub shifted-four
-      : (m : Reading)
-      → shiftedAll m (take 4 (drop k us))
-      ≡ shifted (shifted (shifted (shifted m (cell k)) (cell (k + 1))) (cell (k + 2))) (cell (k + 3))
-  unfolding shiftedAll
-  shifted-four m = rw four-of

@@ -1,5 +1,5 @@
-// A block of cells, four at a time. They have 16 half cells at most and make one byte whole at most, so that whether
-// they do is told once for four, and without a jump.
+// A block of cells, eight at a time, behind a half cell at least. They have 16 half cells to 32 and make one byte whole
+// or two, so that whether they do is told once for eight, and without a jump.
 ghost use Prim.Native.Nat.{_+_, _*_, _≤_, _<_};
 ghost use mathlib.Core.Path.{_≡_};
 ghost use mathlib.Core.List.{map};
@@ -7,9 +7,15 @@ ghost use lib.ListN.{length, take, drop};
 ghost use Rattle.lists.specs.Filled.{storedAt};
 ghost use Rattle.lists.specs.Place.{everywhere};
 ghost use Rattle.half_cells.specs.machine.Word.{fits};
-ghost use Rattle.symbols.specs.machine.Step.{AllCells, shifted, shiftedAll, emptyReading, isWhole, wordOf, eased};
+ghost use Rattle.symbols.specs.machine.Step.{AllCells, shiftedAll, emptyReading};
 ghost use Rattle.symbols.specs.declared.Reading.{Reading};
-ghost use Rattle.intervals.specs.machine.Fours.{alone, foursFrom, Tops};
+ghost use Rattle.intervals.specs.machine.Fours.{alone, foursFrom};
+use crate::top::add_four;
+use crate::top::ease;
+use crate::top::is_whole;
+use crate::top::past_word;
+use crate::top::top_of;
+use crate::top::top_word;
 use half_cells::fits;
 use lists::at_most;
 use symbols::Reading;
@@ -18,70 +24,6 @@ use symbols::Reading;
 pub struct Fours {
     pub reading: Reading,
     pub count: usize,
-}
-
-// Half cells at the top of a 64-bit word: a cell is one difference and one bit set, and no shift waits for another.
-struct Top {
-    cells: u64,
-    // the places below them
-    free: u32,
-}
-
-fn top_of(m: Reading) -> Top
-    requires { ⌜ m .held ≤ 16 ⌝ }
-    ensures { λ r. ⌜ Tops r m ⌝ }
-{
-    let free = 64 - m.held;
-    Top {
-        cells: (m.bits as u64) << (free - 1) << 1,
-        free,
-    }
-}
-
-fn add_cell(t: Top, units: u8) -> Top
-    ensures { λ r. ⌜
-        ((m : Reading) → Tops t m → m .held + units ≤ 32 → (1 ≤ units) × (units ≤ 4) → Tops r (shifted m units)) ⌝ }
-{
-    let free = std::num::wrapping_sub_u32(t.free, units as u32);
-    Top {
-        cells: t.cells | 1 << (free % 64),
-        free,
-    }
-}
-
-// The four cells from a place on.
-fn add_four(t: Top, units: &[u8], k: usize) -> Top
-    requires { ⌜ k + 4 ≤ length (now units) ⌝ }
-    ensures { λ r. ⌜
-        ((m : Reading) → Tops t m → m .held ≤ 16 → AllCells (take 4 (drop k (now (units .entry))))
-        → Tops r (shiftedAll m (take 4 (drop k (now (units .entry)))))) ⌝ }
-{
-    let two = add_cell(add_cell(t, units[k]), units[k + 1]);
-    add_cell(add_cell(two, units[k + 2]), units[k + 3])
-}
-
-// The half cells of the byte that is whole, with the data bit before it; where none is whole, other half cells.
-fn top_word(t: Top) -> u32
-    ensures { λ r. ⌜ ((m : Reading) → Tops t m → 17 ≤ m .held → r ≡ wordOf m) ⌝ }
-{
-    (t.cells >> 47) as u32
-}
-
-fn is_whole(t: Top) -> bool
-    ensures { λ r. ⌜ ((m : Reading) → Tops t m → r ≡ isWhole m) ⌝ }
-{
-    t.free < 48
-}
-
-// On to the next byte where one is whole, without a jump.
-fn ease(t: Top) -> Top
-    ensures { λ r. ⌜ ((m : Reading) → Tops t m → Tops r (eased m)) ⌝ }
-{
-    let more = 16 * is_whole(t) as u32;
-    Top {
-        cells: t.cells << more,
-        free: std::num::wrapping_add_u32(t.free, more),
-    }
 }
 
 fn shift_four(m: Reading, units: &[u8], k: usize) -> Reading
@@ -101,25 +43,26 @@ pub fn last_bits(units: &[u8], k: usize) -> u32
     shift_four(shift_four(half, units, k + 8), units, k + 12).bits
 }
 
-// As many fours as there is room for words, and four at least. Each four's half cells are stored, and the next four's
-// in the same place where they made no byte whole.
-pub fn shift_fours(start: Reading, units: &[u8], words: &mut [u32]) -> Fours
-    requires { ⌜ AllCells (now units) × (length (now units) ≡ 4 * length (now words)) ⌝ }
-    requires { ⌜ (start .held ≤ 16) × (4 ≤ length (now words)) ⌝ }
-    ensures reading { λ r. ⌜
-        r .reading ≡ foursFrom (length (now (words .entry))) start (now (units .entry)) .reading ⌝ }
+// So many eights, two at least. The first word of each is whole; the second is stored, and where it is not whole the
+// next eight's first in the same place.
+pub fn shift_eights(start: Reading, units: &[u8], eights: usize, words: &mut [u32]) -> Fours
+    requires { ⌜ AllCells (now units) × (length (now units) ≡ 8 * eights) ⌝ }
+    requires { ⌜ (1 ≤ start .held) × (start .held ≤ 16) ⌝ }
+    requires { ⌜ (2 ≤ eights) × (length (now words) ≡ 2 * eights) ⌝ }
+    ensures reading { λ r. ⌜ r .reading ≡ foursFrom (2 * eights) start (now (units .entry)) .reading ⌝ }
     ensures words { λ r. ⌜
-        (r .count ≤ length (now (words .entry)))
-        × (take (r .count) (now (words .exit))
-        ≡ foursFrom (length (now (words .entry))) start (now (units .entry)) .words) ⌝ }
+        (r .count ≤ 2 * eights)
+        × (take (r .count) (now (words .exit)) ≡ foursFrom (2 * eights) start (now (units .entry)) .words) ⌝ }
 {
     let mut t = top_of(start);
     let mut count: usize = 0;
     let mut i: usize = 0;
-    while i < words.len() {
-        let next = add_four(t, units, 4 * i);
-        words[count] = top_word(next);
-        count += is_whole(next) as usize;
+    while i < eights {
+        let eight = add_four(add_four(t, units, 8 * i), units, 8 * i + 4);
+        words[count] = top_word(eight);
+        let next = past_word(eight);
+        words[count + 1] = top_word(next);
+        count += 1 + is_whole(next) as usize;
         t = ease(next);
         i += 1;
     }

@@ -21,6 +21,7 @@ mod fours;
 mod look;
 mod scan;
 mod shift;
+mod top;
 mod units;
 
 pub use units::all_sure;

@@ -1,4 +1,4 @@
-// Cells into the reading machine: a block of them by fours, or cell by cell.
+// Cells into the reading machine: a block of them by eights, or cell by cell.
 ghost use Prim.Native.Nat.{_+_, _*_, _^_, _≤_, _<_};
 ghost use mathlib.Core.Path.{_≡_};
 ghost use lib.ListN.{length};
@@ -7,13 +7,13 @@ ghost use Rattle.symbols.specs.machine.Step.{AllCells};
 ghost use Rattle.intervals.specs.machine.Pass.{passFrom};
 use crate::Pass;
 use crate::fours::all_fit;
-use crate::fours::shift_fours;
+use crate::fours::shift_eights;
 use crate::fours::store;
 use lists::put;
 use symbols::Reading;
 
-// So many fours has a block of 128 cells.
-const FOURS: usize = 32;
+// So many words have 128 cells at most, after 16 half cells.
+const WORDS: usize = 32;
 
 // Cells of so many units, the first at place `from`, until so many bytes are whole or no cell is left. Bytes are
 // counted only where one is closed, which keeps the loop short. Code words are stored from place `to` on, where there
@@ -59,26 +59,27 @@ fn shift_in(
     }
 }
 
-// Cells that leave bytes to read: by fours, for whose words there is room, and cell by cell what is over and, for its
-// place, where a gap is out of place.
+// Cells that leave bytes to read: by so many eights, for whose words there is room, and cell by cell what is over and,
+// for its place, where a gap is out of place.
 fn shift_block(
     m: Reading,
     units: &[u8],
+    eights: usize,
     words: &mut [u32],
     from: usize,
     most: u32,
     to: usize,
     out: &mut [u16],
 ) -> Pass
-    requires { ⌜ AllCells (now units) × (m .held ≤ 16) × (m .words + length (now words) < most) ⌝ }
-    requires { ⌜ (4 ≤ length (now words)) × (4 * length (now words) ≤ length (now units)) ⌝ }
+    requires { ⌜ AllCells (now units) × (1 ≤ m .held) × (m .held ≤ 16) × (m .words + 2 * eights < most) ⌝ }
+    requires { ⌜ (2 ≤ eights) × (length (now words) ≡ 2 * eights) × (8 * eights ≤ length (now units)) ⌝ }
     requires { ⌜ (from + length (now units) < 2 ^ 64) × (to + length (now units) < 2 ^ 64) ⌝ }
     ensures end { λ r. ⌜ r ≡ passFrom most from m (now (units .entry)) .end ⌝ }
     ensures output { λ _. ⌜
         now (out .exit) ≡ storedAt (now (out .entry)) to (passFrom most from m (now (units .entry)) .words) ⌝ }
 {
-    let cells = 4 * words.len();
-    let fours = shift_fours(m, &units[..cells], words);
+    let cells = 8 * eights;
+    let fours = shift_eights(m, &units[..cells], eights, words);
     let count = fours.count;
     if all_fit(&words[..count]) {
         store(&words[..count], to, out);
@@ -95,7 +96,7 @@ fn shift_block(
     shift_in(m, units, from, most, to, out)
 }
 
-// A few cells, and the end of a field, cell by cell.
+// A few cells, those behind no half cell, as at first, and the end of a field, cell by cell.
 pub fn shift_units(
     m: Reading,
     units: &[u8],
@@ -111,13 +112,17 @@ pub fn shift_units(
     ensures output { λ _. ⌜
         now (out .exit) ≡ storedAt (now (out .entry)) to (passFrom most from m (now (units .entry)) .words) ⌝ }
 {
-    let n = units.len() / 4;
-    if n < 4 {
+    let eights = units.len() / 8;
+    if eights < 2 {
         return shift_in(m, units, from, most, to, out);
     }
-    if n < (most - m.words) as usize {
-        let mut words = [0u32; FOURS];
-        return shift_block(m, units, &mut words[..n], from, most, to, out);
+    if m.held == 0 {
+        return shift_in(m, units, from, most, to, out);
+    }
+    let room = 2 * eights;
+    if room < (most - m.words) as usize {
+        let mut words = [0u32; WORDS];
+        return shift_block(m, units, eights, &mut words[..room], from, most, to, out);
     }
     shift_in(m, units, from, most, to, out)
 }

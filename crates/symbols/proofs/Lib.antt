@@ -29,7 +29,6 @@ pub mod ReadsLaws
 pub mod ClosingLaws
 pub mod WholeLaws
 pub mod EaseLaws
-pub mod JoinLaws
 pub mod StepLaws
 pub mod AnswerLaws
 pub mod RunLaws

@@ -1,8 +1,8 @@
 // Document 01, "From bits to cells": bits, symbols and cells of written bytes, and the reading of cells.
 ghost use Prim.Native.Nat.{_≤_};
 ghost use mathlib.Core.Path.{_≡_};
-ghost use Rattle.symbols.specs.machine.Step.{freshReading, shifted, isWhole, wordOf, codeWord, eased, closed};
-ghost use Rattle.symbols.specs.machine.Step.{emptyReading, joined, strayNow, placeNow};
+ghost use Rattle.symbols.specs.machine.Step.{freshReading, shifted, isWhole, codeWord, closed};
+ghost use Rattle.symbols.specs.machine.Step.{emptyReading, strayNow, placeNow};
 
 // A cell as it is read: of 2, 3 or 4 units.
 pub enum Cell {
@@ -50,7 +50,7 @@ impl Reading {
         self
     }
 
-    // No half cell, to shift cells into that are to be joined.
+    // No half cell: after sixteen cells a register is the same whatever it held.
     pub fn empty() -> Reading
         ensures { λ r. ⌜ r ≡ emptyReading ⌝ }
     {
@@ -61,15 +61,6 @@ impl Reading {
             place: 0,
             stray: false,
         }
-    }
-
-    // Cells that were shifted into an empty register, with one shift.
-    pub fn join(mut self, cells: Reading) -> Reading
-        ensures { λ r. ⌜ r ≡ joined self cells ⌝ }
-    {
-        self.bits = self.bits << (cells.held % 32) | cells.bits;
-        self.held = std::num::wrapping_add_u32(self.held, cells.held);
-        self
     }
 
     // A byte is whole with its 16 half cells and the data bit before it.
@@ -87,24 +78,6 @@ impl Reading {
         let surplus = (self.held - 17) % 32;
         let x = (self.bits >> surplus) % 131072;
         (x % 65536) as u16
-    }
-
-    // The same with the data bit before it; where none is whole, other half cells.
-    pub fn half_cells(self) -> u32
-        ensures { λ r. ⌜ (17 ≤ self .held → r ≡ wordOf self) ⌝ }
-    {
-        let surplus = std::num::wrapping_sub_u32(self.held, 17) % 32;
-        (self.bits >> surplus) % 131072
-    }
-
-    // On to the next byte where one is whole, without a jump. Its gaps are not looked at.
-    pub fn ease(mut self) -> Reading
-        ensures { λ r. ⌜ r ≡ eased self ⌝ }
-    {
-        let whole = self.is_whole() as u32;
-        self.held = std::num::wrapping_sub_u32(self.held, 16 * whole);
-        self.words = std::num::wrapping_add_u32(self.words, whole);
-        self
     }
 
     // On to the next byte after the cell at this place made one whole. Of the gaps out of place the lowest is kept.

@@ -1,7 +1,7 @@
 // The one way to class intervals: a cursor that goes over a list from its first interval on.
 ghost use mathlib.Core.Path.{_≡_};
 ghost use mathlib.Core.Bool.{cond};
-ghost use Rattle.timing.specs.Class.{cursorOf, atStart, classIn, isCell, isTwo, behind, cursorPast};
+ghost use Rattle.timing.specs.Class.{cursorOf, atStart, classIn, isTwo, behind, cursorPast};
 ghost use Rattle.timing.specs.Class.{classed, Ascending};
 ghost use Rattle.timing.specs.machine.Edges.{unitsIn, isSteady};
 use crate::Bounds;
@@ -88,18 +88,9 @@ impl Cursor {
         }
     }
 
-    // The next three are for a loop over intervals: no case for each class, so that it has no jump for one.
+    // The next two are for a loop over intervals: no case for each class, so that it has no jump for one.
 
-    // Whether the next interval is of class 2, 3 or 4: that goes by Min and Rpt alone, which are the same after each
-    // kind.
-    pub fn meets_cell(self, interval: u16) -> bool
-        requires { ⌜ Ascending self ⌝ }
-        ensures { λ r. ⌜ r ≡ isCell (classIn self interval) ⌝ }
-    {
-        (self.min.0 <= interval) & (interval < self.rpt.0)
-    }
-
-    // Whether it is of class 2, by one compare: below Min the difference wraps to above all others.
+    // Whether the next interval is of class 2, by one compare: below Min the difference wraps to above all others.
     pub fn meets_two(self, interval: u16) -> bool
         requires { ⌜ Ascending self ⌝ }
         ensures { λ r. ⌜ r ≡ isTwo (classIn self interval) ⌝ }

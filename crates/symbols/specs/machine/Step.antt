@@ -40,19 +40,9 @@ unfoldable pub shiftedAll : Reading → List ℕ → Reading
 shiftedAll m [] = m
 shiftedAll m (u ∷ us) = shiftedAll (shifted m u) us
 
--- and at once, from a register that was empty before them
+-- no half cell
 abbrev pub emptyReading : Reading
 emptyReading = record { bits = 0; held = 0; words = 0; place = 0; stray = false }
-
-unfoldable pub joined : Reading → Reading → Reading
-joined m cells =
-    record {
-      bits = bitOr (m .bits * 2 ^ (cells .held % 32) % 2 ^ 32) (cells .bits);
-      held = (m .held + cells .held) % 2 ^ 32;
-      words = m .words;
-      place = m .place;
-      stray = m .stray;
-    }
 
 -- a word is whole with its 16 half cells and the data bit before it
 abbrev pub isWhole : Reading → Bool

@@ -1,7 +1,7 @@
 -- Why `fours::shift_four` gives `shiftedAll`: it shifts in the four elements from the place on. Rests on no axiom.
 use mathlib.Core.Path.{sym}
 use borrow.Author.Needs.{needs}
-use Rattle.intervals.proofs.TopLaws.{shifted-four}
+use Rattle.intervals.proofs.AddedLaws.{shifted-four}
 use Rattle.intervals.proofs.fours.shift_four.Statement.{statement}
 use Rattle.intervals.proofs.fours.shift_four.Tie as tie
 

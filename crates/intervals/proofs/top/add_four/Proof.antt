@@ -1,8 +1,9 @@
--- Why `fours::add_four` adds the four cells from the place on: it adds one after the other. Rests on no axiom.
+-- Why `top::add_four` adds the four cells from the place on: it adds one after the other. Rests on no axiom.
+use mathlib.Core.Path.{sym}
 use borrow.Author.Needs.{needs}
-use Rattle.intervals.proofs.TopLaws.{top-four}
-use Rattle.intervals.proofs.fours.add_four.Statement.{statement}
-use Rattle.intervals.proofs.fours.add_four.Tie as tie
+use Rattle.intervals.proofs.AddedLaws.{added-four}
+use Rattle.intervals.proofs.top.add_four.Statement.{statement}
+use Rattle.intervals.proofs.top.add_four.Tie as tie
 
 returns : tie.Need-returns
 returns c =
@@ -10,8 +11,8 @@ returns c =
     let second = third .before .before in
     let first = second .before .before in
     let start = first .before .before .before in
-    top-four (start .args .units .now) (start .args .k) (start .pre) _ _ _ _ _ (first .add-cell .ensures)
-    (second .add-cell2 .ensures) (third .add-cell3 .ensures) (c .add-cell4 .ensures)
+    rw (c .add-cell4 .ensures, third .add-cell3 .ensures, second .add-cell2 .ensures, first .add-cell .ensures)
+    (sym (added-four (start .args .units .now) (start .args .k) (start .pre) (start .args .t)))
 
 pub add-four-spec : {M : Type 1} → statement M
 add-four-spec =

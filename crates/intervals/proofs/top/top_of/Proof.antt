@@ -1,9 +1,9 @@
--- Why `fours::top_of` has the register's half cells at the top: what is above them is shifted out. Rests on no axiom.
+-- Why `top::top_of` has the register's half cells at the top: what is above them is shifted out. Rests on no axiom.
 use mathlib.Core.Path.{refl}
 use borrow.Author.Needs.{needs}
 use Rattle.intervals.proofs.TopLaws.{top-begins}
-use Rattle.intervals.proofs.fours.top_of.Statement.{statement}
-use Rattle.intervals.proofs.fours.top_of.Tie as tie
+use Rattle.intervals.proofs.top.top_of.Statement.{statement}
+use Rattle.intervals.proofs.top.top_of.Tie as tie
 
 returns : tie.Need-returns
 returns c = top-begins _ _ (c .before .before .pre) refl refl

@@ -1,11 +1,11 @@
--- Why `fours::ease` leaves a whole byte behind: sixteen half cells go out at the top, or none. Rests on no axiom.
-use mathlib.Core.Path.{refl}
+-- Why `top::ease` leaves a whole byte behind: sixteen half cells go out at the top, or none. Rests on no axiom.
+use mathlib.Core.Path.{refl, _∙_}
 use native.Mathlib.Omega.{arith}
 use borrow.Author.Needs.{needs}
 use Rattle.lists.proofs.BoolLaws.{one-at-most}
-use Rattle.intervals.proofs.TopLaws.{top-eases}
-use Rattle.intervals.proofs.fours.ease.Statement.{statement}
-use Rattle.intervals.proofs.fours.ease.Tie as tie
+use Rattle.intervals.proofs.TopLaws.{top-whole, top-eases}
+use Rattle.intervals.proofs.top.ease.Statement.{statement}
+use Rattle.intervals.proofs.top.ease.Tie as tie
 
 mul-more : tie.Need-mul-more
 mul-more c = omega (arith, one-at-most (c .is-whole .result))
@@ -19,7 +19,8 @@ shl-t6 c = omega (arith, one-at-most (c .before .is-whole .result))
 returns : tie.Need-returns
 returns c = λ m top.
     let told = c .before .before in
-    top-eases (told .before .args .t) m top _ (told .is-whole .result) (told .is-whole .ensures m top)
+    let t = told .before .args .t in
+    top-eases t m top _ (told .is-whole .result) (told .is-whole .ensures ∙ top-whole t m top)
     (omega (arith, c .before .struct-known .given)) (c .wrapping-add-u32 .ensures) refl
 
 pub ease-spec : {M : Type 1} → statement M
