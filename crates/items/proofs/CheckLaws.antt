@@ -1,14 +1,14 @@
 -- Laws of the register's state: it stays within 16 bits, and its own two bytes clear it.
 use Prim.Native.Nat.{ℕ, zero, suc, _+_, _%_, _<_, _≤_}
 use mathlib.Core.Path.{_≡_, refl, sym, ap, ap₂, _∙_}
-use mathlib.Core.Bool.{true, false, cond}
+use mathlib.Core.Bool.{Bool, true, false, cond}
 use mathlib.Core.List.{List, [], _∷_, _++_}
 use native.Mathlib.Nat.{mod-eq-of-lt}
 use native.Mathlib.Numerals.{add-one}
 use native.Mathlib.Omega.{arith}
 use lib.ListN.{length, getD, drop, drop-of-length-le}
 use lib.Seq.{drop-cons}
-use Rattle.register.specs.Register.{fed, highByte, lowByte}
+use Rattle.register.specs.Register.{allOnes, shifted, shiftedBy, fed, highByte, lowByte}
 use Rattle.register.specs.machine.Bytes.{fedBytes}
 use Rattle.register.proofs.EightLaws.{fed-no-bytes, fed-bytes-and-one}
 use Rattle.register.proofs.RegisterLaws.{fed-bound, fed-own-bytes-is-zero}
@@ -116,6 +116,39 @@ pub mark-starts-again : (c : Check) (w : ℕ) (ws : List ℕ) → isMark w ≡ t
     → afterBytes c (w ∷ ws) ≡ afterBytes freshCheck (w ∷ ws)
 unfolding afterBytes afterByte afterMark beforeMark
 mark-starts-again c w ws mark unmarked = rw (mark, unmarked)
+
+-- the state after three marks A1, whatever came before
+abbrev pub afterMarks : Check
+afterMarks = record { register = 0xcdb4; marked = true }
+
+three-fresh-marks : afterByte (afterByte (afterByte freshCheck 0x1a1) 0x1a1) 0x1a1 ≡ afterMarks
+unfolding afterByte afterMark afterData beforeMark isMark fed shiftedBy shifted
+three-fresh-marks = refl
+
+first-mark : (c : Check) → c .marked ≡ false → afterByte c 0x1a1 ≡ afterByte freshCheck 0x1a1
+unfolding afterByte afterMark beforeMark isMark
+first-mark c unmarked =
+    ap (λ (t : Bool). record { register = fed (cond t (c .register) allOnes) (0x1a1 % 256); marked = true }) unmarked
+
+pub after-three-marks-from
+    : (c : Check) (ws : List ℕ) (k : ℕ)
+    → k + 3 ≤ length ws
+    → c .marked ≡ false
+    → (getD ws k 0 ≡ 0x1a1) × (getD ws (k + 1) 0 ≡ 0x1a1) × (getD ws (k + 2) 0 ≡ 0x1a1)
+    → afterBytes afterMarks (drop (k + 3) ws) ≡ afterBytes c (drop k ws)
+after-three-marks-from c ws k h unmarked (first, second, third) =
+    let one : k + 1 + 1 ≡ k + 2 = omega arith in
+    let two : k + 2 + 1 ≡ k + 3 = omega arith in
+    let a = afterByte c 0x1a1 in
+    let b = afterByte a 0x1a1 in
+    sym (after-bytes-from c ws k (omega arith)
+    ∙ ap (λ (w : ℕ). afterBytes (afterByte c w) (drop (k + 1) ws)) first
+    ∙ after-bytes-from a ws (k + 1) (omega arith)
+    ∙ ap₂ (λ (w i : ℕ). afterBytes (afterByte a w) (drop i ws)) second one
+    ∙ after-bytes-from b ws (k + 2) (omega arith)
+    ∙ ap₂ (λ (w i : ℕ). afterBytes (afterByte b w) (drop i ws)) third two
+    ∙ ap (λ (s : Check). afterBytes s (drop (k + 3) ws))
+    (ap (λ (s : Check). afterByte (afterByte s 0x1a1) 0x1a1) (first-mark c unmarked) ∙ three-fresh-marks))
 
 -- ---- check bytes
 

@@ -2,6 +2,7 @@
 mod bytes;
 mod lanes;
 mod list;
+mod marks;
 
 pub use bytes::Stored;
 pub use bytes::write_bytes;
@@ -10,6 +11,7 @@ pub use list::check_list;
 pub use list::find_check;
 pub use list::find_foreign;
 pub use list::written_bytes;
+use marks::after_part;
 ghost use Prim.Native.Nat.{_≤_, _<_};
 ghost use mathlib.Core.Path.{_≡_};
 ghost use lib.ListN.{length, drop};
@@ -115,7 +117,7 @@ impl Check {
         let mut check = self;
         let mut k: usize = 0;
         while k < bytes.len() {
-            let next = check.after_run(bytes, k);
+            let next = after_part(check, bytes, k);
             check = next.check;
             k = next.count;
         }

@@ -27,6 +27,6 @@ pub after-bytes-spec : {M : Type 1} → statement M
 after-bytes-spec =
     tie.close
     (tie.spec Inv-loop μ-loop (λ c. (omega arith, refl)) (λ c. search needs)
-    (λ c. let place = c .before .after-run .ensures .0 in omega (arith, c .before .before .loop-test .taken))
-    (λ c. let run = c .before .after-run .ensures in (run .0 .1, run .1 ∙ c .before .before .before .loop .inv .1))
+    (λ c. let place = c .before .after-part .ensures .0 in omega (arith, c .before .before .loop-test .taken))
+    (λ c. let run = c .before .after-part .ensures in (run .0 .1, run .1 ∙ c .before .before .before .loop .inv .1))
     returns)
