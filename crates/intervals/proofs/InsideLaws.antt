@@ -1,4 +1,4 @@
--- An interval is a cell where it is not below Min and below Rpt: the edges between stand between them, and neither of the
+-- An interval is a cell where it is not below Min and below Rpt: the other edges stand between them, and neither of the
 -- two changes along a list. By induction on the list. Rests on no axiom.
 use Prim.Native.Nat.{ℕ, suc, _+_, _-_, _%_, _^_, _≤_, _<_, max}
 use mathlib.Core.Path.{_≡_, refl, sym, ap, ap₂, _∙_}

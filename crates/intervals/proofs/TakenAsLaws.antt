@@ -1,5 +1,5 @@
--- An interval taken as a cell by the edges between the windows: where it is a cell it is that one, so that a list in which
--- none is narrow or wide has exactly these cells. By induction on the list. Rests on no axiom.
+-- An interval taken as a cell by the edges between the windows: where it is a cell it is that one, so that a list in
+-- which none is narrow or wide has exactly these cells. By induction on the list. Rests on no axiom.
 use Prim.Native.Nat.{ℕ, suc, _+_}
 use mathlib.Core.Path.{_≡_, refl, ap, _∙_}
 use mathlib.Core.Bool.{true}

@@ -22,7 +22,7 @@ use timing::Profile;
 const LOOK: usize = 128;
 
 // Whether all lie between the two edges, where there is room between them: none is further past the lower than the
-// upper is, and one below it wraps to above all others. With no jump for any, so that it is told in vector instructions.
+// upper is, and one below it wraps to above all others. With no jump for any, so that vector instructions tell it.
 fn all_inside(min: u16, rpt: u16, intervals: &[u16]) -> bool
     requires { ⌜ min ≤ rpt ⌝ }
     ensures { λ r. ⌜ r ≡ (ltb 0 (rpt - min) && everywhere (isInside min rpt) (now (intervals .entry))) ⌝ }

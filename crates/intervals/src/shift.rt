@@ -1,6 +1,8 @@
 // Cells into the reading machine: a block of them by eights, or cell by cell.
-ghost use Prim.Native.Nat.{_+_, _*_, _^_, _≤_, _<_};
+ghost use Prim.Native.Nat.{_+_, _-_, _*_, _^_, _≤_, _<_};
 ghost use mathlib.Core.Path.{_≡_};
+ghost use mathlib.Core.Bool.{_&&_};
+ghost use lib.Dec.{leb, ltb};
 ghost use lib.ListN.{length};
 ghost use Rattle.lists.specs.Filled.{storedAt};
 ghost use Rattle.symbols.specs.machine.Step.{AllCells};
@@ -96,7 +98,16 @@ fn shift_block(
     shift_in(m, units, from, most, to, out)
 }
 
-// A few cells, those behind no half cell, as at first, and the end of a field, cell by cell.
+// Whether cells that make so many words at most go by eights: not a few, nor those behind no half cell, as at first,
+// nor the end of a field.
+fn goes_by_eights(m: Reading, room: usize, most: u32) -> bool
+    requires { ⌜ m .words < most ⌝ }
+    ensures { λ r. ⌜ r ≡ ((leb 4 room && leb 1 (m .held)) && ltb room (most - m .words)) ⌝ }
+{
+    (4 <= room) & (1 <= m.held) & (room < (most - m.words) as usize)
+}
+
+// By eights, or cell by cell.
 pub fn shift_units(
     m: Reading,
     units: &[u8],
@@ -113,14 +124,8 @@ pub fn shift_units(
         now (out .exit) ≡ storedAt (now (out .entry)) to (passFrom most from m (now (units .entry)) .words) ⌝ }
 {
     let eights = units.len() / 8;
-    if eights < 2 {
-        return shift_in(m, units, from, most, to, out);
-    }
-    if m.held == 0 {
-        return shift_in(m, units, from, most, to, out);
-    }
     let room = 2 * eights;
-    if room < (most - m.words) as usize {
+    if goes_by_eights(m, room, most) {
         let mut words = [0u32; WORDS];
         return shift_block(m, units, eights, &mut words[..room], from, most, to, out);
     }

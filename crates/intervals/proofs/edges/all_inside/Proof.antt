@@ -1,5 +1,5 @@
--- Why `edges::all_inside` tells whether all lie between: the greatest difference from the lower edge is below that of the
--- upper where each is. Rests on no axiom.
+-- Why `edges::all_inside` tells whether all lie between: the greatest difference from the lower edge is below that of
+-- the upper where each is. Rests on no axiom.
 use Prim.Native.Nat.{suc, _-_}
 use mathlib.Core.Path.{_≡_, refl, sym, ap, _∙_}
 use mathlib.Core.Bool.{Bool, _&&_, and-true, and-assoc}

@@ -82,6 +82,7 @@ returns-2 c =
 pub check-edges-from-spec : {M : Type 1} → statement M
 check-edges-from-spec =
     tie.close
-    (tie.spec Inv-loop μ-loop loop-holds (λ c. search needs) (λ c κs. search needs) (λ c. omega (arith, next-inside c)) (λ c. search needs)
-    (λ c. search needs) (λ c. search needs) (λ c. next-inside c) all-inside-requires loop-less loop-again add-find-outside
-    (λ c. search needs) (λ c. search needs) (λ c. search needs) (λ c. search needs) find-outside-requires returns returns-2)
+    (tie.spec Inv-loop μ-loop loop-holds (λ c. search needs) (λ c κs. search needs)
+    (λ c. omega (arith, next-inside c)) (λ c. search needs) (λ c. search needs) (λ c. search needs)
+    (λ c. next-inside c) all-inside-requires loop-less loop-again add-find-outside (λ c. search needs)
+    (λ c. search needs) (λ c. search needs) (λ c. search needs) find-outside-requires returns returns-2)

@@ -1,5 +1,5 @@
--- Why `edges::find_outside` answers `insideFrom`: the first interval that is no cell decides, and a cell is passed. Rests
--- on no axiom.
+-- Why `edges::find_outside` answers `insideFrom`: the first interval that is no cell decides, and a cell is passed.
+-- Rests on no axiom.
 use Prim.Native.Nat.{ℕ, suc, _+_, _-_, _≤_}
 use mathlib.Core.Path.{_≡_, sym, ap, _∙_}
 use native.Mathlib.Numerals.{add-one}
@@ -80,5 +80,5 @@ returns-3 c =
 pub find-outside-spec : {M : Type 1} → statement M
 find-outside-spec =
     tie.close
-    (tie.spec Inv-loop μ-loop loop-holds (λ c. search needs) (λ c. search needs) add-t11 cast-t12 returns add-t14 cast-t15
-    returns-2 (λ c. search needs) (λ c. search needs) loop-again returns-3)
+    (tie.spec Inv-loop μ-loop loop-holds (λ c. search needs) (λ c. search needs) add-t11 cast-t12 returns add-t14
+    cast-t15 returns-2 (λ c. search needs) (λ c. search needs) loop-again returns-3)

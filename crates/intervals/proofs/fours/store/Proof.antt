@@ -16,7 +16,9 @@ use Rattle.intervals.proofs.fours.store.Tie as tie
 
 abbrev Inv-loop : tie.InvT-loop
 Inv-loop words at out₀ count k₀ out k =
-    (k ≤ count) × (length out ≡ length out₀) × (storedAt out (at + k) (drop k (map alone words)) ≡ storedAt out₀ at (map alone words))
+    (k ≤ count)
+    × (length out ≡ length out₀)
+    × (storedAt out (at + k) (drop k (map alone words)) ≡ storedAt out₀ at (map alone words))
 
 abbrev μ-loop : tie.MeasureT-loop
 μ-loop words at out₀ count k₀ out k = count - k
