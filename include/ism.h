@@ -66,7 +66,7 @@ extern "C" {
  */
 #define ISM_VERSION_MAJOR 0u
 #define ISM_VERSION_MINOR 15u
-#define ISM_VERSION_PATCH 0u
+#define ISM_VERSION_PATCH 1u
 #define ISM_VERSION (ISM_VERSION_MAJOR * 10000u + ISM_VERSION_MINOR * 100u + ISM_VERSION_PATCH)
 
 uint32_t ism_version(void);

@@ -30,11 +30,11 @@ use Rattle.symbols.specs.declared.Cell.{Cell}
 use Rattle.symbols.proofs.RoundTripLaws.{rule-of-write, write-of-read}
 use Rattle.symbols.proofs.RunLaws.{strip-by-ran}
 use Rattle.intervals.specs.Cells.{edgeRule, cellsRead}
-use Rattle.intervals.specs.machine.Pass.{Passed, passed}
-use Rattle.intervals.specs.declared.Pass.{Pass}
+use Rattle.shifts.specs.machine.Pass.{Passed, passed}
+use Rattle.shifts.specs.declared.Pass.{Pass}
 use Rattle.intervals.proofs.ClassCellLaws.{cells-at-most-classes}
 use Rattle.intervals.proofs.TakenAsLaws.{takenCells, units-of-taken-cells, classes-are-taken-as, taken-are-cells}
-use Rattle.intervals.proofs.PassLaws.{pass-over-all}
+use Rattle.shifts.proofs.PassLaws.{pass-over-all}
 use Rattle.codec.specs.Reader.{itemsOfStream, readRule, readOutput}
 
 -- an accepted strip's number is that of its items

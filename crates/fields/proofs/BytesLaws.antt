@@ -10,8 +10,8 @@ use lib.Seq.{drop-append-le, drop-append-add}
 use Rattle.lists.specs.Filled.{storedAt}
 use Rattle.lists.proofs.StoreLaws.{stored-none, stored-next, stored-rest}
 use Rattle.half_cells.specs.machine.Candidate.{candidate}
-use Rattle.intervals.specs.machine.Blocks.{wordsOf}
-use Rattle.intervals.specs.declared.block.Progress.{Progress}
+use Rattle.passes.specs.machine.Blocks.{wordsOf}
+use Rattle.passes.specs.declared.block.Progress.{Progress}
 use Rattle.fields.specs.Bytes.{byteOf}
 use Rattle.fields.proofs.PartLaws.{itemsLeft, Part, items-left}
 

@@ -34,8 +34,8 @@ use Rattle.symbols.proofs.ReadsLaws.{Reads, reads-fresh}
 use Rattle.symbols.proofs.AnswerLaws.{reads-stray, reads-place}
 use Rattle.symbols.proofs.RunLaws.{machine-runs, items-ran}
 use Rattle.intervals.specs.Cells.{edgeRule}
-use Rattle.intervals.specs.machine.Pass.{Passed, passed}
-use Rattle.intervals.specs.declared.Pass.{Pass}
+use Rattle.shifts.specs.machine.Pass.{Passed, passed}
+use Rattle.shifts.specs.declared.Pass.{Pass}
 use Rattle.intervals.proofs.CellLaws.{classOfCell, cellOfUnits}
 use Rattle.intervals.proofs.TakenAsLaws.{takenCells, units-of-taken-cells, classes-are-taken-as}
 use Rattle.fields.specs.Field.{bitsWanted, fieldStop, fieldCells, fieldUsed, fieldItems}

@@ -18,7 +18,7 @@ use Rattle.symbols.proofs.UnitLaws.{cells-at-most-bits}
 use Rattle.symbols.proofs.ReadsLaws.{Reads, reads-fresh}
 use Rattle.symbols.proofs.StepLaws.{reads-step}
 use Rattle.symbols.proofs.AnswerLaws.{reads-enough, reads-too-few}
-use Rattle.intervals.specs.machine.Pass.{Passed, passFrom, passed}
+use Rattle.shifts.specs.machine.Pass.{Passed, passFrom, passed}
 use Rattle.intervals.proofs.CellLaws.{cell-is-read}
 use Rattle.fields.specs.Field.{wantedAfter, bitsWanted, cellsTaken, fieldCells}
 use Rattle.fields.proofs.TakenLaws.{taken-one-more}

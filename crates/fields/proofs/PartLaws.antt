@@ -12,10 +12,10 @@ use Rattle.items.specs.Written.{afterBytes}
 use Rattle.items.specs.declared.Check.{Check}
 use Rattle.items.proofs.CheckLaws.{after-bytes-of-append}
 use Rattle.half_cells.specs.machine.Candidate.{candidate}
-use Rattle.intervals.specs.machine.Pass.{after}
-use Rattle.intervals.specs.machine.Blocks.{restFrom, wordsOf, Reaches}
-use Rattle.intervals.specs.declared.block.Progress.{Progress}
-use Rattle.intervals.proofs.BlockLaws.{Fair, rest-goes-on, words-more, words-fit}
+use Rattle.shifts.specs.machine.Pass.{after}
+use Rattle.passes.specs.machine.Blocks.{restFrom, wordsOf, Reaches}
+use Rattle.passes.specs.declared.block.Progress.{Progress}
+use Rattle.passes.proofs.BlockLaws.{Fair, rest-goes-on, words-more, words-fit}
 
 -- the items of what is left of a pass
 abbrev pub itemsLeft : ℕ → List ℕ → Progress → List ℕ

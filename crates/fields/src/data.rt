@@ -13,8 +13,8 @@ ghost use Rattle.fields.specs.Bytes.{byteOf};
 ghost use Rattle.fields.specs.machine.Gather.{gatherRule};
 ghost use Rattle.fields.specs.machine.End.{itemsPassed};
 use half_cells::words_to_bytes;
-use intervals::block::Progress;
 use lists::at_most;
+use passes::block::Progress;
 use timing::Profile;
 
 // The parts of a field, as in reading its items.

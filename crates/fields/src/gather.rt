@@ -12,11 +12,11 @@ ghost use Rattle.fields.specs.machine.Gather.{gatherRule, GathersItems, 
 ghost use Rattle.fields.specs.machine.End.{fieldPassed, itemsPassed, endRule};
 use half_cells::words_to_bytes;
 use intervals::Pass;
-use intervals::block::Progress;
 use intervals::edges::check_edges;
-use intervals::last_place;
 use items::Check;
 use lists::store;
+use passes::block::Progress;
+use passes::last_place;
 use refusal::Counted;
 use refusal::Refusal;
 use refusal::Verdict;

@@ -3,13 +3,3 @@ pub mod ClassCellLaws
 pub mod EitherLaws
 pub mod TakenAsLaws
 pub mod InsideLaws
-pub mod PassLaws
-pub mod FoursLaws
-pub mod BlockLaws
-pub mod TopLaws
-pub mod AddedLaws
-pub mod EightLaws
-pub mod SixteenLaws
-pub mod LaneLaws
-pub mod ScanLaws
-pub mod LookLaws

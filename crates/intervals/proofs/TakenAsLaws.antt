@@ -16,6 +16,7 @@ use Rattle.timing.proofs.ClassLaws.{classes-none, classes-cons}
 use Rattle.timing.proofs.EdgeLaws.{ascending-past}
 use Rattle.timing.proofs.UnitsLaws.{units-none, units-cons, units-in-range, units-of-cell}
 use Rattle.symbols.specs.Reading.{units}
+use Rattle.symbols.specs.machine.Step.{AllCells}
 use Rattle.symbols.specs.declared.Cell.{Cell}
 use Rattle.intervals.specs.Cells.{edgeRuleFrom, cellsOfClasses}
 use Rattle.intervals.proofs.CellLaws.{ReadAs, cellOfUnits, units-of-its-cell, cell-is-read-as, read-first}
@@ -31,6 +32,13 @@ units-of-taken-cells c (d ∷ ds) =
     let range = units-in-range c d in
     rw (units-cons c d ds)
     (cc (units-of-its-cell (unitsIn c d) (range .0) (range .1), units-of-taken-cells (cursorPast c d) ds))
+
+-- whatever they are, they are taken as cells
+pub units-are-cells : (c : Cursor) (ds : List ℕ) → AllCells (unitsFrom c ds)
+unfolding AllCells unitsFrom
+units-are-cells c [] = tt
+units-are-cells c (d ∷ ds) =
+    let range = units-in-range c d in (range .0, range .1, units-are-cells (cursorPast c d) ds)
 
 -- classes, and cells that they are read as where they are cells
 pub data TakenAs : List Class → List Cell → Type 0 where

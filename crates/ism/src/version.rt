@@ -4,9 +4,9 @@ ghost use Rattle.ism.specs.Version.{versionNumber};
 
 #[no_mangle]
 pub extern "C" fn ism_version() -> u32
-    ensures { λ r. ⌜ r ≡ versionNumber 0 15 0 ⌝ }
+    ensures { λ r. ⌜ r ≡ versionNumber 0 15 1 ⌝ }
 {
-    1500
+    1501
 }
 
 // Its name is what counts: a program asks the linker for the interface that it was compiled against.

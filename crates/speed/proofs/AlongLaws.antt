@@ -23,11 +23,11 @@ use Rattle.items.specs.Written.{freshCheck, afterBytes}
 use Rattle.half_cells.specs.machine.Candidate.{candidate}
 use Rattle.intervals.specs.Cells.{edgeRuleFrom, edgeRule}
 use Rattle.symbols.specs.machine.Step.{freshReading}
-use Rattle.intervals.specs.machine.Pass.{Passed, ended}
-use Rattle.intervals.specs.machine.Blocks.{atFirst, passOn, restFrom, wordsOf, Reaches}
-use Rattle.intervals.proofs.BlockLaws.{Fair, fair-at-first, fair-after, all-at-first}
-use Rattle.intervals.proofs.FoursLaws.{units-are-cells}
-use Rattle.intervals.proofs.PassLaws.{Counts, pass-counts}
+use Rattle.shifts.specs.machine.Pass.{Passed, ended}
+use Rattle.passes.specs.machine.Blocks.{atFirst, passOn, restFrom, wordsOf, Reaches}
+use Rattle.passes.proofs.BlockLaws.{Fair, fair-at-first, fair-after, all-at-first}
+use Rattle.intervals.proofs.TakenAsLaws.{units-are-cells}
+use Rattle.shifts.proofs.PassLaws.{Counts, pass-counts}
 use Rattle.intervals.proofs.TakenAsLaws.{edges-of-append}
 use Rattle.fields.specs.machine.End.{fieldPassed, itemsPassed}
 use Rattle.fields.proofs.EndLaws.{field-ends}
@@ -99,7 +99,7 @@ module _
     -- where bytes are wanted still, all of the block was used
     all-used : next .at .pass .reading .words < n → usedNext ≡ used + length block
     all-used h =
-        ap (λ (q : Rattle.intervals.specs.declared.Pass.Pass). q .used) (takes .pass)
+        ap (λ (q : Rattle.shifts.specs.declared.Pass.Pass). q .used) (takes .pass)
         ∙ counts .all-used (rw (takes .pass) at h)
         ∙ omega (arith, units-count (a .at .cursor) block)
 

@@ -9,11 +9,11 @@ use Rattle.lists.specs.Filled.{storedAt}
 use Rattle.lists.proofs.StoreLaws.{stored-length, front-of-stored}
 use Rattle.timing.specs.machine.Edges.{unitsFrom}
 use Rattle.timing.proofs.UnitsLaws.{units-count}
-use Rattle.intervals.specs.machine.Blocks.{passOn}
-use Rattle.intervals.specs.declared.Pass.{Pass}
-use Rattle.intervals.specs.declared.block.Progress.{Progress}
-use Rattle.intervals.proofs.FoursLaws.{units-are-cells}
-use Rattle.intervals.proofs.PassLaws.{Counts, pass-counts}
+use Rattle.passes.specs.machine.Blocks.{passOn}
+use Rattle.shifts.specs.declared.Pass.{Pass}
+use Rattle.passes.specs.declared.block.Progress.{Progress}
+use Rattle.intervals.proofs.TakenAsLaws.{units-are-cells}
+use Rattle.shifts.proofs.PassLaws.{Counts, pass-counts}
 
 module _
     (n : ℕ) (at : Progress) (block : List ℕ) (small : n < 2 ^ 32) (room : at .pass .reading .held ≤ 16)

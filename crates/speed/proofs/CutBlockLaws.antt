@@ -5,7 +5,7 @@ use mathlib.Core.Path.{_≡_, sym, ap, _∙_}
 use mathlib.Core.List.{List}
 use native.Mathlib.Omega.{arith}
 use lib.ListN.{length, take, drop, length-take, length-drop}
-use Rattle.intervals.proofs.BlockLaws.{take-taken}
+use Rattle.passes.proofs.BlockLaws.{take-taken}
 use Rattle.pace.specs.machine.Cut.{cutFrom}
 use Rattle.pace.proofs.CutLaws.{cut-take, cut-drop}
 

@@ -25,7 +25,7 @@ use Rattle.symbols.specs.machine.Step.{strayNow, placeNow}
 use Rattle.symbols.specs.declared.Cell.{Cell}
 use Rattle.symbols.specs.declared.Reading.{Reading}
 use Rattle.intervals.specs.Cells.{edgeRule}
-use Rattle.intervals.specs.declared.Pass.{Pass}
+use Rattle.shifts.specs.declared.Pass.{Pass}
 use Rattle.fields.specs.Field.{fieldCells, fieldUsed, holdsAfter, fieldHolds}
 use Rattle.fields.specs.machine.End.{endRule}
 use Rattle.fields.specs.machine.Gather.{gatherRule, TellsSum}

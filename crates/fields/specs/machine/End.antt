@@ -9,7 +9,7 @@ use Rattle.timing.specs.declared.Profile.{Profile}
 use Rattle.half_cells.specs.machine.Candidate.{candidate}
 use Rattle.symbols.specs.machine.Step.{strayNow, placeNow}
 use Rattle.symbols.specs.declared.Reading.{Reading}
-use Rattle.intervals.specs.machine.Pass.{Passed, passed}
+use Rattle.shifts.specs.machine.Pass.{Passed, passed}
 
 -- a pass over the intervals of n bytes, each taken as a cell, and its items
 abbrev pub fieldPassed : Profile → List ℕ → ℕ → Passed

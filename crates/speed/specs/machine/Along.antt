@@ -12,7 +12,7 @@ use Rattle.timing.specs.declared.cursor.Cursor.{Cursor}
 use Rattle.items.specs.Written.{freshCheck, afterBytes}
 use Rattle.half_cells.specs.machine.Candidate.{candidate}
 use Rattle.intervals.specs.Cells.{edgeRuleFrom, edgeRule}
-use Rattle.intervals.specs.machine.Blocks.{atFirst, passOn}
+use Rattle.passes.specs.machine.Blocks.{atFirst, passOn}
 use Rattle.fields.specs.Field.{fieldUsed}
 use Rattle.fields.specs.machine.End.{fieldPassed, itemsPassed}
 use Rattle.fields.specs.machine.Gather.{gatherRule}

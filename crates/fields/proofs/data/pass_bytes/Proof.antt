@@ -10,8 +10,8 @@ use borrow.Author.Needs.{needs}
 use Rattle.lists.specs.Filled.{storedAt}
 use Rattle.lists.proofs.StoreLaws.{stored-none, stored-length}
 use Rattle.symbols.specs.machine.Step.{freshReading}
-use Rattle.intervals.specs.machine.Blocks.{atFirst, restFrom}
-use Rattle.intervals.proofs.BlockLaws.{Fair, fair-at-first, all-at-first, rest-wants, rest-stops, fair-after, comes-nearer}
+use Rattle.passes.specs.machine.Blocks.{atFirst, restFrom}
+use Rattle.passes.proofs.BlockLaws.{Fair, fair-at-first, all-at-first, rest-wants, rest-stops, fair-after, comes-nearer}
 use Rattle.fields.specs.Bytes.{byteOf}
 use Rattle.fields.proofs.PartLaws.{itemsLeft, Part, read-part, still-long}
 use Rattle.fields.proofs.BytesLaws.{bytes-go-on}

@@ -10,9 +10,9 @@ use Rattle.lists.specs.Filled.{storedAt}
 use Rattle.lists.proofs.StoreLaws.{stored-none, stored-length}
 use Rattle.items.specs.Written.{afterBytes}
 use Rattle.symbols.specs.machine.Step.{freshReading}
-use Rattle.intervals.specs.machine.Pass.{Passed}
-use Rattle.intervals.specs.machine.Blocks.{atFirst, restFrom}
-use Rattle.intervals.proofs.BlockLaws.{Fair, fair-at-first, all-at-first, rest-wants, rest-stops, fair-after, comes-nearer}
+use Rattle.shifts.specs.machine.Pass.{Passed}
+use Rattle.passes.specs.machine.Blocks.{atFirst, restFrom}
+use Rattle.passes.proofs.BlockLaws.{Fair, fair-at-first, all-at-first, rest-wants, rest-stops, fair-after, comes-nearer}
 use Rattle.fields.proofs.PartLaws.{itemsLeft, Part, read-part, still-long, goes-on, sum-goes-on, store-goes-on}
 use Rattle.fields.proofs.gather.pass_items.Statement.{statement}
 use Rattle.fields.proofs.gather.pass_items.Tie as tie

@@ -7,8 +7,8 @@ use borrow.Author.Needs.{needs}
 use Rattle.lists.specs.Filled.{storedAt}
 use Rattle.lists.proofs.StoreLaws.{stored-length}
 use Rattle.symbols.specs.machine.Step.{freshReading}
-use Rattle.intervals.specs.machine.Blocks.{atFirst, wordsOf}
-use Rattle.intervals.proofs.BlockLaws.{rest-wants, rest-stops, comes-nearer}
+use Rattle.passes.specs.machine.Blocks.{atFirst, wordsOf}
+use Rattle.passes.proofs.BlockLaws.{rest-wants, rest-stops, comes-nearer}
 use Rattle.fields.proofs.PartLaws.{itemsLeft}
 use Rattle.pace.specs.machine.Cut.{slowed}
 use Rattle.pace.proofs.CutLaws.{slowed-count}

@@ -7,7 +7,7 @@ use native.Mathlib.Omega.{arith}
 use lib.ListN.{length, take, replicate}
 use lib.Seq.{length-take-le}
 use borrow.Author.Needs.{needs}
-use Rattle.intervals.specs.machine.Blocks.{passOn}
+use Rattle.passes.specs.machine.Blocks.{passOn}
 use Rattle.speed.proofs.BlockReadLaws.{words-more, words-are-few, front-is-words}
 use Rattle.speed.proofs.gather.read_block.Statement.{statement}
 use Rattle.speed.proofs.gather.read_block.Tie as tie

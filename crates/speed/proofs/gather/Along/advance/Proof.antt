@@ -7,7 +7,7 @@ use native.Mathlib.Omega.{arith}
 use lib.ListN.{length, take, drop, replicate, length-take, length-drop, length-append}
 use lib.Seq.{length-take-le, take-at}
 use borrow.Author.Needs.{needs}
-use Rattle.intervals.specs.machine.Blocks.{wordsOf}
+use Rattle.passes.specs.machine.Blocks.{wordsOf}
 use Rattle.pace.specs.machine.Cut.{slowed}
 use Rattle.pace.proofs.CutLaws.{cut-count}
 use Rattle.speed.proofs.CutBlockLaws.{block-is-cut}

@@ -1,0 +1,4 @@
+pub mod BlockLaws
+pub mod LaneLaws
+pub mod ScanLaws
+pub mod LookLaws
