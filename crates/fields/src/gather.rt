@@ -11,7 +11,6 @@ ghost use Rattle.half_cells.specs.machine.Candidate.{candidate};
 ghost use Rattle.fields.specs.machine.Gather.{gatherRule, GathersItems, TellsSum};
 ghost use Rattle.fields.specs.machine.End.{fieldPassed, itemsPassed, endRule};
 use half_cells::words_to_bytes;
-use intervals::Pass;
 use intervals::edges::check_edges;
 use items::Check;
 use lists::store;
@@ -20,6 +19,7 @@ use passes::last_place;
 use refusal::Counted;
 use refusal::Refusal;
 use refusal::Verdict;
+use shifts::Pass;
 use symbols::Reading;
 use timing::Profile;
 
