@@ -179,10 +179,14 @@ struct items_Check {
     bool marked;
 };
 
-/* items::list::Stored, crates/items/src/list.rt */
-struct items_list_Stored {
+/* items::bytes::Stored, crates/items/src/bytes.rt */
+struct items_bytes_Stored {
     struct items_Check check;
     uint64_t count;
+};
+
+struct array_u16_2 {
+    uint16_t a[2];
 };
 
 /* refusal::Verdict, crates/refusal/src/lib.rt */
@@ -224,6 +228,38 @@ struct symbols_Reading {
     uint32_t words;
     uint32_t place;
     bool stray;
+};
+
+/* shifts::top::Top, crates/shifts/src/top.rt */
+struct shifts_top_Top {
+    uint64_t cells;
+    uint32_t free;
+};
+
+struct slice_u32 {
+    const uint32_t *at;
+    uint64_t len;
+};
+
+/* shifts::Pass, crates/shifts/src/lib.rt */
+struct shifts_Pass {
+    struct symbols_Reading reading;
+    uint64_t used;
+};
+
+/* shifts::fours::Fours, crates/shifts/src/fours.rt */
+struct shifts_fours_Fours {
+    struct symbols_Reading reading;
+    uint64_t count;
+};
+
+struct slice_u32_mut {
+    uint32_t *at;
+    uint64_t len;
+};
+
+struct array_u32_32 {
+    uint32_t a[32];
 };
 
 /* timing::HalfClocks, crates/timing/src/lib.rt */
@@ -290,50 +326,8 @@ struct timing_cursor_Classed {
     struct timing_cursor_Cursor next;
 };
 
-/* intervals::fours::Top, crates/intervals/src/fours.rt */
-struct intervals_fours_Top {
-    uint64_t cells;
-    uint32_t free;
-};
-
-struct slice_u32 {
-    const uint32_t *at;
-    uint64_t len;
-};
-
-/* intervals::Pass, crates/intervals/src/lib.rt */
-struct intervals_Pass {
-    struct symbols_Reading reading;
-    uint64_t used;
-};
-
-/* intervals::block::Progress, crates/intervals/src/block.rt */
-struct intervals_block_Progress {
-    struct intervals_Pass pass;
-    struct timing_cursor_Cursor cursor;
-};
-
-/* intervals::fours::Fours, crates/intervals/src/fours.rt */
-struct intervals_fours_Fours {
-    struct symbols_Reading reading;
-    uint64_t count;
-};
-
-struct slice_u32_mut {
-    uint32_t *at;
-    uint64_t len;
-};
-
-struct array_u32_32 {
-    uint32_t a[32];
-};
-
 struct array_u16_129 {
     uint16_t a[129];
-};
-
-struct array_u8_128 {
-    uint8_t a[128];
 };
 
 struct array_u16_10 {
@@ -367,6 +361,39 @@ struct pace_Pace {
     uint32_t nominal;
     uint32_t even;
     uint32_t odd;
+};
+
+/* passes::block::Progress, crates/passes/src/block.rt */
+struct passes_block_Progress {
+    struct shifts_Pass pass;
+    struct timing_cursor_Cursor cursor;
+};
+
+struct array_u8_128 {
+    uint8_t a[128];
+};
+
+struct array_u16_0 {
+    uint16_t a[1];
+};
+
+/* passes::scan::Tally, crates/passes/src/scan.rt */
+struct passes_scan_Tally {
+    uint32_t sum;
+    bool gap;
+};
+
+/* passes::look::Seen, crates/passes/src/look.rt */
+struct passes_look_Seen {
+    struct symbols_Reading reading;
+    bool clear;
+};
+
+/* passes::look::Look, crates/passes/src/look.rt */
+struct passes_look_Look {
+    struct passes_look_Seen seen;
+    uint64_t used;
+    struct timing_cursor_Cursor cursor;
 };
 
 struct array_u64_4 {
@@ -414,7 +441,7 @@ struct array_u16_65 {
 
 /* fields::gather::Summed, crates/fields/src/gather.rt */
 struct fields_gather_Summed {
-    struct intervals_Pass pass;
+    struct shifts_Pass pass;
     struct items_Check check;
 };
 
@@ -528,12 +555,6 @@ struct images_count_Tally {
     uint16_t previous;
 };
 
-/* images::count::Part, crates/images/src/count.rt */
-struct images_count_Part {
-    struct images_count_Tally tally;
-    struct items_Check check;
-};
-
 struct array_u16_128 {
     uint16_t a[128];
 };
@@ -542,14 +563,6 @@ struct array_u16_128 {
 struct codec_pen_Pen {
     uint64_t previous;
     uint64_t cells;
-};
-
-struct array_u16_0 {
-    uint16_t a[1];
-};
-
-struct array_u16_2 {
-    uint16_t a[2];
 };
 
 /* codec::writer::Part, crates/codec/src/writer.rt */
@@ -645,7 +658,7 @@ struct limits_Held {
 
 /* speed::gather::BlockRead, crates/speed/src/gather.rt */
 struct speed_gather_BlockRead {
-    struct intervals_block_Progress at;
+    struct passes_block_Progress at;
     struct items_Check check;
 };
 
@@ -659,7 +672,7 @@ struct array_u16_17 {
 
 /* speed::gather::Along, crates/speed/src/gather.rt */
 struct speed_gather_Along {
-    struct intervals_block_Progress at;
+    struct passes_block_Progress at;
     struct items_Check check;
     struct refusal_Verdict edges;
     struct clearance_seen_Seen seen;
@@ -755,6 +768,11 @@ static uint16_t std_num_wrapping_add_u16(uint16_t p1, uint16_t p2) {
 /* std::num::wrapping_add_u32, of the kit's library */
 static uint32_t std_num_wrapping_add_u32(uint32_t p1, uint32_t p2) {
     return (uint32_t)(p1 + p2);
+}
+
+/* std::num::wrapping_add_u64, of the kit's library */
+static uint64_t std_num_wrapping_add_u64(uint64_t p1, uint64_t p2) {
+    return (uint64_t)(p1 + p2);
 }
 
 /* std::num::wrapping_sub_u16, of the kit's library */
@@ -957,6 +975,20 @@ static uint16_t register_feed(uint16_t register_, uint16_t byte) {
 }
 
 /*
+ * register::feed_eight, crates/register/src/lib.rt
+ * Eight bytes at once, the first at the top. With z for a shift to the right by one, what leaves at the top is their
+ * product with the inverse of 1 + z^4 + z^11 + z^16, which below z^64 has four factors.
+ */
+static uint16_t register_feed_eight(uint16_t register_, uint64_t eight) {
+    uint64_t a = eight ^ (uint64_t)((uint64_t)register_ << 48);
+    uint64_t b = a ^ (a >> 4) ^ (a >> 11) ^ (a >> 16);
+    uint64_t c = b ^ (b >> 8) ^ (b >> 22) ^ (b >> 32);
+    uint64_t d = c ^ (c >> 16) ^ (c >> 44);
+    uint16_t x = (uint16_t)((d ^ (d >> 32)) % 65536);
+    return (uint16_t)((uint32_t)x << 12) ^ (uint16_t)((uint32_t)x << 5) ^ x;
+}
+
+/*
  * register::feed_two, crates/register/src/lib.rt
  * Two data bytes at once: all 16 bits leave at the top, and of what they add, x^12 brings bits to the top three times
  * more and x^5 once.
@@ -985,6 +1017,22 @@ static uint16_t items_Check_before_mark(struct items_Check self) {
     return 65535;
 }
 
+/* items::lanes::four_at, crates/items/src/lanes.rt */
+static uint64_t items_lanes_four_at(struct slice_u16 numbers, uint64_t k) {
+    uint64_t t19 = (uint64_t)((uint64_t)numbers.at[k + 2] << 32);
+    uint64_t t26 = (uint64_t)((uint64_t)numbers.at[k + 3] << 48);
+    return (uint64_t)numbers.at[k] | (uint64_t)((uint64_t)numbers.at[k + 1] << 16) | t19 | t26;
+}
+
+/*
+ * items::lanes::clear_at, crates/items/src/lanes.rt
+ * Whether eight numbers have none of some bits, given for four lanes.
+ */
+static bool items_lanes_clear_at(struct slice_u16 numbers, uint64_t k, uint64_t bits) {
+    uint64_t t4 = items_lanes_four_at(numbers, k);
+    return ((t4 | items_lanes_four_at(numbers, k + 4)) & bits) == 0;
+}
+
 /* items::Check::fresh, crates/items/src/lib.rt */
 static struct items_Check items_Check_fresh(void) {
     return (struct items_Check){.register_ = 65535, .marked = false};
@@ -998,12 +1046,6 @@ static uint16_t items_Check_high(struct items_Check self) {
 /* items::is_check, crates/items/src/lib.rt */
 static bool items_is_check(uint16_t n) {
     return n == 512;
-}
-
-/* items::bytes_of, crates/items/src/lib.rt: How many written bytes a number counts for, an item or not. */
-static uint64_t items_bytes_of(uint16_t n) {
-    if (items_is_check(n)) return 2;
-    return 1;
 }
 
 /*
@@ -1032,43 +1074,6 @@ static struct items_Check items_Check_after_byte(struct items_Check self, uint16
         return (struct items_Check){.register_ = register_feed(items_Check_before_mark(self), byte), .marked = true};
     }
     return (struct items_Check){.register_ = register_feed(self.register_, byte), .marked = false};
-}
-
-/* items::Check::after_item, crates/items/src/lib.rt */
-static struct items_Check items_Check_after_item(struct items_Check self, uint16_t n) {
-    if (items_is_check(n)) return items_Check_after_check(self);
-    return items_Check_after_byte(self, n);
-}
-
-/*
- * items::Check::after_run, crates/items/src/lib.rt
- * A run of bytes from a place on: the number there, and then data bytes, two at a time. Answers the state and the
- * place after the run.
- */
-static struct items_list_Stored items_Check_after_run(struct items_Check self, struct slice_u16 bytes, uint64_t from) {
-    uint64_t last = bytes.len - 1;
-    struct items_Check check = items_Check_after_byte(self, bytes.at[from]);
-    uint64_t k = from + 1;
-    while (k < last) {
-        uint16_t high = bytes.at[k];
-        uint16_t low = bytes.at[k + 1];
-        if (255 < (high | low)) return (struct items_list_Stored){.check = check, .count = k};
-        check = (struct items_Check){.register_ = register_feed_two(check.register_, high, low), .marked = false};
-        k += 2;
-    }
-    return (struct items_list_Stored){.check = check, .count = k};
-}
-
-/* items::Check::after_bytes, crates/items/src/lib.rt: The state after written bytes have passed through. */
-static struct items_Check items_Check_after_bytes(struct items_Check self, struct slice_u16 bytes) {
-    struct items_Check check = self;
-    uint64_t k = 0;
-    while (k < bytes.len) {
-        struct items_list_Stored next = items_Check_after_run(check, bytes, k);
-        check = next.check;
-        k = next.count;
-    }
-    return check;
 }
 
 /* items::is_item, crates/items/src/lib.rt */
@@ -1105,18 +1110,77 @@ static uint64_t items_list_find_foreign(struct slice_u16 items) {
     return k;
 }
 
+/*
+ * items::lanes::joined_four, crates/items/src/lanes.rt
+ * Four data bytes as one number, the first at the top: those side by side move together first.
+ */
+static uint64_t items_lanes_joined_four(struct slice_u16 bytes, uint64_t k) {
+    uint64_t lanes = items_lanes_four_at(bytes, k);
+    uint64_t pairs = (uint64_t)(lanes << 8) | (lanes >> 16);
+    return (uint64_t)((pairs % 65536) << 16) | ((pairs >> 32) % 65536);
+}
+
+/* items::lanes::joined_eight, crates/items/src/lanes.rt: Eight data bytes as one number, the first at the top. */
+static uint64_t items_lanes_joined_eight(struct slice_u16 bytes, uint64_t k) {
+    uint64_t t4 = (uint64_t)(items_lanes_joined_four(bytes, k) << 32);
+    return t4 | items_lanes_joined_four(bytes, k + 4);
+}
+
+/*
+ * items::lanes::after_eights, crates/items/src/lanes.rt
+ * Data bytes from a place on, eight at a time. Answers the state and the place after them.
+ */
+static struct items_bytes_Stored items_lanes_after_eights(struct items_Check start, struct slice_u16 bytes,
+        uint64_t from) {
+    struct items_Check check = start;
+    uint64_t k = from;
+    while (8 <= bytes.len - k) {
+        if (items_lanes_clear_at(bytes, k, 18374966859414961920ull)) {
+            check = (struct items_Check){.register_ = register_feed_eight(check.register_,
+                    items_lanes_joined_eight(bytes, k)), .marked = false};
+            k += 8;
+        } else {
+            return (struct items_bytes_Stored){.check = check, .count = k};
+        }
+    }
+    return (struct items_bytes_Stored){.check = check, .count = k};
+}
+
+/*
+ * items::Check::after_run, crates/items/src/lib.rt
+ * A run of bytes from a place on: the number there, and then data bytes, eight and two at a time. Answers the state
+ * and the place after the run.
+ */
+static struct items_bytes_Stored items_Check_after_run(struct items_Check self, struct slice_u16 bytes, uint64_t from) {
+    uint64_t last = bytes.len - 1;
+    struct items_Check first = items_Check_after_byte(self, bytes.at[from]);
+    struct items_bytes_Stored eights = items_lanes_after_eights(first, bytes, from + 1);
+    struct items_Check check = eights.check;
+    uint64_t k = eights.count;
+    while (k < last) {
+        uint16_t high = bytes.at[k];
+        uint16_t low = bytes.at[k + 1];
+        if (255 < (high | low)) return (struct items_bytes_Stored){.check = check, .count = k};
+        check = (struct items_Check){.register_ = register_feed_two(check.register_, high, low), .marked = false};
+        k += 2;
+    }
+    return (struct items_bytes_Stored){.check = check, .count = k};
+}
+
 /* items::Check::low, crates/items/src/lib.rt */
 static uint16_t items_Check_low(struct items_Check self) {
     return self.register_ % 256;
 }
 
-/* items::list::pass_stretches, crates/items/src/list.rt: Passes over whole stretches with no check order. */
-static uint64_t items_list_pass_stretches(struct slice_u16 items) {
+/* items::list::pass_eights, crates/items/src/list.rt: Passes over numbers below a check order, eight at a time. */
+static uint64_t items_list_pass_eights(struct slice_u16 items) {
     uint64_t k = 0;
-    while (32 <= items.len - k) {
-        uint64_t end = k + 32;
-        if (0 < items_list_count_checks(items, k, end)) return k;
-        k = end;
+    while (8 <= items.len - k) {
+        if (items_lanes_clear_at(items, k, 18302908165848628736ull)) {
+            k += 8;
+        } else {
+            return k;
+        }
     }
     return k;
 }
@@ -1126,7 +1190,7 @@ static uint64_t items_list_pass_stretches(struct slice_u16 items) {
  * The place of the lowest check order; the length where there is none.
  */
 static uint64_t items_list_find_check(struct slice_u16 items) {
-    uint64_t k = items_list_pass_stretches(items);
+    uint64_t k = items_list_pass_eights(items);
     while (k < items.len) {
         if (items_is_check(items.at[k])) return k;
         k++;
@@ -1134,37 +1198,74 @@ static uint64_t items_list_find_check(struct slice_u16 items) {
     return k;
 }
 
-/* items::list::put_item, crates/items/src/list.rt: Stores an item's bytes from `at` on. */
-static void items_list_put_item(struct slice_u16_mut out, uint64_t at, struct items_Check check, uint16_t n) {
-    if (items_is_check(n)) {
-        uint16_t high = items_Check_high(check);
-        uint16_t low = items_Check_low(check);
-        if (at < out.len) {
-            lists_put(out, at, high);
-            lists_put(out, at + 1, low);
+/* items::marks::three_marks, crates/items/src/marks.rt */
+static bool items_marks_three_marks(struct slice_u16 bytes, uint64_t k) {
+    if (bytes.at[k] == 417) {
+        if (bytes.at[k + 1] == 417) {
+            if (bytes.at[k + 2] == 417) return true;
         }
-    } else {
-        lists_put(out, at, n);
     }
+    return false;
 }
 
 /*
- * items::list::write_each, crates/items/src/list.rt
- * Stores a list's bytes item by item, so that a check order finds the register as it is then.
+ * items::marks::after_part, crates/items/src/marks.rt
+ * A run of bytes from a place on. Three marks A1 after another byte leave a register that is known.
  */
-static struct items_list_Stored items_list_write_each(struct items_Check start, struct slice_u16 items,
+static struct items_bytes_Stored items_marks_after_part(struct items_Check start, struct slice_u16 bytes,
+        uint64_t from) {
+    if (start.marked) return items_Check_after_run(start, bytes, from);
+    if (bytes.len - from < 3) return items_Check_after_run(start, bytes, from);
+    if (items_marks_three_marks(bytes, from)) {
+        return (struct items_bytes_Stored){.check = {.register_ = 52660, .marked = true}, .count = from + 3};
+    }
+    return items_Check_after_run(start, bytes, from);
+}
+
+/* items::Check::after_bytes, crates/items/src/lib.rt: The state after written bytes have passed through. */
+static struct items_Check items_Check_after_bytes(struct items_Check self, struct slice_u16 bytes) {
+    struct items_Check check = self;
+    uint64_t k = 0;
+    while (k < bytes.len) {
+        struct items_bytes_Stored next = items_marks_after_part(check, bytes, k);
+        check = next.check;
+        k = next.count;
+    }
+    return check;
+}
+
+/* items::bytes::write_run, crates/items/src/bytes.rt: A run of bytes, and the two of the check order behind it. */
+static struct items_Check items_bytes_write_run(struct items_Check start, struct slice_u16 run, uint64_t at,
+        struct slice_u16_mut out) {
+    struct items_Check check = items_Check_after_bytes(start, run);
+    uint16_t high = items_Check_high(check);
+    uint16_t low = items_Check_low(check);
+    struct array_u16_2 bytes = {{high, low}};
+    lists_store(run, at, out);
+    lists_store(slice_u16(bytes.a, 2), at + run.len, out);
+    return items_Check_after_check(check);
+}
+
+/*
+ * items::bytes::write_bytes, crates/items/src/bytes.rt
+ * Stores a list's bytes, from a state of the register on, from the front of `out` on, as far as it reaches.
+ */
+static struct items_bytes_Stored items_bytes_write_bytes(struct items_Check start, struct slice_u16 items,
         struct slice_u16_mut out) {
     struct items_Check check = start;
     uint64_t at = 0;
-    uint64_t k = 0;
-    while (k < items.len) {
-        uint16_t n = items.at[k];
-        items_list_put_item(out, at, check, n);
-        check = items_Check_after_item(check, n);
-        at += items_bytes_of(n);
-        k++;
+    uint64_t from = 0;
+    uint64_t run = items_list_find_check(items);
+    while (run < items.len - from) {
+        uint64_t end = from + run;
+        check = items_bytes_write_run(check, slice_u16(items.at + from, end - from), at, out);
+        at += run + 2;
+        from = end + 1;
+        run = items_list_find_check(slice_u16(items.at + from, items.len - from));
     }
-    return (struct items_list_Stored){.check = check, .count = at};
+    struct slice_u16 last = slice_u16(items.at + from, items.len - from);
+    lists_store(last, at, out);
+    return (struct items_bytes_Stored){.check = items_Check_after_bytes(check, last), .count = at + last.len};
 }
 
 /* items::list::written_bytes, crates/items/src/list.rt: How many bytes a list writes. */
@@ -1191,21 +1292,6 @@ static struct refusal_Verdict items_list_check_list(struct slice_u16 items) {
     if (items_list_all_items(items)) return (struct refusal_Verdict){.tag = refusal_Verdict_Accepted};
     return (struct refusal_Verdict){.tag = refusal_Verdict_Refused,
             .u.Refused = {.tag = refusal_Refusal_NotAnItem, .u.NotAnItem = (uint32_t)items_list_find_foreign(items)}};
-}
-
-/*
- * items::list::write_bytes, crates/items/src/list.rt
- * Stores a list's bytes, from a state of the register on, from the front of `out` on, as far as it reaches. A list
- * with no check order is its own bytes.
- */
-static struct items_list_Stored items_list_write_bytes(struct items_Check start, struct slice_u16 items,
-        struct slice_u16_mut out) {
-    uint64_t count = items_list_written_bytes(items);
-    if (count == items.len) {
-        lists_store(items, 0, out);
-        return (struct items_list_Stored){.check = items_Check_after_bytes(start, items), .count = count};
-    }
-    return items_list_write_each(start, items, out);
 }
 
 /* The crate fifo */
@@ -1741,7 +1827,10 @@ static struct symbols_Reading symbols_Reading_close(struct symbols_Reading self,
     return self;
 }
 
-/* symbols::Reading::empty, crates/symbols/src/lib.rt: No half cell, to shift cells into that are to be joined. */
+/*
+ * symbols::Reading::empty, crates/symbols/src/lib.rt
+ * No half cell: after sixteen cells a register is the same whatever it held.
+ */
 static struct symbols_Reading symbols_Reading_empty(void) {
     return (struct symbols_Reading){.bits = 0, .held = 0, .words = 0, .place = 0, .stray = false};
 }
@@ -1795,6 +1884,195 @@ static uint16_t symbols_Reading_word(struct symbols_Reading self) {
     uint32_t surplus = (self.held - 17) % 32;
     uint32_t x = (self.bits >> surplus) % 131072;
     return (uint16_t)(x % 65536);
+}
+
+/* The crate shifts */
+
+/* shifts::top::add_cell, crates/shifts/src/top.rt */
+static struct shifts_top_Top shifts_top_add_cell(struct shifts_top_Top t, uint8_t units) {
+    uint32_t free = std_num_wrapping_sub_u32(t.free, (uint32_t)units);
+    return (struct shifts_top_Top){.cells = t.cells | (uint64_t)((uint64_t)1 << (uint64_t)(free % 64)), .free = free};
+}
+
+/* shifts::top::add_four, crates/shifts/src/top.rt: The four cells from a place on. */
+static struct shifts_top_Top shifts_top_add_four(struct shifts_top_Top t, struct slice_u8 units, uint64_t k) {
+    struct shifts_top_Top t5 = shifts_top_add_cell(t, units.at[k]);
+    struct shifts_top_Top two = shifts_top_add_cell(t5, units.at[k + 1]);
+    t5 = shifts_top_add_cell(two, units.at[k + 2]);
+    return shifts_top_add_cell(t5, units.at[k + 3]);
+}
+
+/*
+ * shifts::fours::all_fit, crates/shifts/src/fours.rt
+ * Whether no gap is out of place, with no jump for any word, so that it is told in vector instructions.
+ */
+static bool shifts_fours_all_fit(struct slice_u32 words) {
+    bool all = true;
+    uint64_t k = 0;
+    while (k < words.len) {
+        all = all & half_cells_fits(words.at[k]);
+        k++;
+    }
+    return all;
+}
+
+/*
+ * shifts::shift::goes_by_eights, crates/shifts/src/shift.rt
+ * Whether cells that make so many words at most go by eights: not a few, nor those behind no half cell, as at first,
+ * nor the end of a field.
+ */
+static bool shifts_shift_goes_by_eights(struct symbols_Reading m, uint64_t room, uint32_t most) {
+    return (4 <= room) & (1 <= m.held) & (room < (uint64_t)(most - m.words));
+}
+
+/* shifts::top::is_whole, crates/shifts/src/top.rt */
+static bool shifts_top_is_whole(struct shifts_top_Top t) {
+    return t.free < 48;
+}
+
+/* shifts::top::ease, crates/shifts/src/top.rt: On to the next byte where one is whole, without a jump. */
+static struct shifts_top_Top shifts_top_ease(struct shifts_top_Top t) {
+    uint32_t more = 16 * (uint32_t)shifts_top_is_whole(t);
+    return (struct shifts_top_Top){.cells = (uint64_t)(t.cells << (uint64_t)more),
+            .free = std_num_wrapping_add_u32(t.free, more)};
+}
+
+/* shifts::top::past_word, crates/shifts/src/top.rt: On to the next byte. */
+static struct shifts_top_Top shifts_top_past_word(struct shifts_top_Top t) {
+    return (struct shifts_top_Top){.cells = (uint64_t)(t.cells << 16), .free = std_num_wrapping_add_u32(t.free, 16)};
+}
+
+/* shifts::fours::shift_four, crates/shifts/src/fours.rt */
+static struct symbols_Reading shifts_fours_shift_four(struct symbols_Reading m, struct slice_u8 units, uint64_t k) {
+    struct symbols_Reading t5 = symbols_Reading_shift(m, units.at[k]);
+    struct symbols_Reading two = symbols_Reading_shift(t5, units.at[k + 1]);
+    t5 = symbols_Reading_shift(two, units.at[k + 2]);
+    return symbols_Reading_shift(t5, units.at[k + 3]);
+}
+
+/*
+ * shifts::fours::last_bits, crates/shifts/src/fours.rt
+ * The register after sixteen cells, which have all its half cells.
+ */
+static uint32_t shifts_fours_last_bits(struct slice_u8 units, uint64_t k) {
+    struct symbols_Reading half =
+            shifts_fours_shift_four(shifts_fours_shift_four(symbols_Reading_empty(), units, k), units, k + 4);
+    return shifts_fours_shift_four(shifts_fours_shift_four(half, units, k + 8), units, k + 12).bits;
+}
+
+/*
+ * shifts::shift::shift_in, crates/shifts/src/shift.rt
+ * Cells of so many units, the first at place `from`, until so many bytes are whole or no cell is left. Bytes are
+ * counted only where one is closed, which keeps the loop short. Code words are stored from place `to` on, where there
+ * is room.
+ */
+static struct shifts_Pass shifts_shift_shift_in(struct symbols_Reading start, struct slice_u8 units, uint64_t from,
+        uint32_t most, uint64_t to, struct slice_u16_mut out) {
+    struct symbols_Reading m = start;
+    uint64_t store_at = to;
+    uint64_t k = 0;
+    while (k < units.len) {
+        struct symbols_Reading next = symbols_Reading_shift(m, units.at[k]);
+        uint64_t place = from + k;
+        k++;
+        if (symbols_Reading_is_whole(next)) {
+            lists_put(out, store_at, symbols_Reading_word(next));
+            store_at++;
+            m = symbols_Reading_close(next, (uint32_t)(place % 4294967296ull));
+            if (most <= m.words) return (struct shifts_Pass){.reading = m, .used = place + 1};
+        } else {
+            m = next;
+        }
+    }
+    return (struct shifts_Pass){.reading = m, .used = from + k};
+}
+
+/*
+ * shifts::fours::store, crates/shifts/src/fours.rt
+ * The words without the data bit before each, from a place on, as many as there is room for. A strip is first read
+ * without room.
+ */
+static void shifts_fours_store(struct slice_u32 words, uint64_t at, struct slice_u16_mut out) {
+    if (out.len <= at) return;
+    uint64_t count = lists_at_most(out.len - at, words.len);
+    uint64_t k = 0;
+    while (k < count) {
+        out.at[at + k] = (uint16_t)(words.at[k] % 65536);
+        k++;
+    }
+}
+
+/* shifts::top::top_of, crates/shifts/src/top.rt */
+static struct shifts_top_Top shifts_top_top_of(struct symbols_Reading m) {
+    uint32_t free = 64 - m.held;
+    return (struct shifts_top_Top){.cells = (uint64_t)((uint64_t)((uint64_t)m.bits << (uint64_t)(free - 1)) << 1),
+            .free = free};
+}
+
+/*
+ * shifts::top::top_word, crates/shifts/src/top.rt
+ * The half cells of the byte that is whole, with the data bit before it; where none is whole, other half cells.
+ */
+static uint32_t shifts_top_top_word(struct shifts_top_Top t) {
+    return (uint32_t)(t.cells >> 47);
+}
+
+/*
+ * shifts::fours::shift_eights, crates/shifts/src/fours.rt
+ * So many eights, two at least. The first word of each is whole; the second is stored, and where it is not whole the
+ * next eight's first in the same place.
+ */
+static struct shifts_fours_Fours shifts_fours_shift_eights(struct symbols_Reading start, struct slice_u8 units,
+        uint64_t eights, struct slice_u32_mut words) {
+    struct shifts_top_Top t = shifts_top_top_of(start);
+    uint64_t count = 0;
+    uint64_t i = 0;
+    while (i < eights) {
+        struct shifts_top_Top eight = shifts_top_add_four(shifts_top_add_four(t, units, 8 * i), units, 8 * i + 4);
+        words.at[count] = shifts_top_top_word(eight);
+        struct shifts_top_Top next = shifts_top_past_word(eight);
+        words.at[count + 1] = shifts_top_top_word(next);
+        count += 1 + (uint64_t)shifts_top_is_whole(next);
+        t = shifts_top_ease(next);
+        i++;
+    }
+    struct symbols_Reading reading = start;
+    reading.bits = shifts_fours_last_bits(units, units.len - 16);
+    reading.held = 64 - t.free;
+    reading.words = std_num_wrapping_add_u32(start.words, (uint32_t)(count % 4294967296ull));
+    return (struct shifts_fours_Fours){.reading = reading, .count = count};
+}
+
+/*
+ * shifts::shift::shift_block, crates/shifts/src/shift.rt
+ * Cells that leave bytes to read: by so many eights, for whose words there is room, and cell by cell what is over and,
+ * for its place, where a gap is out of place.
+ */
+static struct shifts_Pass shifts_shift_shift_block(struct symbols_Reading m, struct slice_u8 units, uint64_t eights,
+        struct slice_u32_mut words, uint64_t from, uint32_t most, uint64_t to, struct slice_u16_mut out) {
+    uint64_t cells = 8 * eights;
+    struct shifts_fours_Fours fours = shifts_fours_shift_eights(m, slice_u8(units.at, cells), eights, words);
+    uint64_t count = fours.count;
+    if (shifts_fours_all_fit(slice_u32(words.at, count))) {
+        shifts_fours_store(slice_u32(words.at, count), to, out);
+        struct symbols_Reading reading = fours.reading;
+        uint64_t t29 = from + cells;
+        uint64_t t30 = to + count;
+        return shifts_shift_shift_in(reading, slice_u8(units.at + cells, units.len - cells), t29, most, t30, out);
+    }
+    return shifts_shift_shift_in(m, units, from, most, to, out);
+}
+
+/* shifts::shift::shift_units, crates/shifts/src/shift.rt: By eights, or cell by cell. */
+static struct shifts_Pass shifts_shift_shift_units(struct symbols_Reading m, struct slice_u8 units, uint64_t from,
+        uint32_t most, uint64_t to, struct slice_u16_mut out) {
+    uint64_t eights = units.len / 8;
+    uint64_t room = 2 * eights;
+    if (shifts_shift_goes_by_eights(m, room, most)) {
+        struct array_u32_32 words = {0};
+        return shifts_shift_shift_block(m, units, eights, slice_u32_mut(words.a, room), from, most, to, out);
+    }
+    return shifts_shift_shift_in(m, units, from, most, to, out);
 }
 
 /* The crate timing */
@@ -1902,16 +2180,8 @@ static bool timing_rule_is_true_long(struct timing_Profile p) {
 }
 
 /*
- * timing::cursor::Cursor::meets_cell, crates/timing/src/cursor.rt
- * Whether the next interval is of class 2, 3 or 4: that goes by Min and Rpt alone, which are the same after each kind.
- */
-static bool timing_cursor_Cursor_meets_cell(struct timing_cursor_Cursor self, uint16_t interval) {
-    return (self.min.f0 <= interval) & (interval < self.rpt.f0);
-}
-
-/*
  * timing::cursor::Cursor::meets_two, crates/timing/src/cursor.rt
- * Whether it is of class 2, by one compare: below Min the difference wraps to above all others.
+ * Whether the next interval is of class 2, by one compare: below Min the difference wraps to above all others.
  */
 static bool timing_cursor_Cursor_meets_two(struct timing_cursor_Cursor self, uint16_t interval) {
     return std_num_wrapping_sub_u16(interval, self.min.f0) < self.bounds.b23.f0 - self.min.f0;
@@ -2041,53 +2311,6 @@ static uint8_t timing_cursor_Cursor_units(struct timing_cursor_Cursor self, uint
 
 /* The crate intervals */
 
-/* intervals::fours::add_cell, crates/intervals/src/fours.rt */
-static struct intervals_fours_Top intervals_fours_add_cell(struct intervals_fours_Top t, uint8_t units) {
-    uint32_t free = std_num_wrapping_sub_u32(t.free, (uint32_t)units);
-    return (struct intervals_fours_Top){.cells = t.cells | (uint64_t)((uint64_t)1 << (uint64_t)(free % 64)),
-            .free = free};
-}
-
-/* intervals::fours::add_four, crates/intervals/src/fours.rt: The four cells from a place on. */
-static struct intervals_fours_Top intervals_fours_add_four(struct intervals_fours_Top t, struct slice_u8 units,
-        uint64_t k) {
-    struct intervals_fours_Top t5 = intervals_fours_add_cell(t, units.at[k]);
-    struct intervals_fours_Top two = intervals_fours_add_cell(t5, units.at[k + 1]);
-    t5 = intervals_fours_add_cell(two, units.at[k + 2]);
-    return intervals_fours_add_cell(t5, units.at[k + 3]);
-}
-
-/*
- * intervals::edges::all_cells, crates/intervals/src/edges.rt
- * Whether all are, with no jump for any, so that it is told in vector instructions.
- */
-static bool intervals_edges_all_cells(struct timing_cursor_Cursor start, struct slice_u16 intervals) {
-    struct timing_cursor_Cursor cursor = start;
-    bool all = true;
-    uint64_t k = 0;
-    while (k < intervals.len) {
-        uint16_t interval = intervals.at[k];
-        all = all & timing_cursor_Cursor_meets_cell(cursor, interval);
-        cursor = timing_cursor_Cursor_past(cursor, interval);
-        k++;
-    }
-    return all;
-}
-
-/*
- * intervals::fours::all_fit, crates/intervals/src/fours.rt
- * Whether no gap is out of place, with no jump for any word, so that it is told in vector instructions.
- */
-static bool intervals_fours_all_fit(struct slice_u32 words) {
-    bool all = true;
-    uint64_t k = 0;
-    while (k < words.len) {
-        all = all & half_cells_fits(words.at[k]);
-        k++;
-    }
-    return all;
-}
-
 /* intervals::units::choose, crates/intervals/src/units.rt */
 static uint16_t intervals_units_choose(uint16_t mask, uint16_t short_, uint16_t long_) {
     uint16_t gap = std_num_wrapping_sub_u16(short_, long_);
@@ -2098,53 +2321,73 @@ static uint16_t intervals_units_choose(uint16_t mask, uint16_t short_, uint16_t 
  * intervals::edges::find_outside, crates/intervals/src/edges.rt
  * The first that is none, the first of all having place `from`.
  */
-static struct refusal_Verdict intervals_edges_find_outside(struct timing_cursor_Cursor start, uint64_t from,
+static struct refusal_Verdict intervals_edges_find_outside(uint16_t min, uint16_t rpt, uint64_t from,
         struct slice_u16 intervals) {
-    struct timing_cursor_Cursor cursor = start;
     uint64_t k = 0;
     while (k < intervals.len) {
-        struct timing_cursor_Classed classed = timing_cursor_Cursor_step(cursor, intervals.at[k]);
-        struct timing_Class class = classed.class;
-        if (timing_Class_number(class) == 1) {
+        uint16_t interval = intervals.at[k];
+        if (interval < min) {
             return (struct refusal_Verdict){.tag = refusal_Verdict_Refused,
                     .u.Refused = {.tag = refusal_Refusal_IntervalTooShort, .u.IntervalTooShort = (uint32_t)(from + k)}};
         }
-        if (timing_Class_number(class) == 5) {
+        if (rpt <= interval) {
             return (struct refusal_Verdict){.tag = refusal_Verdict_Refused,
                     .u.Refused = {.tag = refusal_Refusal_IntervalTooLong, .u.IntervalTooLong = (uint32_t)(from + k)}};
         }
-        cursor = classed.next;
         k++;
     }
     return (struct refusal_Verdict){.tag = refusal_Verdict_Accepted};
-}
-
-/* intervals::edges::check_edges_from, crates/intervals/src/edges.rt: It is looked for only where there is one. */
-static struct refusal_Verdict intervals_edges_check_edges_from(struct timing_cursor_Cursor start, uint64_t from,
-        struct slice_u16 intervals) {
-    if (intervals_edges_all_cells(start, intervals)) {
-        return (struct refusal_Verdict){.tag = refusal_Verdict_Accepted};
-    }
-    return intervals_edges_find_outside(start, from, intervals);
-}
-
-/* intervals::edges::check_edges, crates/intervals/src/edges.rt: Of a whole list. */
-static struct refusal_Verdict intervals_edges_check_edges(struct timing_Profile p, struct slice_u16 intervals) {
-    return intervals_edges_check_edges_from(timing_cursor_Cursor_start(p), 0, intervals);
-}
-
-/*
- * intervals::block::Progress::goes_on, crates/intervals/src/block.rt
- * Whether bytes are wanted, and intervals are left to read them from.
- */
-static bool intervals_block_Progress_goes_on(struct intervals_block_Progress self, uint32_t most, uint64_t length) {
-    return (self.pass.used < length) & (self.pass.reading.words < most);
 }
 
 /* intervals::units::greater, crates/intervals/src/units.rt */
 static uint16_t intervals_units_greater(uint16_t a, uint16_t b) {
     if (a < b) return b;
     return a;
+}
+
+/*
+ * intervals::edges::all_inside, crates/intervals/src/edges.rt
+ * Whether all lie between the two edges, where there is room between them: none is further past the lower than the
+ * upper is, and one below it wraps to above all others. With no jump for any, so that vector instructions tell it.
+ */
+static bool intervals_edges_all_inside(uint16_t min, uint16_t rpt, struct slice_u16 intervals) {
+    uint16_t most = 0;
+    uint64_t k = 0;
+    while (k < intervals.len) {
+        most = intervals_units_greater(most, std_num_wrapping_sub_u16(intervals.at[k], min));
+        k++;
+    }
+    return most < rpt - min;
+}
+
+/* intervals::edges::all_cells, crates/intervals/src/edges.rt: Whether all are cells. */
+static bool intervals_edges_all_cells(struct timing_Profile p, struct slice_u16 intervals) {
+    return intervals_edges_all_inside(p.min.f0, p.rpt.f0, intervals);
+}
+
+/*
+ * intervals::edges::check_edges_from, crates/intervals/src/edges.rt
+ * It is looked for only where there is one among some.
+ */
+static struct refusal_Verdict intervals_edges_check_edges_from(struct timing_cursor_Cursor start, uint64_t from,
+        struct slice_u16 intervals) {
+    uint16_t min = start.min.f0;
+    uint16_t rpt = start.rpt.f0;
+    uint64_t k = 0;
+    while (k < intervals.len) {
+        uint64_t next = k + lists_at_most(128, intervals.len - k);
+        if (intervals_edges_all_inside(min, rpt, slice_u16(intervals.at + k, next - k))) {
+            k = next;
+        } else {
+            return intervals_edges_find_outside(min, rpt, from + k, slice_u16(intervals.at + k, intervals.len - k));
+        }
+    }
+    return (struct refusal_Verdict){.tag = refusal_Verdict_Accepted};
+}
+
+/* intervals::edges::check_edges, crates/intervals/src/edges.rt: Of a whole list. */
+static struct refusal_Verdict intervals_edges_check_edges(struct timing_Profile p, struct slice_u16 intervals) {
+    return intervals_edges_check_edges_from(timing_cursor_Cursor_start(p), 0, intervals);
 }
 
 /*
@@ -2164,33 +2407,9 @@ static bool intervals_units_is_two(struct timing_cursor_Cursor c, uint16_t inter
     return (c.min.f0 <= interval) & (interval < c.short_.b23.f0);
 }
 
-/* intervals::fours::is_whole, crates/intervals/src/fours.rt */
-static bool intervals_fours_is_whole(struct intervals_fours_Top t) {
-    return t.free < 48;
-}
-
-/*
- * intervals::fours::ease, crates/intervals/src/fours.rt
- * On to the next byte where one is whole, without a jump.
- */
-static struct intervals_fours_Top intervals_fours_ease(struct intervals_fours_Top t) {
-    uint32_t more = 16 * (uint32_t)intervals_fours_is_whole(t);
-    return (struct intervals_fours_Top){.cells = (uint64_t)(t.cells << (uint64_t)more),
-            .free = std_num_wrapping_add_u32(t.free, more)};
-}
-
 /* intervals::units::last_of, crates/intervals/src/units.rt */
 static uint16_t intervals_units_last_of(struct slice_u16 intervals) {
     return intervals.at[intervals.len - 1];
-}
-
-/*
- * intervals::last_place, crates/intervals/src/lib.rt
- * The place of the last of so many intervals; 0 where there is none.
- */
-static uint32_t intervals_last_place(uint64_t used) {
-    if (used == 0) return 0;
-    return (uint32_t)(used - 1);
 }
 
 /* intervals::units::lesser, crates/intervals/src/units.rt */
@@ -2238,143 +2457,6 @@ static void intervals_units_mark_kinds(struct timing_cursor_Cursor c, struct sli
         kinds.at[k + 1] = intervals_units_mask_of(intervals_units_is_two(c, intervals.at[k]));
         k++;
     }
-}
-
-/* intervals::fours::shift_four, crates/intervals/src/fours.rt */
-static struct symbols_Reading intervals_fours_shift_four(struct symbols_Reading m, struct slice_u8 units, uint64_t k) {
-    struct symbols_Reading t5 = symbols_Reading_shift(m, units.at[k]);
-    struct symbols_Reading two = symbols_Reading_shift(t5, units.at[k + 1]);
-    t5 = symbols_Reading_shift(two, units.at[k + 2]);
-    return symbols_Reading_shift(t5, units.at[k + 3]);
-}
-
-/*
- * intervals::fours::last_bits, crates/intervals/src/fours.rt
- * The register after sixteen cells, which have all its half cells.
- */
-static uint32_t intervals_fours_last_bits(struct slice_u8 units, uint64_t k) {
-    struct symbols_Reading t4 = intervals_fours_shift_four(symbols_Reading_empty(), units, k);
-    struct symbols_Reading half = intervals_fours_shift_four(t4, units, k + 4);
-    return intervals_fours_shift_four(intervals_fours_shift_four(half, units, k + 8), units, k + 12).bits;
-}
-
-/*
- * intervals::shift::shift_in, crates/intervals/src/shift.rt
- * Cells of so many units, the first at place `from`, until so many bytes are whole or no cell is left. Bytes are
- * counted only where one is closed, which keeps the loop short. Code words are stored from place `to` on, where there
- * is room.
- */
-static struct intervals_Pass intervals_shift_shift_in(struct symbols_Reading start, struct slice_u8 units,
-        uint64_t from, uint32_t most, uint64_t to, struct slice_u16_mut out) {
-    struct symbols_Reading m = start;
-    uint64_t store_at = to;
-    uint64_t k = 0;
-    while (k < units.len) {
-        struct symbols_Reading next = symbols_Reading_shift(m, units.at[k]);
-        uint64_t place = from + k;
-        k++;
-        if (symbols_Reading_is_whole(next)) {
-            lists_put(out, store_at, symbols_Reading_word(next));
-            store_at++;
-            m = symbols_Reading_close(next, (uint32_t)(place % 4294967296ull));
-            if (most <= m.words) return (struct intervals_Pass){.reading = m, .used = place + 1};
-        } else {
-            m = next;
-        }
-    }
-    return (struct intervals_Pass){.reading = m, .used = from + k};
-}
-
-/* intervals::block::Progress::start, crates/intervals/src/block.rt: Before the first interval. */
-static struct intervals_block_Progress intervals_block_Progress_start(struct timing_Profile p) {
-    struct intervals_Pass t3 = {.reading = symbols_Reading_new(), .used = 0};
-    return (struct intervals_block_Progress){.pass = t3, .cursor = timing_cursor_Cursor_start(p)};
-}
-
-/*
- * intervals::fours::store, crates/intervals/src/fours.rt
- * The words without the data bit before each, from a place on, where there is room. A strip is first read without.
- */
-static void intervals_fours_store(struct slice_u32 words, uint64_t at, struct slice_u16_mut out) {
-    if (out.len <= at) return;
-    uint64_t k = 0;
-    while (k < words.len) {
-        lists_put(out, at + k, (uint16_t)(words.at[k] % 65536));
-        k++;
-    }
-}
-
-/* intervals::fours::top_of, crates/intervals/src/fours.rt */
-static struct intervals_fours_Top intervals_fours_top_of(struct symbols_Reading m) {
-    uint32_t free = 64 - m.held;
-    return (struct intervals_fours_Top){.cells = (uint64_t)((uint64_t)((uint64_t)m.bits << (uint64_t)(free - 1)) << 1),
-            .free = free};
-}
-
-/*
- * intervals::fours::top_word, crates/intervals/src/fours.rt
- * The half cells of the byte that is whole, with the data bit before it; where none is whole, other half cells.
- */
-static uint32_t intervals_fours_top_word(struct intervals_fours_Top t) {
-    return (uint32_t)(t.cells >> 47);
-}
-
-/*
- * intervals::fours::shift_fours, crates/intervals/src/fours.rt
- * As many fours as there is room for words, and four at least. Each four's half cells are stored, and the next four's
- * in the same place where they made no byte whole.
- */
-static struct intervals_fours_Fours intervals_fours_shift_fours(struct symbols_Reading start, struct slice_u8 units,
-        struct slice_u32_mut words) {
-    struct intervals_fours_Top t = intervals_fours_top_of(start);
-    uint64_t count = 0;
-    uint64_t i = 0;
-    while (i < words.len) {
-        struct intervals_fours_Top next = intervals_fours_add_four(t, units, 4 * i);
-        words.at[count] = intervals_fours_top_word(next);
-        count += (uint64_t)intervals_fours_is_whole(next);
-        t = intervals_fours_ease(next);
-        i++;
-    }
-    struct symbols_Reading reading = start;
-    reading.bits = intervals_fours_last_bits(units, units.len - 16);
-    reading.held = 64 - t.free;
-    reading.words = std_num_wrapping_add_u32(start.words, (uint32_t)(count % 4294967296ull));
-    return (struct intervals_fours_Fours){.reading = reading, .count = count};
-}
-
-/*
- * intervals::shift::shift_block, crates/intervals/src/shift.rt
- * Cells that leave bytes to read: by fours, for whose words there is room, and cell by cell what is over and, for its
- * place, where a gap is out of place.
- */
-static struct intervals_Pass intervals_shift_shift_block(struct symbols_Reading m, struct slice_u8 units,
-        struct slice_u32_mut words, uint64_t from, uint32_t most, uint64_t to, struct slice_u16_mut out) {
-    uint64_t cells = 4 * words.len;
-    struct intervals_fours_Fours fours = intervals_fours_shift_fours(m, slice_u8(units.at, cells), words);
-    uint64_t count = fours.count;
-    if (intervals_fours_all_fit(slice_u32(words.at, count))) {
-        intervals_fours_store(slice_u32(words.at, count), to, out);
-        struct symbols_Reading reading = fours.reading;
-        struct slice_u8 t28 = slice_u8(units.at + cells, units.len - cells);
-        return intervals_shift_shift_in(reading, t28, from + cells, most, to + count, out);
-    }
-    return intervals_shift_shift_in(m, units, from, most, to, out);
-}
-
-/*
- * intervals::shift::shift_units, crates/intervals/src/shift.rt
- * A few cells, and the end of a field, cell by cell.
- */
-static struct intervals_Pass intervals_shift_shift_units(struct symbols_Reading m, struct slice_u8 units, uint64_t from,
-        uint32_t most, uint64_t to, struct slice_u16_mut out) {
-    uint64_t n = units.len / 4;
-    if (n < 4) return intervals_shift_shift_in(m, units, from, most, to, out);
-    if (n < (uint64_t)(most - m.words)) {
-        struct array_u32_32 words = {0};
-        return intervals_shift_shift_block(m, units, slice_u32_mut(words.a, n), from, most, to, out);
-    }
-    return intervals_shift_shift_in(m, units, from, most, to, out);
 }
 
 /* intervals::units::units_by, crates/intervals/src/units.rt: By given bounds. */
@@ -2454,59 +2536,6 @@ static struct timing_cursor_Cursor intervals_units_units_of(struct timing_cursor
         return intervals_units_units_of_sure(start, intervals, slice_u16_mut(kinds.a, n), units);
     }
     return intervals_units_units_in_turn(start, intervals, units);
-}
-
-/*
- * intervals::block::pass_block, crates/intervals/src/block.rt
- * The intervals of a block, whose units have as many places.
- */
-static struct intervals_block_Progress intervals_block_pass_block(struct intervals_block_Progress at,
-        struct slice_u16 intervals, struct slice_u8_mut units, uint32_t most, uint64_t to, struct slice_u16_mut out) {
-    struct timing_cursor_Cursor cursor = intervals_units_units_of(at.cursor, intervals, units);
-    return (struct intervals_block_Progress){.pass = intervals_shift_shift_units(at.pass.reading,
-            slice_u8(units.at, units.len), at.pass.used, most, to, out), .cursor = cursor};
-}
-
-/*
- * intervals::block::Progress::next_block, crates/intervals/src/block.rt
- * One block more, whose code words are stored from place `to` on.
- */
-static struct intervals_block_Progress intervals_block_Progress_next_block(struct intervals_block_Progress self,
-        struct slice_u16 intervals, uint32_t most, uint64_t to, struct slice_u16_mut out) {
-    uint64_t from = self.pass.used;
-    uint64_t n = lists_at_most(128, intervals.len - from);
-    struct array_u8_128 units = {0};
-    struct slice_u16 t14 = slice_u16(intervals.at + from, from + n - from);
-    return intervals_block_pass_block(self, t14, slice_u8_mut(units.a, n), most, to, out);
-}
-
-/*
- * intervals::block::Progress::pass_on, crates/intervals/src/block.rt
- * Until so many bytes are whole, so many intervals more are used, or none is left. The code words are stored from the
- * front on, where there is room.
- */
-static struct intervals_block_Progress intervals_block_Progress_pass_on(struct intervals_block_Progress self,
-        struct slice_u16 intervals, uint64_t count, uint32_t most, struct slice_u16_mut out) {
-    uint32_t first = self.pass.reading.words;
-    uint64_t end = self.pass.used + lists_at_most(count, intervals.len - self.pass.used);
-    struct intervals_block_Progress at = self;
-    while (intervals_block_Progress_goes_on(at, most, end)) {
-        uint32_t done = at.pass.reading.words - first;
-        at = intervals_block_Progress_next_block(at, slice_u16(intervals.at, end), most, (uint64_t)done, out);
-    }
-    return at;
-}
-
-/*
- * intervals::pass_over, crates/intervals/src/lib.rt
- * One pass, until so many bytes are whole or no interval is left, each interval taken as a cell. The code words that
- * have room are stored from the front on.
- */
-static struct intervals_Pass intervals_pass_over(struct timing_Profile p, struct slice_u16 intervals, uint32_t most,
-        struct slice_u16_mut out) {
-    struct intervals_block_Progress at =
-            intervals_block_Progress_pass_on(intervals_block_Progress_start(p), intervals, intervals.len, most, out);
-    return at.pass;
 }
 
 /* The crate lengths */
@@ -2781,6 +2810,215 @@ static struct refusal_Verdict pace_Pace_check(struct pace_Pace self) {
                 .u.Refused = {.tag = refusal_Refusal_OffSpeed, .u.OffSpeed = 1}};
     }
     return (struct refusal_Verdict){.tag = refusal_Verdict_Accepted};
+}
+
+/* The crate passes */
+
+/*
+ * passes::block::Progress::goes_on, crates/passes/src/block.rt
+ * Whether bytes are wanted, and intervals are left to read them from.
+ */
+static bool passes_block_Progress_goes_on(struct passes_block_Progress self, uint32_t most, uint64_t length) {
+    return (self.pass.used < length) & (self.pass.reading.words < most);
+}
+
+/*
+ * passes::last_place, crates/passes/src/lib.rt
+ * The place of the last of so many intervals; 0 where there is none.
+ */
+static uint32_t passes_last_place(uint64_t used) {
+    if (used == 0) return 0;
+    return (uint32_t)(used - 1);
+}
+
+/*
+ * passes::look::move_on, crates/passes/src/look.rt
+ * The register after cells without a gap, where none is open: they have so many half cells with those that it holds.
+ */
+static struct symbols_Reading passes_look_move_on(struct symbols_Reading m, struct slice_u8 units, uint32_t sum) {
+    uint32_t last = sum - 1;
+    struct symbols_Reading reading = m;
+    reading.bits = shifts_fours_last_bits(units, units.len - 16);
+    reading.held = last % 16 + 1;
+    reading.words = std_num_wrapping_add_u32(m.words, last / 16);
+    return reading;
+}
+
+/*
+ * passes::block::pass_block, crates/passes/src/block.rt
+ * The intervals of a block, whose units have as many places.
+ */
+static struct passes_block_Progress passes_block_pass_block(struct passes_block_Progress at, struct slice_u16 intervals,
+        struct slice_u8_mut units, uint32_t most, uint64_t to, struct slice_u16_mut out) {
+    struct timing_cursor_Cursor cursor = intervals_units_units_of(at.cursor, intervals, units);
+    return (struct passes_block_Progress){.pass = shifts_shift_shift_units(at.pass.reading,
+            slice_u8(units.at, units.len), at.pass.used, most, to, out), .cursor = cursor};
+}
+
+/*
+ * passes::block::Progress::next_block, crates/passes/src/block.rt
+ * One block more, whose code words are stored from place `to` on.
+ */
+static struct passes_block_Progress passes_block_Progress_next_block(struct passes_block_Progress self,
+        struct slice_u16 intervals, uint32_t most, uint64_t to, struct slice_u16_mut out) {
+    uint64_t from = self.pass.used;
+    uint64_t n = lists_at_most(128, intervals.len - from);
+    struct array_u8_128 units = {0};
+    struct slice_u8_mut t16 = slice_u8_mut(units.a, n);
+    return passes_block_pass_block(self, slice_u16(intervals.at + from, from + n - from), t16, most, to, out);
+}
+
+/*
+ * passes::block::Progress::pass_on, crates/passes/src/block.rt
+ * Until so many bytes are whole, so many intervals more are used, or none is left. The code words are stored from the
+ * front on, where there is room.
+ */
+static struct passes_block_Progress passes_block_Progress_pass_on(struct passes_block_Progress self,
+        struct slice_u16 intervals, uint64_t count, uint32_t most, struct slice_u16_mut out) {
+    uint32_t first = self.pass.reading.words;
+    uint64_t end = self.pass.used + lists_at_most(count, intervals.len - self.pass.used);
+    struct passes_block_Progress at = self;
+    while (passes_block_Progress_goes_on(at, most, end)) {
+        uint32_t done = at.pass.reading.words - first;
+        at = passes_block_Progress_next_block(at, slice_u16(intervals.at, end), most, (uint64_t)done, out);
+    }
+    return at;
+}
+
+/* passes::look::shift_on, crates/passes/src/look.rt: Cells through the register. */
+static struct symbols_Reading passes_look_shift_on(struct symbols_Reading m, struct slice_u8 units, uint64_t from,
+        uint32_t most) {
+    struct array_u16_0 none = {0};
+    struct shifts_Pass pass = shifts_shift_shift_units(m, units, from, most, 0, slice_u16_mut(none.a, 0));
+    return pass.reading;
+}
+
+/* passes::block::Progress::start, crates/passes/src/block.rt: Before the first interval. */
+static struct passes_block_Progress passes_block_Progress_start(struct timing_Profile p) {
+    struct shifts_Pass t3 = {.reading = symbols_Reading_new(), .used = 0};
+    return (struct passes_block_Progress){.pass = t3, .cursor = timing_cursor_Cursor_start(p)};
+}
+
+/*
+ * passes::pass_over, crates/passes/src/lib.rt
+ * One pass, until so many bytes are whole or no interval is left, each interval taken as a cell. The code words that
+ * have room are stored from the front on.
+ */
+static struct shifts_Pass passes_pass_over(struct timing_Profile p, struct slice_u16 intervals, uint32_t most,
+        struct slice_u16_mut out) {
+    struct passes_block_Progress at =
+            passes_block_Progress_pass_on(passes_block_Progress_start(p), intervals, intervals.len, most, out);
+    return at.pass;
+}
+
+/* passes::scan::sums_of, crates/passes/src/scan.rt: In each byte the sum of it and those below. */
+static uint64_t passes_scan_sums_of(uint64_t x) {
+    uint64_t two = std_num_wrapping_add_u64(x, (uint64_t)(x << 8));
+    uint64_t four = std_num_wrapping_add_u64(two, (uint64_t)(two << 16));
+    return std_num_wrapping_add_u64(four, (uint64_t)(four << 32));
+}
+
+/*
+ * passes::scan::scan_eight, crates/passes/src/scan.rt
+ * Eight cells more. That a cell begins at a clock bit is told by the sum of all up to its end, since four is even: the
+ * bit of that sum which stands over LONG's is set where it and one more is odd.
+ */
+static struct passes_scan_Tally passes_scan_scan_eight(struct passes_scan_Tally at, uint64_t x) {
+    uint64_t sums = passes_scan_sums_of(x);
+    uint64_t t8 = (uint64_t)((uint64_t)289360691352306692ull << (uint64_t)(at.sum % 2));
+    uint64_t even = std_num_wrapping_add_u64((uint64_t)(sums << 2), t8);
+    return (struct passes_scan_Tally){.sum = std_num_wrapping_add_u32(at.sum, (uint32_t)(sums >> 56)),
+            .gap = at.gap | ((x & even) != 0)};
+}
+
+/* passes::scan::wide, crates/passes/src/scan.rt */
+static uint64_t passes_scan_wide(uint8_t units) {
+    return (uint64_t)units;
+}
+
+/* passes::scan::two_at, crates/passes/src/scan.rt: Cells from a place on, the first in the lowest byte. */
+static uint64_t passes_scan_two_at(struct slice_u8 units, uint64_t k) {
+    uint64_t t3 = passes_scan_wide(units.at[k]);
+    return t3 + passes_scan_wide(units.at[k + 1]) * 256;
+}
+
+/* passes::scan::four_at, crates/passes/src/scan.rt */
+static uint64_t passes_scan_four_at(struct slice_u8 units, uint64_t k) {
+    uint64_t t3 = passes_scan_two_at(units, k);
+    return t3 + passes_scan_two_at(units, k + 2) * 65536;
+}
+
+/* passes::scan::eight_at, crates/passes/src/scan.rt */
+static uint64_t passes_scan_eight_at(struct slice_u8 units, uint64_t k) {
+    uint64_t t3 = passes_scan_four_at(units, k);
+    return t3 + passes_scan_four_at(units, k + 4) * 4294967296ull;
+}
+
+/* passes::scan::scan, crates/passes/src/scan.rt: A block of 128 cells, after so many half cells. */
+static struct passes_scan_Tally passes_scan_scan(uint32_t start, struct slice_u8 units) {
+    struct passes_scan_Tally at = {.sum = start, .gap = false};
+    uint64_t i = 0;
+    while (i < 16) {
+        at = passes_scan_scan_eight(at, passes_scan_eight_at(units, 8 * i));
+        i++;
+    }
+    return at;
+}
+
+/*
+ * passes::look::look_units, crates/passes/src/look.rt
+ * The cells of a block. Eight of them have more letters than are open after them, so that none is where they have no
+ * gap.
+ */
+static struct passes_look_Seen passes_look_look_units(struct passes_look_Seen seen, struct slice_u8 units,
+        uint64_t from, uint32_t most) {
+    struct symbols_Reading m = seen.reading;
+    if (units.len < 128) {
+        return (struct passes_look_Seen){.reading = passes_look_shift_on(m, units, from, most), .clear = false};
+    }
+    struct passes_scan_Tally tally = passes_scan_scan(m.held, units);
+    if (tally.gap) {
+        return (struct passes_look_Seen){.reading = passes_look_shift_on(m, units, from, most), .clear = false};
+    }
+    if (seen.clear) {
+        return (struct passes_look_Seen){.reading = passes_look_move_on(m, units, tally.sum), .clear = true};
+    }
+    return (struct passes_look_Seen){.reading = passes_look_shift_on(m, units, from, most), .clear = true};
+}
+
+/*
+ * passes::look::look_block, crates/passes/src/look.rt
+ * The intervals of a block, whose units have as many places.
+ */
+static struct passes_look_Look passes_look_look_block(struct passes_look_Look at, struct slice_u16 intervals,
+        struct slice_u8_mut units, uint32_t most) {
+    struct timing_cursor_Cursor cursor = intervals_units_units_of(at.cursor, intervals, units);
+    struct passes_look_Seen seen = passes_look_look_units(at.seen, slice_u8(units.at, units.len), at.used, most);
+    return (struct passes_look_Look){.seen = seen, .used = at.used + intervals.len, .cursor = cursor};
+}
+
+/* passes::look::look_on, crates/passes/src/look.rt: One block more. */
+static struct passes_look_Look passes_look_look_on(struct passes_look_Look at, struct slice_u16 intervals,
+        uint32_t most) {
+    uint64_t from = at.used;
+    uint64_t n = lists_at_most(128, intervals.len - from);
+    struct array_u8_128 units = {0};
+    struct slice_u8_mut t14 = slice_u8_mut(units.a, n);
+    return passes_look_look_block(at, slice_u16(intervals.at + from, from + n - from), t14, most);
+}
+
+/*
+ * passes::look_over, crates/passes/src/lib.rt
+ * Where a pass over all intervals comes to, which are no more than bytes are wanted; no word is made.
+ */
+static struct shifts_Pass passes_look_over(struct timing_Profile p, struct slice_u16 intervals, uint32_t most) {
+    struct passes_look_Seen t7 = {.reading = symbols_Reading_new(), .clear = true};
+    struct passes_look_Look at = {.seen = t7, .used = 0, .cursor = timing_cursor_Cursor_start(p)};
+    while (at.used < intervals.len) {
+        at = passes_look_look_on(at, intervals, most);
+    }
+    struct symbols_Reading reading = at.seen.reading;
+    return (struct shifts_Pass){.reading = reading, .used = at.used};
 }
 
 /* The crate report */
@@ -3168,7 +3406,7 @@ static struct refusal_Counted fields_gather_conclude(struct symbols_Reading m, u
     if (symbols_Reading_is_stray(m)) {
         return (struct refusal_Counted){.tag = refusal_Counted_Refused,
                 .u.Refused = {.tag = refusal_Refusal_MisplacedMark,
-                .u.MisplacedMark = symbols_Reading_stray_place(m, intervals_last_place(used))}};
+                .u.MisplacedMark = symbols_Reading_stray_place(m, passes_last_place(used))}};
     }
     return (struct refusal_Counted){.tag = refusal_Counted_Count, .u.Count = used};
 }
@@ -3224,10 +3462,10 @@ static void fields_data_put_part(struct slice_u16_mut words, uint64_t number, ui
 static void fields_data_pass_bytes(struct timing_Profile p, struct slice_u16 intervals, uint32_t n, uint64_t skip,
         struct slice_u8_mut out) {
     struct array_u16_65 words = {0};
-    struct intervals_block_Progress at = intervals_block_Progress_start(p);
-    while (intervals_block_Progress_goes_on(at, n, intervals.len)) {
+    struct passes_block_Progress at = passes_block_Progress_start(p);
+    while (passes_block_Progress_goes_on(at, n, intervals.len)) {
         uint32_t done = at.pass.reading.words;
-        at = intervals_block_Progress_pass_on(at, intervals, 256, n, slice_u16_mut(words.a, 65));
+        at = passes_block_Progress_pass_on(at, intervals, 256, n, slice_u16_mut(words.a, 65));
         uint64_t count = (uint64_t)(at.pass.reading.words - done);
         fields_data_put_part(slice_u16_mut(words.a, count), (uint64_t)done, skip, out);
     }
@@ -3260,15 +3498,15 @@ static struct items_Check fields_gather_sum_up(struct items_Check check, struct 
 static struct fields_gather_Summed fields_gather_pass_items(struct timing_Profile p, struct slice_u16 intervals,
         uint32_t n, struct slice_u16_mut out) {
     struct array_u16_65 words = {0};
-    struct intervals_block_Progress at = intervals_block_Progress_start(p);
+    struct passes_block_Progress at = passes_block_Progress_start(p);
     struct items_Check check = items_Check_fresh();
-    while (intervals_block_Progress_goes_on(at, n, intervals.len)) {
+    while (passes_block_Progress_goes_on(at, n, intervals.len)) {
         uint32_t done = at.pass.reading.words;
-        at = intervals_block_Progress_pass_on(at, intervals, 256, n, slice_u16_mut(words.a, 65));
+        at = passes_block_Progress_pass_on(at, intervals, 256, n, slice_u16_mut(words.a, 65));
         uint64_t count = (uint64_t)(at.pass.reading.words - done);
         check = fields_gather_sum_up(check, slice_u16_mut(words.a, count), (uint64_t)done, out);
     }
-    struct intervals_Pass pass = at.pass;
+    struct shifts_Pass pass = at.pass;
     return (struct fields_gather_Summed){.pass = pass, .check = check};
 }
 
@@ -3279,7 +3517,7 @@ static struct fields_gather_Summed fields_gather_pass_items(struct timing_Profil
 static struct fields_gather_Gathered fields_gather_gather(struct timing_Profile p, struct slice_u16 intervals,
         uint32_t n, struct slice_u16_mut out) {
     struct fields_gather_Summed read = fields_gather_pass_items(p, intervals, n, out);
-    struct intervals_Pass pass = read.pass;
+    struct shifts_Pass pass = read.pass;
     uint64_t used = pass.used;
     bool holds = read.check.register_ == 0;
     struct refusal_Verdict t12 = intervals_edges_check_edges(p, slice_u16(intervals.at, used));
@@ -3360,28 +3598,6 @@ static struct entries_id_IdRead entries_id_four_bytes(struct slice_u16 items, ui
             .code = (uint8_t)items.at[7], .used = used}};
 }
 
-/* entries::opening::greater, crates/entries/src/opening.rt */
-static uint16_t entries_opening_greater(uint16_t a, uint16_t b) {
-    if (a < b) return b;
-    return a;
-}
-
-/*
- * entries::opening::all_cells, crates/entries/src/opening.rt
- * Whether all are cells: none is further past Min than Rpt is, where one below Min wraps to above all others. With no
- * jump for any, so that it is told in vector instructions.
- */
-static bool entries_opening_all_cells(struct timing_Profile p, struct slice_u16 intervals) {
-    uint16_t min = p.min.f0;
-    uint16_t most = 0;
-    uint64_t k = 0;
-    while (k < intervals.len) {
-        most = entries_opening_greater(most, std_num_wrapping_sub_u16(intervals.at[k], min));
-        k++;
-    }
-    return most < p.rpt.f0 - min;
-}
-
 /* entries::opening::opens_with, crates/entries/src/opening.rt */
 static bool entries_opening_opens_with(struct slice_u16 items, uint16_t kind) {
     return (items.at[0] == 417) & (items.at[1] == 417) & (items.at[2] == 417) & (items.at[3] == kind);
@@ -3426,7 +3642,7 @@ static struct entries_opening_Opened entries_opening_read_marked(struct timing_P
 static struct entries_opening_Opened entries_opening_read_sound(struct timing_Profile p, struct slice_u16 intervals,
         uint64_t n, uint16_t kind, struct slice_u16_mut items) {
     uint64_t front = lists_at_most(4 * n, intervals.len);
-    if (entries_opening_all_cells(p, slice_u16(intervals.at, front))) {
+    if (intervals_edges_all_cells(p, slice_u16(intervals.at, front))) {
         return entries_opening_read_marked(p, intervals, n, kind, items);
     }
     return (struct entries_opening_Opened){.tag = entries_opening_Opened_NoField};
@@ -3766,29 +3982,25 @@ static struct images_count_Tally images_count_count_bytes(struct images_count_Ta
     return tally;
 }
 
-/* images::count::count_item, crates/images/src/count.rt */
-static struct images_count_Part images_count_count_item(struct images_count_Part start, uint16_t item) {
-    struct items_Check check = items_Check_after_item(start.check, item);
-    if (items_is_check(item)) {
-        struct images_count_Tally high = images_count_count_byte(start.tally, items_Check_high(start.check));
-        struct images_count_Tally low = images_count_count_byte(high, items_Check_low(start.check));
-        return (struct images_count_Part){.tally = low, .check = check};
-    }
-    return (struct images_count_Part){.tally = images_count_count_byte(start.tally, item), .check = check};
-}
-
 /*
- * images::count::count_each, crates/images/src/count.rt
- * Item by item, so that a check order finds the register as it is then.
+ * images::count::count_blocks, crates/images/src/count.rt
+ * Block by block, as the bytes that they write: one loop then counts the bytes of many runs.
  */
-static struct images_count_Tally images_count_count_each(struct slice_u16 items) {
-    struct images_count_Part part = {.tally = {.cells = 0, .previous = 0}, .check = items_Check_fresh()};
-    uint64_t k = 0;
-    while (k < items.len) {
-        part = images_count_count_item(part, items.at[k]);
-        k++;
+static struct images_count_Tally images_count_count_blocks(struct slice_u16 items) {
+    struct images_count_Tally tally = {.cells = 0, .previous = 0};
+    struct items_Check check = items_Check_fresh();
+    struct array_u16_512 bytes = {0};
+    uint64_t from = 0;
+    while (from < items.len) {
+        uint64_t end = from + lists_at_most(256, items.len - from);
+        struct items_bytes_Stored stored =
+                items_bytes_write_bytes(check, slice_u16(items.at + from, end - from), slice_u16_mut(bytes.a, 512));
+        uint64_t count = stored.count;
+        tally = images_count_count_bytes(tally, slice_u16(bytes.a, count));
+        check = stored.check;
+        from = end;
     }
-    return part.tally;
+    return tally;
 }
 
 /*
@@ -3800,7 +4012,7 @@ static struct images_count_Tally images_count_count_items(struct slice_u16 items
         struct images_count_Tally none = {.cells = 0, .previous = 0};
         return images_count_count_bytes(none, items);
     }
-    return images_count_count_each(items);
+    return images_count_count_blocks(items);
 }
 
 /*
@@ -3876,20 +4088,6 @@ static struct refusal_Verdict images_read_check_words(struct slice_u16 words) {
 }
 
 /*
- * images::make::piece_end, crates/images/src/make.rt
- * Where a piece of the list that is written at once ends: after a check order, or before the next one.
- */
-static uint64_t images_make_piece_end(struct slice_u16 items, uint64_t from) {
-    uint64_t end = from + 1;
-    if (items_is_check(items.at[from])) return end;
-    while (end < items.len) {
-        if (items_is_check(items.at[end])) return end;
-        end++;
-    }
-    return end;
-}
-
-/*
  * images::read::store_bytes, crates/images/src/read.rt
  * The candidates of words, from the front of the output on.
  */
@@ -3922,24 +4120,6 @@ static struct refusal_Counted images_read_read_image(struct slice_u16 words, str
 }
 
 /*
- * images::make::store_pieces, crates/images/src/make.rt
- * Piece by piece, so that the bytes between check orders pass the register at once.
- */
-static void images_make_store_pieces(struct slice_u16 items, struct slice_u16_mut out) {
-    struct items_Check check = items_Check_fresh();
-    uint64_t at = 0;
-    uint64_t from = 0;
-    while (from < items.len) {
-        uint64_t end = images_make_piece_end(items, from);
-        struct slice_u16_mut t18 = slice_u16_mut(out.at + at, out.len - at);
-        struct items_list_Stored stored = items_list_write_bytes(check, slice_u16(items.at + from, end - from), t18);
-        check = stored.check;
-        at += stored.count;
-        from = end;
-    }
-}
-
-/*
  * images::make::store_written, crates/images/src/make.rt
  * A list with no check order is its own bytes, and needs no register.
  */
@@ -3948,7 +4128,7 @@ static void images_make_store_written(struct slice_u16 items, uint64_t bytes, st
         lists_store(items, 0, out);
         return;
     }
-    images_make_store_pieces(items, out);
+    items_bytes_write_bytes(items_Check_fresh(), items, out);
 }
 
 /*
@@ -4146,19 +4326,18 @@ static struct codec_pen_Pen codec_pen_draw_bytes(const struct array_u16_128 *tab
  */
 static struct refusal_Counted codec_reader_read_cells(struct timing_Profile p, struct slice_u16 intervals,
         struct slice_u16_mut out) {
-    struct array_u16_0 none = {0};
-    struct intervals_Pass pass = intervals_pass_over(p, intervals, (uint32_t)51202, slice_u16_mut(none.a, 0));
+    struct shifts_Pass pass = passes_look_over(p, intervals, (uint32_t)51202);
     struct symbols_Reading reading = pass.reading;
-    struct refusal_Counted t12 = codec_reader_conclude(reading, intervals_last_place(pass.used));
-    if (t12.tag == refusal_Counted_Refused) {
-        return (struct refusal_Counted){.tag = refusal_Counted_Refused, .u.Refused = t12.u.Refused};
+    struct refusal_Counted t9 = codec_reader_conclude(reading, passes_last_place(pass.used));
+    if (t9.tag == refusal_Counted_Refused) {
+        return (struct refusal_Counted){.tag = refusal_Counted_Refused, .u.Refused = t9.u.Refused};
     }
-    uint64_t n = t12.u.Count;
+    uint64_t n = t9.u.Count;
     if (out.len < n) {
         return (struct refusal_Counted){.tag = refusal_Counted_Refused,
                 .u.Refused = {.tag = refusal_Refusal_OutputTooShort}};
     }
-    intervals_pass_over(p, intervals, (uint32_t)51202, out);
+    passes_pass_over(p, intervals, (uint32_t)51202, out);
     half_cells_words_to_bytes(slice_u16_mut(out.at, n));
     return (struct refusal_Counted){.tag = refusal_Counted_Count, .u.Count = n};
 }
@@ -4859,15 +5038,14 @@ static struct refusal_Verdict speed_gather_edges_after(struct refusal_Verdict be
  * speed::gather::read_block, crates/speed/src/gather.rt
  * The intervals of a block, read: their items through the register, and to their places.
  */
-static struct speed_gather_BlockRead speed_gather_read_block(struct intervals_block_Progress start,
+static struct speed_gather_BlockRead speed_gather_read_block(struct passes_block_Progress start,
         struct items_Check check, struct slice_u16 block, uint32_t n, struct slice_u16_mut out) {
     struct array_u8_64 units = {0};
     struct array_u16_17 words = {0};
     uint32_t done = start.pass.reading.words;
     uint64_t length = block.len;
-    struct slice_u16_mut t16 = slice_u16_mut(words.a, 17);
-    struct intervals_block_Progress at =
-            intervals_block_pass_block(start, block, slice_u8_mut(units.a, length), n, 0, t16);
+    struct passes_block_Progress at =
+            passes_block_pass_block(start, block, slice_u8_mut(units.a, length), n, 0, slice_u16_mut(words.a, 17));
     uint64_t count = (uint64_t)(at.pass.reading.words - done);
     struct items_Check check_2 = fields_gather_sum_up(check, slice_u16_mut(words.a, count), (uint64_t)done, out);
     return (struct speed_gather_BlockRead){.at = at, .check = check_2};
@@ -4876,13 +5054,13 @@ static struct speed_gather_BlockRead speed_gather_read_block(struct intervals_bl
 /* speed::gather::Along::next, crates/speed/src/gather.rt: With a block more. */
 static struct speed_gather_Along speed_gather_Along_next(struct speed_gather_Along self, struct slice_u16 block,
         uint32_t n, struct slice_u16_mut out) {
-    struct intervals_block_Progress start = self.at;
+    struct passes_block_Progress start = self.at;
     struct refusal_Verdict edges = self.edges;
     struct clearance_seen_Seen seen = self.seen;
     struct timing_cursor_Cursor cursor = start.cursor;
     uint64_t from = start.pass.used;
     struct speed_gather_BlockRead read = speed_gather_read_block(start, self.check, block, n, out);
-    struct intervals_block_Progress at = read.at;
+    struct passes_block_Progress at = read.at;
     struct items_Check check = read.check;
     uint64_t used = at.pass.used - from;
     struct refusal_Verdict t16 = speed_gather_edges_after(edges, cursor, from, slice_u16(block.at, used));
@@ -4902,7 +5080,7 @@ static struct speed_gather_Along speed_gather_Along_advance(struct speed_gather_
 
 /* speed::gather::Along::start, crates/speed/src/gather.rt: Before the first interval. */
 static struct speed_gather_Along speed_gather_Along_start(struct timing_Profile p) {
-    struct intervals_block_Progress t2 = intervals_block_Progress_start(p);
+    struct passes_block_Progress t2 = passes_block_Progress_start(p);
     struct items_Check t3 = items_Check_fresh();
     struct clearance_extremes_Extremes t5 = clearance_extremes_Extremes_none();
     return (struct speed_gather_Along){.at = t2, .check = t3, .edges = {.tag = refusal_Verdict_Accepted},
@@ -4916,7 +5094,7 @@ static struct speed_gather_Along speed_gather_Along_start(struct timing_Profile 
 static struct speed_gather_Along speed_gather_pass_over(struct timing_Profile p, struct pace_Pace pace,
         struct slice_u16 intervals, uint32_t n, struct slice_u16_mut out) {
     struct speed_gather_Along along = speed_gather_Along_start(p);
-    while (intervals_block_Progress_goes_on(along.at, n, intervals.len)) {
+    while (passes_block_Progress_goes_on(along.at, n, intervals.len)) {
         along = speed_gather_Along_advance(along, pace, intervals, n, out);
     }
     return along;
@@ -4929,7 +5107,7 @@ static struct speed_gather_Along speed_gather_pass_over(struct timing_Profile p,
 static struct speed_gather_Gathered speed_gather_gather(struct timing_Profile p, struct pace_Pace pace,
         struct slice_u16 intervals, uint32_t n, struct slice_u16_mut out) {
     struct speed_gather_Along along = speed_gather_pass_over(p, pace, intervals, n, out);
-    struct intervals_Pass pass = along.at.pass;
+    struct shifts_Pass pass = along.at.pass;
     bool holds = along.check.register_ == 0;
     struct refusal_Verdict edges = along.edges;
     if (edges.tag == refusal_Verdict_Refused) {
@@ -5372,7 +5550,7 @@ static ism_answer ism_index_ism_read_track(ism_profile p, struct slice_u16 inter
 
 /* ism::version::ism_version, crates/ism/src/version.rt */
 static uint32_t ism_version_ism_version(void) {
-    return 1500;
+    return 1501;
 }
 
 /* ism::ism_write, crates/ism/src/lib.rt */
