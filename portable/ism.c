@@ -3989,12 +3989,12 @@ static struct images_count_Tally images_count_count_bytes(struct images_count_Ta
 static struct images_count_Tally images_count_count_blocks(struct slice_u16 items) {
     struct images_count_Tally tally = {.cells = 0, .previous = 0};
     struct items_Check check = items_Check_fresh();
-    struct array_u16_512 bytes = {0};
+    struct array_u16_128 bytes = {0};
     uint64_t from = 0;
     while (from < items.len) {
-        uint64_t end = from + lists_at_most(256, items.len - from);
+        uint64_t end = from + lists_at_most(64, items.len - from);
         struct items_bytes_Stored stored =
-                items_bytes_write_bytes(check, slice_u16(items.at + from, end - from), slice_u16_mut(bytes.a, 512));
+                items_bytes_write_bytes(check, slice_u16(items.at + from, end - from), slice_u16_mut(bytes.a, 128));
         uint64_t count = stored.count;
         tally = images_count_count_bytes(tally, slice_u16(bytes.a, count));
         check = stored.check;

@@ -12,7 +12,7 @@ use lists::at_most;
 use words::made_word;
 
 // How many items are turned into bytes together: a check order is two.
-const BLOCK: usize = 256;
+const BLOCK: usize = 64;
 
 // The cells that ended so far, and the byte before. No list writes 65,536 cells: numbers of 16 bits add up fastest.
 pub struct Tally {

@@ -25,11 +25,11 @@ use Rattle.images.proofs.count.count_blocks.Tie as tie
 -- at a place: what is left makes the whole
 record Counting (items : List ℕ) (tally : Tally) (check : Check) (bytes : List ℕ) (from : ℕ) : Type 0 where
   pub within : from ≤ length items
-  pub room : length bytes ≡ 512
+  pub room : length bytes ≡ 128
   pub whole : tallied tally (writtenFrom check (drop from items)) ≡ tallied noTally (written items)
 
 module _ {items : List ℕ} {tally : Tally} {check : Check} {bytes : List ℕ} {from : ℕ}
-    (on : Counting items tally check bytes from) (size : ℕ) (few : size ≤ 256) where
+    (on : Counting items tally check bytes from) (size : ℕ) (few : size ≤ 64) where
   abbrev piece : List ℕ
   piece = take (from + size - from) (drop from items)
 
@@ -51,9 +51,9 @@ module _ {items : List ℕ} {tally : Tally} {check : Check} {bytes : List ℕ} {
       omega (arith, tally-of-list-fits items accepted)
 
   module _ (count : ℕ) (counts : count ≡ writtenBytes piece) where
-    has-room : count ≤ 512
+    has-room : count ≤ 128
     has-room =
-        let short : length piece ≤ 256 = rw (length-take (from + size - from) (drop from items)) (omega arith) in
+        let short : length piece ≤ 64 = rw (length-take (from + size - from) (drop from items)) (omega arith) in
         omega (arith, written-bytes-bounds piece)
 
     stored-has-room : (out : List ℕ) → out ≡ storedAt bytes 0 block → count ≤ length out
@@ -83,7 +83,7 @@ loop-holds c =
 -- the items that are taken together: some, and as many as there are and fit
 taken : (c : tie.After-at-most Inv-loop μ-loop)
     → (0 < c .at-most .result)
-    × (c .at-most .result ≤ 256)
+    × (c .at-most .result ≤ 64)
     × (c .before .before .loop .from + c .at-most .result
     ≤ length (now (c .before .before .before .before .before .args .items)))
 taken c =
