@@ -1,5 +1,5 @@
-// The extremes of a block of intervals. Each extreme is a number of its own and not a field of a struct, so that every
-// compiler finds them in vector instructions.
+// The extremes of a block of intervals. Each extreme is a number of its own and not a field of a struct: so clang, too,
+// finds them in vector instructions where the C file is compiled.
 ghost use Prim.Native.Nat.{_≤_};
 ghost use mathlib.Core.Path.{_≡_};
 ghost use lib.ListN.{length};
