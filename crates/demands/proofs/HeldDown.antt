@@ -1,4 +1,4 @@
--- Why the limits are what document 02, (xii), asks for: what some list shows a one_byte list up to 1B shows, so that
+-- Why the limits are what document 02, (xii), asks for: what some list shows a one-byte list up to 1B shows, so that
 -- the search misses no side; and what it finds, moved by margin + 1, is in another class, which demand 3 says is refused
 -- or read as another list. Rests on no axiom.
 use Prim.Native.Nat.{ℕ, ◌+◌, ◌≤◌, ◌<◌}

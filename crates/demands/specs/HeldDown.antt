@@ -11,7 +11,7 @@ use Rattle.limits.specs.declared.Limit.{Limit}
 use Rattle.demands.specs.Streams.{AcceptedProfile, AcceptedList, Moved, OutputEnough, Misread}
 use Rattle.demands.specs.Demand3.{stated, Counterexample}
 
--- the stream of the one_byte list, and with that interval moved
+-- the stream of the one-byte list, and with that interval moved
 abbrev pub its_stream : Profile → Limit → List ℕ
 its_stream p x = stream_of p (x.item ∷ [])
 
@@ -25,7 +25,7 @@ pub record ForDemand3 (p : Profile) (x : Limit) : Type 0 where
   pub its_change : counterexample.changed ≡ changed_stream p x
 
 pub record Evidence (p : Profile) (x : Limit) : Type 0 where
-  -- a one_byte list that has such a length, there
+  -- a one-byte list that has such a length, there
   pub one_byte : AcceptedList (x.item ∷ [])
   pub there : CrossesAt p x.side (x.item ∷ []) x.interval
   -- the lowest item number, of data and mark bytes

@@ -64,13 +64,13 @@ signed_length p zeros start end = pos (p.t1.0 + zeros * p.t0.0) +ℤ (pos (2 * e
 -- each length is positive and is that whole number, with nothing cut off: the lengths of the cells that end in the
 -- symbols given, cell by cell as `lengths_from` takes them
 unfoldable pub SignedLengths : Profile → ℕ → ℕ → Bool → List Bool → List ℕ → Type 0
-SignedLengths p start zeros before [] [] = Unit
-SignedLengths p start zeros before [] (l ∷ ls) = ⊥
-SignedLengths p start zeros before (false ∷ ss) ls = SignedLengths p start (suc zeros) false ss ls
-SignedLengths p start zeros before (true ∷ ss) [] = ⊥
-SignedLengths p start zeros before (true ∷ ss) (l ∷ ls) =
+SignedLengths p start zero_count before [] [] = Unit
+SignedLengths p start zero_count before [] (l ∷ ls) = ⊥
+SignedLengths p start zero_count before (false ∷ ss) ls = SignedLengths p start (suc zero_count) false ss ls
+SignedLengths p start zero_count before (true ∷ ss) [] = ⊥
+SignedLengths p start zero_count before (true ∷ ss) (l ∷ ls) =
     (0 < l)
-    × (pos l ≡ signed_length p zeros start (point p before (symbol_after ss)))
+    × (pos l ≡ signed_length p zero_count start (point p before (symbol_after ss)))
     × SignedLengths p (point p before (symbol_after ss)) 0 true ss ls
 
 -- "The form to use in each place": the lengths of every accepted list are proved positive under every accepted profile

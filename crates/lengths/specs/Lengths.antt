@@ -25,10 +25,10 @@ cell_length p zeros start end = p.t1.0 + zeros * p.t0.0 + 2 * end - 2 * start
 -- the lengths of the cells that end in the symbols given, the open one having its start's compare point and its zeros
 -- already, after the symbol before
 unfoldable pub lengths_from : Profile → ℕ → ℕ → Bool → List Bool → List ℕ
-lengths_from p start zeros before [] = []
-lengths_from p start zeros before (false ∷ ss) = lengths_from p start (suc zeros) false ss
-lengths_from p start zeros before (true ∷ ss) =
-    cell_length p zeros start (point p before (symbol_after ss))
+lengths_from p start zero_count before [] = []
+lengths_from p start zero_count before (false ∷ ss) = lengths_from p start (suc zero_count) false ss
+lengths_from p start zero_count before (true ∷ ss) =
+    cell_length p zero_count start (point p before (symbol_after ss))
     ∷ lengths_from p (point p before (symbol_after ss)) 0 true ss
 
 -- the first transition stands before the first symbol and itself counts as a symbol 1; the symbol before it counts as 1
