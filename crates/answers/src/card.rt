@@ -7,7 +7,7 @@ use limits::{Edge, Kind, Limit};
 
 // Edge 1 Min, 2 B23, 3 B34, 4 Rpt; after 0 both kinds, 1 short, 2 long; above 1 or 0.
 #[repr(C)]
-#[derive(Drop)]
+#[derive(Clone, Copy)]
 pub struct IsmLimit {
     pub edge: u16,
     pub after: u16,
@@ -19,7 +19,7 @@ pub struct IsmLimit {
 
 // Limits beyond the count are all 0.
 #[repr(C)]
-#[derive(Drop)]
+#[derive(Clone, Copy)]
 pub struct IsmLimits {
     pub number: u32,
     pub place: u32,

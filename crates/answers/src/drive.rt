@@ -7,7 +7,7 @@ use refusal::Verdict;
 use report::Report;
 
 #[repr(C)]
-#[derive(Drop)]
+#[derive(Clone, Copy)]
 pub struct IsmReportRow {
     pub count: u64,
     pub least: u64,
@@ -17,7 +17,7 @@ pub struct IsmReportRow {
 
 // Rows for the classes narrow, 2, 3, 4, wide.
 #[repr(C)]
-#[derive(Drop)]
+#[derive(Clone, Copy)]
 pub struct IsmReport {
     pub number: u32,
     pub place: u32,

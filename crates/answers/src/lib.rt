@@ -1,4 +1,6 @@
 // The C interface: profiles and answers as they cross it, numbers alone.
+#![tactic(auto)]
+
 ghost use Rattle.std.specs.Prelude.{◌≡◌};
 ghost use Rattle.refusal.specs.Answer.{counted_answer};
 ghost use Rattle.merge.specs.Rule.{merged_answer};
@@ -17,7 +19,7 @@ pub mod slow;
 pub mod windows;
 
 #[repr(C)]
-#[derive(Drop)]
+#[derive(Clone, Copy)]
 pub struct IsmProfile {
     pub t1: u16,
     pub t0: u16,
@@ -34,7 +36,7 @@ pub struct IsmProfile {
 
 // Number 0 for accepted. What a function does not give is 0.
 #[repr(C)]
-#[derive(Drop)]
+#[derive(Clone, Copy)]
 pub struct IsmAnswer {
     pub number: u32,
     pub place: u32,

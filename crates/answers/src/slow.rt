@@ -8,7 +8,7 @@ use speed::reader::Corrected;
 
 // The lock's place, what the field reader gives, and the differences of the two sums to 32 × T1.
 #[repr(C)]
-#[derive(Drop)]
+#[derive(Clone, Copy)]
 pub struct IsmCorrected {
     pub number: u32,
     pub place: u32,

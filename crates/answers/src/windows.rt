@@ -7,7 +7,7 @@ use timing::Profile;
 
 // The profile is all 0 on a refusal.
 #[repr(C)]
-#[derive(Drop)]
+#[derive(Clone, Copy)]
 pub struct IsmBest {
     pub number: u32,
     pub place: u32,

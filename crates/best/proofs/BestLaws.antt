@@ -18,7 +18,7 @@ use Rattle.lengths.specs.Margin.{IsMargin, margin_of, margin_rule}
 use Rattle.lengths.proofs.MarginLaws.{margin_leaves_room, spare_is_within_the_margin}
 use Rattle.lengths.proofs.PapersMargin.{margin_is_the_papers}
 use Rattle.best.specs.Best.{writing_of, writing_numbers, unset_of, has_windows, best_margin, best_profile, best_rule}
-use Rattle.best.specs.Claims.{Chosen, Best, TheBestWindows}
+use Rattle.best.specs.Claims.{Chosen, TheBestWindows}
 use Rattle.best.specs.declared.Writing.{Writing}
 use Rattle.best.proofs.TrialLaws.{in_range_of}
 use Rattle.best.proofs.MarginLaws.{Possible, possible, has_windows_if_possible, fits_is_within_the_margin}

@@ -9,10 +9,10 @@ use Rattle.timing.proofs.ProfileLaws.{Kept, kept, accepts_if_kept}
 use Rattle.lengths.specs.Margin.{margin_of}
 use Rattle.lengths.proofs.WindowLaws.{Spare}
 use Rattle.lengths.proofs.MarginLaws.{margin_leaves_room, spare_is_within_the_margin}
-use Rattle.best.specs.Best.{writing_of, InRangeOf, swing_of, middle}
+use Rattle.best.specs.Best.{writing_of, InRangeOf, swing_of}
 use Rattle.best.specs.Best.{best_margin}
 use Rattle.best.specs.Claims.{Chosen}
-use Rattle.best.specs.Equal.{equal_margin, equal_windows, Worth, WhatPairsAreWorth}
+use Rattle.best.specs.Equal.{equal_margin, equal_windows, WhatPairsAreWorth}
 use Rattle.best.specs.declared.Writing.{Writing}
 use Rattle.best.proofs.TrialLaws.{in_range_of}
 use Rattle.best.proofs.MarginLaws.{Possible, possible, parts_of, lesser_fits, fits_lesser, small}

@@ -4,7 +4,7 @@ use Prim.Native.Nat.{ℕ, ◌+◌, ◌-◌, ◌*◌, ◌/◌, ◌≤◌, ◌<◌
 use mathlib.Core.Path.{◌≡◌}
 use mathlib.Core.Bool.{true}
 use native.Mathlib.Omega.{arith}
-use borrow.Author.Tests.{leb-true, ltb-true, le-leb, lt-ltb}
+use borrow.Author.Tests.{leb-true, le-leb, lt-ltb}
 use Rattle.timing.proofs.ProfileLaws.{first_holds, second_holds}
 use Rattle.best.specs.Best.{InRangeOf, swing_of, advance_of, delay_of, has_windows, best_margin}
 use Rattle.best.specs.declared.Writing.{Writing}
@@ -18,7 +18,7 @@ pub record Possible (w : Writing) : Type 0 where
 
 pub possible : (w : Writing) → has_windows w ≡ true → Possible w
 unfolding has_windows
-possible w e = search (e, leb-true, ltb-true, first_holds, second_holds) depth 8
+possible w e = search (e, leb-true, first_holds, second_holds) depth 8
 
 pub has_windows_if_possible : (w : Writing) → Possible w → has_windows w ≡ true
 unfolding has_windows

@@ -11,7 +11,6 @@ use Rattle.timing.specs.declared.Profile.{Profile}
 use Rattle.best.specs.Best.{unset_of, has_windows, best_margin, best_profile, best_rule, no_profile, best_given}
 use Rattle.best.specs.machine.Trial.{lowest_unset_of}
 use Rattle.best.specs.declared.Writing.{Writing}
-use Rattle.best.proofs.TrialLaws.{none_unset}
 
 abbrev rule_by : Bool → ℕ → Bool → ℕ → Answer
 rule_by any place some margin = refuse_if any 1 (suc place) (refuse_if (not some) 2 0 (accepted margin))

@@ -1,6 +1,8 @@
 // Beyond document 02: the best windows. What holds the margin down (request (xii)) says which number to turn; this is the
 // end of that walk. T1, T0, Early, Normal and Late decide every length that can be written; the other six numbers of a
 // profile are chosen here so that no choice has a larger margin.
+#![tactic(auto)]
+
 ghost use Rattle.std.specs.Prelude.{◌≡◌};
 ghost use Rattle.refusal.specs.Answer.{counted_answer};
 ghost use Rattle.best.specs.Best.{best_rule, best_given};
@@ -14,7 +16,7 @@ use trial::lowest_unset;
 use windows::{best_margin, centred, has_windows};
 
 // The five numbers that a drive writes with. Any 16-bit number can stand in each place.
-#[derive(Drop)]
+#[derive(Clone, Copy)]
 pub struct Writing {
     pub t1: HalfClocks,
     pub t0: HalfClocks,
@@ -24,7 +26,7 @@ pub struct Writing {
 }
 
 // The answer: 1, 2, or the margin; and the profile that has it, all 0 on a refusal.
-#[derive(Drop)]
+#[derive(Clone, Copy)]
 pub struct Best {
     pub answer: Counted,
     pub profile: Profile,

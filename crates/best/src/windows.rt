@@ -22,7 +22,7 @@ fn middle(below: u16, above: u16) -> u16
 }
 
 // The distances between the compare points, in half clocks: document 01's D, its part before Normal and its part after.
-#[derive(Drop)]
+#[derive(Clone, Copy)]
 struct Shifts {
     d: u16,
     e: u16,

@@ -22,9 +22,9 @@ reachable_past c d h = record { first = h.first; edges = ascending_past c d h.ed
 pub reachable_after : {c : Cursor} (ds : List ℕ) → Reachable c → Reachable (cursor_after c ds)
 unfolding cursor_after
 reachable_after [] h = h
-reachable_after {c} (d ∷ ds) h = reachable_after ds (reachable_past c d h)
+reachable_after {c} (d ∷ ds) h = reachable_after {c = cursor_past c d} ds (reachable_past c d h)
 
 pub ascending_after : {c : Cursor} (ds : List ℕ) → Ascending c → Ascending (cursor_after c ds)
 unfolding cursor_after
 ascending_after [] h = h
-ascending_after {c} (d ∷ ds) h = ascending_after ds (ascending_past c d h)
+ascending_after {c} (d ∷ ds) h = ascending_after {c = cursor_past c d} ds (ascending_past c d h)

@@ -75,7 +75,7 @@ fn room(from: u16, to: u16, first: u16, last: u16) -> u16
     lesser(above(turned(first), from), above(to, turned(last)))
 }
 
-#[derive(Drop)]
+#[derive(Clone, Copy)]
 pub struct Extremes {
     pub shortest: u16,
     pub longest: u16,

@@ -1,5 +1,7 @@
 // Document 02, (vi): how near was it? Class, strip and field reader, each with its clearance: how far the interval is
 // inside the window of its class, and for strip and field the least of it over the intervals that were used.
+#![tactic(auto)]
+
 ghost use Rattle.std.specs.Prelude.{◌≡◌, length};
 ghost use Rattle.codec.specs.Reader.{read_output};
 ghost use Rattle.fields.specs.FieldRule.{field_output};
@@ -17,14 +19,14 @@ mod masks;
 pub mod seen;
 
 // A class, or how many items a strip has, with the clearance; 0 on a refusal.
-#[derive(Drop)]
+#[derive(Clone, Copy)]
 pub struct ClearCount {
     pub counted: Counted,
     pub clearance: u16,
 }
 
 // What a field reads as, with the clearance; 0 on a refusal.
-#[derive(Drop)]
+#[derive(Clone, Copy)]
 pub struct ClearFieldRead {
     pub read: FieldRead,
     pub clearance: u16,

@@ -17,7 +17,7 @@ const BLOCK: usize = 129;
 // The mask of class 2.
 const ONES: u16 = 0xffff;
 
-#[derive(Drop)]
+#[derive(Clone, Copy)]
 pub struct Seen {
     pub extremes: Extremes,
     pub cursor: Cursor,

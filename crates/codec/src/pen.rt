@@ -11,7 +11,7 @@ const ENDS_TWO: u64 = 0xc0cfc0cfc0cfc0cf;
 
 const MARK_A1: usize = 0x1a1;
 
-#[derive(Drop)]
+#[derive(Clone, Copy)]
 pub struct Pen {
     // the byte before, whose last four bits count
     pub previous: usize,

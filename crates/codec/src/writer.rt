@@ -18,7 +18,7 @@ use refusal::{Counted, Refusal, Verdict};
 use timing::Profile;
 
 // A pen and the check register, after some items.
-#[derive(Drop)]
+#[derive(Clone, Copy)]
 pub struct Part {
     pub pen: Pen,
     pub check: Check,

@@ -124,6 +124,8 @@ module _ (p : Profile) (ok : AcceptedProfile p) where
   answered : (ss : List Side) (rs : List ℕ) → Rooms p ss rs → Answered p ss (limits_from p (one_more p) ss)
   unfolding limits_from
   answered [] [] no_rooms = done
+  answered [] (r ∷ rs) none = elim none [ ]
+  answered (s ∷ ss) [] none = elim none [ ]
   answered (s ∷ ss) (r ∷ rs) (room_more known same later) =
       side_answered s known (searched p s (one_more p)) (search_finds k s) (answered ss rs later)
 

@@ -10,7 +10,7 @@ use refusal::Counted;
 use timing::Profile;
 
 // The data field of an entry, and where the search goes on after it.
-#[derive(Drop)]
+#[derive(Clone, Copy)]
 pub struct Sought {
     pub field: DataField,
     pub end: usize,

@@ -8,7 +8,7 @@ use crate::opening::{Opened, opens_with, read_opened};
 use timing::Profile;
 
 // What a field reads as, taken for an ID: its four bytes, and how many intervals it used.
-#[derive(Drop)]
+#[derive(Clone, Copy)]
 pub enum IdRead {
     Id {
         track: u8,

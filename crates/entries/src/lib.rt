@@ -1,4 +1,6 @@
 // Document 02, (iii): the entries of a track, one search at a time.
+#![tactic(auto)]
+
 ghost use Rattle.std.specs.Prelude.{◌<◌, ◌≡◌, length};
 ghost use Rattle.timing.specs.Profile.{profile_rule};
 ghost use Rattle.entries.specs.machine.Steps.{step_at, step_from};
@@ -14,14 +16,14 @@ mod id;
 mod opening;
 
 // An entry's data field: the place of its lock and whether its sum holds, or that none was found.
-#[derive(Drop)]
+#[derive(Clone, Copy)]
 pub enum DataField {
     Found { place: usize, holds: bool },
     Missing,
 }
 
 // The four bytes after FE, the place of the ID's lock, and the data field.
-#[derive(Drop)]
+#[derive(Clone, Copy)]
 pub struct Entry {
     pub track: u8,
     pub side: u8,
@@ -33,7 +35,7 @@ pub struct Entry {
 
 // What one search finds: no lock, a lock at which no entry begins, or one at which an entry begins; and where the next
 // search starts.
-#[derive(Drop)]
+#[derive(Clone, Copy)]
 pub enum Step {
     End,
     Other { next: usize },

@@ -14,7 +14,7 @@ use timing::Profile;
 const A1: u16 = 0x1a1;
 
 // A field of a kind, with the intervals that it used and whether its sum holds, or another.
-#[derive(Drop)]
+#[derive(Clone, Copy)]
 pub enum Opened {
     Field { used: usize, holds: bool },
     NoField,

@@ -26,14 +26,14 @@ const PART: usize = 256;
 const PART_WORDS: usize = 65;
 
 // How far a pass came, and the check register after its items.
-#[derive(Drop)]
+#[derive(Clone, Copy)]
 struct Summed {
     pass: Pass,
     check: Check,
 }
 
 // How a pass over a field ends: why it is refused, or how many intervals it used; and whether the register is zero.
-#[derive(Drop)]
+#[derive(Clone, Copy)]
 pub struct Gathered {
     pub end: Counted,
     pub holds: bool,

@@ -18,7 +18,7 @@ const MAX_FIELD_BYTES: usize = 1030;
 const SHORT_FIELD_BYTES: usize = 16;
 
 // What a field reads as: how many items, how many intervals they used, and whether the register is zero after them.
-#[derive(Drop)]
+#[derive(Clone, Copy)]
 pub enum FieldRead {
     Field {
         count: usize,

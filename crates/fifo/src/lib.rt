@@ -1,5 +1,7 @@
 // Document 01, "FIFO and error register": two items between the processor and the chip, as a value. Each operation
 // takes the FIFO and hands back the next one beside what it gives.
+#![tactic(auto)]
+
 ghost use Rattle.std.specs.Prelude.{◌≡◌};
 ghost use Rattle.fifo.specs.State.{fresh_fifo, mode_of, state_of, outcome_of};
 ghost use Rattle.fifo.specs.Rules.{Put, TakeData, TakeMark, ChipPut, ChipTake, ReadError, rule_of};
@@ -9,7 +11,7 @@ mod steps;
 // Every value is a state, and the promises speak of states: what `first` or `second` holds while no item stands there
 // has no effect, before or after an operation.
 #[repr(C)]
-#[derive(Drop)]
+#[derive(Clone, Copy)]
 pub struct Fifo {
     // 0 is write mode, any other number read mode
     pub mode: u16,
@@ -25,7 +27,7 @@ pub struct Fifo {
 // What an operation gives: number and place of the refusal (0 and 0 where there is none), the item or the register,
 // and the FIFO to go on with.
 #[repr(C)]
-#[derive(Drop)]
+#[derive(Clone, Copy)]
 pub struct FifoAnswer {
     pub number: u32,
     pub place: u32,

@@ -2,6 +2,8 @@
 // places; x has the data bit before the byte as well, at place 16. The definitions are this code; what they mean is said
 // by laws above: of reading, `word_verdict` in `symbols/proofs/WordLaws` (a gap out of place, its place, the item), of
 // images, `owner_is_candidate` and `ruly_where_candidate_has` in `images/proofs/ReadLaws`.
+#![tactic(auto)]
+
 ghost use Rattle.std.specs.Prelude.{◌≡◌, ◌<◌, map};
 ghost use Rattle.half_cells.specs.machine.Candidate.{data_bits, candidate};
 ghost use Rattle.half_cells.specs.machine.Word.{missing, is_mark_word, fits, cells_since, first_of_cells};

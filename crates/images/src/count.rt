@@ -14,7 +14,7 @@ use words::made_word;
 const BLOCK: usize = 64;
 
 // The cells that ended so far, and the byte before. No list writes 65,536 cells: numbers of 16 bits add up fastest.
-#[derive(Drop)]
+#[derive(Clone, Copy)]
 pub struct Tally {
     pub cells: u16,
     pub previous: u16,

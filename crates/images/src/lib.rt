@@ -1,4 +1,6 @@
 // Request (v): bit images for the drive emulators, one 16-bit code word for each written byte.
+#![tactic(auto)]
+
 mod count;
 mod make;
 mod read;

@@ -135,7 +135,7 @@ module _ (c : Cursor) where
       let (here, rest) = both (is_sure c.short c.long d) _ h in
       cursor_after-cons (behind c two) d (e ∷ ds)
       ∙ ap (λ (f : Cursor). cursor_after f (e ∷ ds)) (past_is_behind two d)
-      ∙ cursor_after_either _ e ds rest
+      ∙ cursor_after_either (is_two (class_in (behind c two) d)) e ds rest
 
 -- ---- a list whose first two go by where the classing stands
 

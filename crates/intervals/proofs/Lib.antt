@@ -3,3 +3,4 @@ pub mod ClassCellLaws
 pub mod EitherLaws
 pub mod TakenAsLaws
 pub mod InsideLaws
+pub mod FillBehindTurn

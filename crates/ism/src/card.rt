@@ -8,8 +8,7 @@ use answers::card::{IsmLimits, converted};
 use answers::{IsmProfile, answer, profile};
 
 // 1, 2; else the sides that hold the margin down.
-#[unsafe(no_mangle)]
-pub extern "C" fn ism_margin_limits(p: IsmProfile) -> IsmLimits
+pub fn ism_margin_limits(p: IsmProfile) -> IsmLimits
     ensures { result ≡ limits_answer_of (limits_rule (profile_of p)) (limits_of (profile_of p)) }
 {
     let held = limits::margin_limits(profile(p));

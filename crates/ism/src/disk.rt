@@ -8,20 +8,13 @@ ghost use Rattle.answers.specs.Answers.{profile_of, answer_of, clear_field_answe
 
 use answers::{IsmAnswer, IsmProfile, answer, field_answer, profile};
 
-#[unsafe(no_mangle)]
-pub extern "C" fn ism_find(p: IsmProfile, intervals: &[u16], start: u64) -> IsmAnswer
+pub fn ism_find(p: IsmProfile, intervals: &[u16], start: u64) -> IsmAnswer
     ensures { result ≡ answer_of (find_rule (profile_of p) intervals.now start) }
 {
     answer(locks::finder::find_lock(profile(p), intervals, start as usize))
 }
 
-#[unsafe(no_mangle)]
-pub extern "C" fn ism_read_field(
-    p: IsmProfile,
-    intervals: &[u16],
-    bytes: u64,
-    out: &mut [u16],
-) -> IsmAnswer
+pub fn ism_read_field(p: IsmProfile, intervals: &[u16], bytes: u64, out: &mut [u16]) -> IsmAnswer
     ensures answer { result ≡ clear_field_answer_of
         (field_with_clearance (profile_of p) intervals.now bytes (length out.old)) }
     ensures output { out.new ≡ field_output (profile_of p) intervals.now bytes out.old }
@@ -30,8 +23,7 @@ pub extern "C" fn ism_read_field(
     field_answer(field)
 }
 
-#[unsafe(no_mangle)]
-pub extern "C" fn ism_make_sector(
+pub fn ism_make_sector(
     track: u8,
     side: u8,
     sector: u8,

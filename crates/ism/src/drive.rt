@@ -7,8 +7,7 @@ ghost use Rattle.answers.specs.Reports.{report_in, report_answer_of};
 use answers::drive::{IsmReport, given, rows};
 use answers::{IsmProfile, profile};
 
-#[unsafe(no_mangle)]
-pub extern "C" fn ism_drive_report(p: IsmProfile, intervals: &[u16]) -> IsmReport
+pub fn ism_drive_report(p: IsmProfile, intervals: &[u16]) -> IsmReport
     ensures { result ≡ report_answer_of (report_rule (profile_of p) intervals.now)
         (reported (profile_of p) intervals.now) }
 {
@@ -16,8 +15,7 @@ pub extern "C" fn ism_drive_report(p: IsmProfile, intervals: &[u16]) -> IsmRepor
     given(verdict, report::report_list(profile(p), intervals))
 }
 
-#[unsafe(no_mangle)]
-pub extern "C" fn ism_add_reports(a: IsmReport, b: IsmReport) -> IsmReport
+pub fn ism_add_reports(a: IsmReport, b: IsmReport) -> IsmReport
     ensures { result ≡ report_answer_of (add_rule (report_in a) (report_in b)) (added (report_in a) (report_in b)) }
 {
     let first = rows(a);

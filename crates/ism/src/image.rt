@@ -5,8 +5,7 @@ ghost use Rattle.answers.specs.Answers.{answer_of};
 
 use answers::{IsmAnswer, answer};
 
-#[unsafe(no_mangle)]
-pub extern "C" fn ism_make_image(items: &[u16], out: &mut [u16]) -> IsmAnswer
+pub fn ism_make_image(items: &[u16], out: &mut [u16]) -> IsmAnswer
     ensures answer { result ≡ answer_of (make_rule items.now (length out.old)) }
     ensures output { out.new ≡ make_output items.now out.old }
 {
@@ -14,8 +13,7 @@ pub extern "C" fn ism_make_image(items: &[u16], out: &mut [u16]) -> IsmAnswer
     answer(counted)
 }
 
-#[unsafe(no_mangle)]
-pub extern "C" fn ism_read_image(words: &[u16], out: &mut [u16]) -> IsmAnswer
+pub fn ism_read_image(words: &[u16], out: &mut [u16]) -> IsmAnswer
     ensures answer { result ≡ answer_of (read_image_rule words.now (length out.old)) }
     ensures output { out.new ≡ read_image_output words.now out.old }
 {

@@ -8,8 +8,7 @@ ghost use Rattle.answers.specs.Answers.{profile_of, given_merge};
 use answers::{IsmAnswer, IsmProfile, profile};
 use track::TrackIndex;
 
-#[unsafe(no_mangle)]
-pub extern "C" fn ism_index_track(p: IsmProfile, intervals: &[u16]) -> TrackIndex
+pub fn ism_index_track(p: IsmProfile, intervals: &[u16]) -> TrackIndex
     ensures { result ≡ index_answer_of (index_rule (profile_of p) intervals.now)
         (index_entries (profile_of p) intervals.now) }
 {
@@ -17,8 +16,7 @@ pub extern "C" fn ism_index_track(p: IsmProfile, intervals: &[u16]) -> TrackInde
 }
 
 // The set of a track's sectors, for the merge.
-#[unsafe(no_mangle)]
-pub extern "C" fn ism_read_track(p: IsmProfile, intervals: &[u16], set: &mut [u8]) -> IsmAnswer
+pub fn ism_read_track(p: IsmProfile, intervals: &[u16], set: &mut [u8]) -> IsmAnswer
     ensures answer { result ≡ given_merge (track_answer (profile_of p) intervals.now (length set.old)) }
     ensures output { set.new ≡ track_output (profile_of p) intervals.now set.old }
 {

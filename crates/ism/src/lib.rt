@@ -1,5 +1,7 @@
-// The C interface, as include/ism.h declares it. Each function hands its arguments to the library and its answer
-// back: nothing is computed here.
+// The C interface, as include/ism.h declares it; the crate ism_c exports it. Each function hands its arguments to the
+// library and its answer back: nothing is computed here.
+#![tactic(auto)]
+
 ghost use Rattle.std.specs.Prelude.{◌≡◌, ltb, length};
 ghost use Rattle.lengths.specs.Margin.{margin_rule};
 ghost use Rattle.codec.specs.Writer.{write_rule, write_output};
@@ -14,28 +16,25 @@ pub mod disk;
 pub mod drive;
 pub mod image;
 pub mod index;
-pub mod passes;
+pub mod merging;
 pub mod queue;
 pub mod slow;
 pub mod version;
 pub mod windows;
 
-#[unsafe(no_mangle)]
-pub extern "C" fn ism_margin(p: IsmProfile) -> IsmAnswer
+pub fn ism_margin(p: IsmProfile) -> IsmAnswer
     ensures { result ≡ answer_of (margin_rule (profile_of p)) }
 {
     answer(lengths::margin(profile(p)))
 }
 
-#[unsafe(no_mangle)]
-pub extern "C" fn ism_class(p: IsmProfile, interval: u16, two: u32) -> IsmAnswer
+pub fn ism_class(p: IsmProfile, interval: u16, two: u32) -> IsmAnswer
     ensures { result ≡ clear_answer_of (class_with_clearance (profile_of p) (ltb 0 two) interval) }
 {
     clear_answer(clearance::class_number(profile(p), interval, 0 < two))
 }
 
-#[unsafe(no_mangle)]
-pub extern "C" fn ism_write(p: IsmProfile, items: &[u16], out: &mut [u16]) -> IsmAnswer
+pub fn ism_write(p: IsmProfile, items: &[u16], out: &mut [u16]) -> IsmAnswer
     ensures answer { result ≡ answer_of (write_rule (profile_of p) items.now (length out.old)) }
     ensures output { out.new ≡ write_output (profile_of p) items.now out.old }
 {
@@ -43,8 +42,7 @@ pub extern "C" fn ism_write(p: IsmProfile, items: &[u16], out: &mut [u16]) -> Is
     answer(counted)
 }
 
-#[unsafe(no_mangle)]
-pub extern "C" fn ism_read(p: IsmProfile, intervals: &[u16], out: &mut [u16]) -> IsmAnswer
+pub fn ism_read(p: IsmProfile, intervals: &[u16], out: &mut [u16]) -> IsmAnswer
     ensures answer { result ≡ clear_answer_of (strip_with_clearance (profile_of p) intervals.now (length out.old)) }
     ensures output { out.new ≡ read_output (profile_of p) intervals.now out.old }
 {

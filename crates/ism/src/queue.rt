@@ -5,50 +5,43 @@ ghost use Rattle.fifo.specs.Rules.{rule_of, Put, TakeData, TakeMark, ChipPut, Ch
 
 use fifo::{Fifo, FifoAnswer};
 
-#[unsafe(no_mangle)]
-pub extern "C" fn ism_fifo_new(mode: u16) -> Fifo
+pub fn ism_fifo_new(mode: u16) -> Fifo
     ensures { state_of result ≡ fresh_fifo (mode_of mode) }
 {
     Fifo::new(mode)
 }
 
-#[unsafe(no_mangle)]
-pub extern "C" fn ism_fifo_put(queue: Fifo, item: u16) -> FifoAnswer
+pub fn ism_fifo_put(queue: Fifo, item: u16) -> FifoAnswer
     ensures { outcome_of result ≡ rule_of (Put item) (state_of queue) }
 {
     queue.put(item)
 }
 
-#[unsafe(no_mangle)]
-pub extern "C" fn ism_fifo_take_data(queue: Fifo) -> FifoAnswer
+pub fn ism_fifo_take_data(queue: Fifo) -> FifoAnswer
     ensures { outcome_of result ≡ rule_of TakeData (state_of queue) }
 {
     queue.take_data()
 }
 
-#[unsafe(no_mangle)]
-pub extern "C" fn ism_fifo_take_mark(queue: Fifo) -> FifoAnswer
+pub fn ism_fifo_take_mark(queue: Fifo) -> FifoAnswer
     ensures { outcome_of result ≡ rule_of TakeMark (state_of queue) }
 {
     queue.take_mark()
 }
 
-#[unsafe(no_mangle)]
-pub extern "C" fn ism_fifo_chip_put(queue: Fifo, item: u16) -> FifoAnswer
+pub fn ism_fifo_chip_put(queue: Fifo, item: u16) -> FifoAnswer
     ensures { outcome_of result ≡ rule_of (ChipPut item) (state_of queue) }
 {
     queue.chip_put(item)
 }
 
-#[unsafe(no_mangle)]
-pub extern "C" fn ism_fifo_chip_take(queue: Fifo) -> FifoAnswer
+pub fn ism_fifo_chip_take(queue: Fifo) -> FifoAnswer
     ensures { outcome_of result ≡ rule_of ChipTake (state_of queue) }
 {
     queue.chip_take()
 }
 
-#[unsafe(no_mangle)]
-pub extern "C" fn ism_fifo_read_error(queue: Fifo) -> FifoAnswer
+pub fn ism_fifo_read_error(queue: Fifo) -> FifoAnswer
     ensures { outcome_of result ≡ rule_of ReadError (state_of queue) }
 {
     queue.read_error()

@@ -7,8 +7,7 @@ ghost use Rattle.answers.specs.Slow.{corrected_answer_of};
 use answers::slow::{IsmCorrected, corrected_answer};
 use answers::{IsmProfile, profile};
 
-#[unsafe(no_mangle)]
-pub extern "C" fn ism_read_corrected(
+pub fn ism_read_corrected(
     p: IsmProfile,
     intervals: &[u16],
     start: u64,

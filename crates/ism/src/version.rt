@@ -2,16 +2,14 @@
 ghost use Rattle.std.specs.Prelude.{◌≡◌};
 ghost use Rattle.ism.specs.Version.{version_number};
 
-#[unsafe(no_mangle)]
-pub extern "C" fn ism_version() -> u32
+pub fn ism_version() -> u32
     ensures { result ≡ version_number 0 15 1 }
 {
     1501
 }
 
 // Its name is what counts: a program asks the linker for the interface that it was compiled against.
-#[unsafe(no_mangle)]
-pub extern "C" fn ism_interface_9() -> u32
+pub fn ism_interface_9() -> u32
     ensures { result ≡ 9 }
 {
     9

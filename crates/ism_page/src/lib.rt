@@ -1,5 +1,7 @@
-// The C interface of the pages, as include/ism_page.h declares it. Each function hands its arguments to the library and
-// its answer back: nothing is computed here.
+// The C interface of the pages, as include/ism_page.h declares it; the crate ism_page_c exports it. Each function hands
+// its arguments to the library and its answer back: nothing is computed here.
+#![tactic(auto)]
+
 ghost use Rattle.std.specs.Prelude.{◌≡◌, length};
 ghost use Rattle.page.specs.Reading.{read_answer, read_output, handed_back};
 ghost use Rattle.page.specs.Making.{made_answer, make_answer, make_output};
@@ -9,7 +11,7 @@ use page::{Made, Pages};
 
 // Number 0 for accepted. What a function does not give is 0.
 #[repr(C)]
-#[derive(Drop)]
+#[derive(Clone, Copy)]
 pub struct IsmAnswer {
     pub number: u32,
     pub place: u32,
@@ -42,16 +44,14 @@ fn answer(made: Made) -> IsmAnswer
     }
 }
 
-#[unsafe(no_mangle)]
-pub extern "C" fn ism_read_pages(set: &[u8], pages: u64, cells: &mut [u8]) -> Pages
+pub fn ism_read_pages(set: &[u8], pages: u64, cells: &mut [u8]) -> Pages
     ensures answer { result ≡ handed_back (read_answer set.now pages (length cells.old)) }
     ensures cells { cells.new ≡ read_output set.now pages cells.old }
 {
     page::read_pages(set, pages as usize, cells)
 }
 
-#[unsafe(no_mangle)]
-pub extern "C" fn ism_make_pages(cells: &[u8], pages: u64, set: &mut [u8]) -> IsmAnswer
+pub fn ism_make_pages(cells: &[u8], pages: u64, set: &mut [u8]) -> IsmAnswer
     ensures answer { result ≡ given_set (make_answer cells.now pages (length set.old)) }
     ensures set { set.new ≡ make_output cells.now pages set.old }
 {
@@ -60,8 +60,7 @@ pub extern "C" fn ism_make_pages(cells: &[u8], pages: u64, set: &mut [u8]) -> Is
 }
 
 // Its name is what counts: a program asks the linker for the interface that it was compiled against.
-#[unsafe(no_mangle)]
-pub extern "C" fn ism_page_interface_9() -> u32
+pub fn ism_page_interface_9() -> u32
     ensures { result ≡ 9 }
 {
     9

@@ -8,7 +8,7 @@ use crate::{Check, find_check};
 use lists::store;
 
 // The register after a list's bytes, and how many there are.
-#[derive(Drop)]
+#[derive(Clone, Copy)]
 pub struct Stored {
     pub check: Check,
     pub count: usize,

@@ -1,4 +1,6 @@
 // Document 01, "Items and the check register".
+#![tactic(auto)]
+
 mod bytes;
 mod lanes;
 mod list;
@@ -39,7 +41,7 @@ pub fn is_item(n: u16) -> bool
 }
 
 // The check register, and whether the written byte before was a mark byte.
-#[derive(Drop)]
+#[derive(Clone, Copy)]
 pub struct Check {
     pub register: u16,
     pub marked: bool,

@@ -1,4 +1,6 @@
 // Document 01, "From bits to cells", compare points and lengths, and "Profile", the margin.
+#![tactic(auto)]
+
 ghost use Rattle.std.specs.Prelude.{◌≡◌, ◌-◌, min};
 ghost use Rattle.refusal.specs.Answer.{counted_answer};
 ghost use Rattle.timing.specs.Profile.{profile_rule};

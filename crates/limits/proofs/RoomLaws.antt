@@ -91,6 +91,8 @@ module _ {p : Profile} (k : Kept p) where
       → 0 < length (limits_from p (one_more p) ss)
   unfolding limits_from
   some_is_named [] [] no_rooms i h over = absurd (omega (arith, h))
+  some_is_named [] (r ∷ rs) none i h over = elim none [ ]
+  some_is_named (s ∷ ss) [] none i h over = elim none [ ]
   some_is_named (s ∷ ss) (r ∷ rs) (room_more known same later) zero h over =
       seen_is_counted s (searched p s (one_more p)) (search_finds k s) (room_is_seen s known r same over) _
   some_is_named (s ∷ ss) (r ∷ rs) (room_more known same later) (suc i) h over =

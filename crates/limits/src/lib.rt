@@ -1,6 +1,8 @@
 // Document 02, (xii): what holds the margin down. Each side of a window edge that forbids margin + 1, with a one-byte
 // list that shows it. The lists are searched, lowest first: which one shows a side depends on which compare points are
 // equal.
+#![tactic(auto)]
+
 ghost use Rattle.std.specs.Prelude.{◌≡◌, true, false};
 ghost use Rattle.refusal.specs.Answer.{counted_answer};
 ghost use Rattle.timing.specs.Profile.{profile_rule};
@@ -17,7 +19,7 @@ pub use side::{Edge, Kind, Side};
 use timing::Profile;
 
 // A side, the one-byte list and the interval of it that show it, and that interval's length moved by margin + 1.
-#[derive(Drop)]
+#[derive(Clone, Copy)]
 pub struct Limit {
     pub side: Side,
     pub item: u16,
@@ -26,14 +28,14 @@ pub struct Limit {
 }
 
 // In the order of the sides; those beyond the count are all blank.
-#[derive(Drop)]
+#[derive(Clone, Copy)]
 pub struct Limits {
     pub count: usize,
     pub limits: [Limit; 10],
 }
 
 // The answer: 1, 2, or the count of the limits.
-#[derive(Drop)]
+#[derive(Clone, Copy)]
 pub struct Held {
     pub answer: Counted,
     pub limits: [Limit; 10],

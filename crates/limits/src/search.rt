@@ -7,7 +7,7 @@ use crate::side::{Side, crosses, is_two};
 use refusal::Counted;
 use timing::Profile;
 
-#[derive(Drop)]
+#[derive(Clone, Copy)]
 pub enum Seen {
     At { item: u16, interval: u16 },
     Nowhere,

@@ -7,7 +7,7 @@ ghost use Rattle.limits.specs.Sides;
 use timing::{Bounds, Cursor, Profile};
 
 // An edge of the windows.
-#[derive(Drop)]
+#[derive(Clone, Copy)]
 pub enum Edge {
     Min,
     B23,
@@ -16,7 +16,7 @@ pub enum Edge {
 }
 
 // The kinds of cell before: Min and Rpt count once, over both.
-#[derive(Drop)]
+#[derive(Clone, Copy)]
 pub enum Kind {
     Both,
     Short,
@@ -24,7 +24,7 @@ pub enum Kind {
 }
 
 // A side of an edge, after a kind of cell: the lengths below it or above it.
-#[derive(Drop)]
+#[derive(Clone, Copy)]
 pub struct Side {
     pub edge: Edge,
     pub after: Kind,

@@ -1,4 +1,6 @@
 // What all crates share on lists: definitions with their laws, and the stores into a caller's output.
+#![tactic(auto)]
+
 ghost use Rattle.std.specs.Prelude.{◌+◌, ◌≤◌, min, ◌≡◌, length, set};
 ghost use Rattle.lists.specs.Filled.{stored_at};
 

@@ -4,3 +4,4 @@ pub mod MarkLaws
 pub mod FirstLockLaws
 pub mod FillerLaws
 pub mod StartLaws
+pub mod ScanTurn

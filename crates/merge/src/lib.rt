@@ -1,4 +1,6 @@
 // Document 02 (vii): two passes over a bad disk.
+#![tactic(auto)]
+
 ghost use Rattle.std.specs.Prelude.{◌≡◌, ◌||◌, ltb, length};
 ghost use Rattle.refusal.specs.Answer.{accepted, refuse_if, verdict_answer, counted_answer};
 ghost use Rattle.sets.specs.Set.{sectors_in};
@@ -19,7 +21,7 @@ mod numbers;
 mod output;
 
 // How many sectors the merged set has and how many bytes it takes.
-#[derive(Drop)]
+#[derive(Clone, Copy)]
 pub enum Merged {
     Set { count: usize, bytes: usize },
     Refused(Refusal),

@@ -1,4 +1,6 @@
 // How fast a drive runs, and intervals corrected by it.
+#![tactic(auto)]
+
 ghost use Rattle.std.specs.Prelude.{◌≤◌, ◌<◌, ◌≡◌, length};
 ghost use Rattle.refusal.specs.Answer.{verdict_answer};
 ghost use Rattle.pace.specs.Pace.{difference, off_speed, pace_rule};
@@ -14,7 +16,7 @@ pub const RUN: usize = 64;
 const WIDE: u32 = 65535;
 
 // 32 × T1, and the sums of the even and of the odd ones of the intervals before a lock.
-#[derive(Drop)]
+#[derive(Clone, Copy)]
 pub struct Pace {
     pub nominal: u32,
     pub even: u32,

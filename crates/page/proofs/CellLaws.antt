@@ -1,5 +1,5 @@
 -- Why both halves of a byte give its dots: computed once over all bytes, and carried to each. Rests on no axiom.
-use Prim.Native.Nat.{ℕ, ◌+◌, ◌*◌, ◌/◌, ◌%◌, ◌≤◌, ◌<◌}
+use Prim.Native.Nat.{ℕ, ◌+◌, ◌/◌, ◌%◌, ◌≤◌, ◌<◌}
 use mathlib.Core.Path.{◌≡◌, refl, sym, ap, ◌∙◌}
 use mathlib.Core.Bool.{Bool, true, ◌&&◌}
 use native.Mathlib.Omega.{arith}
@@ -7,7 +7,6 @@ use borrow.Author.Tests.{leb-true, eqb-true}
 use lib.Bits.{bit_and}
 use lib.Count.{ones, ones_in}
 use lib.Dec.{eqb, leb}
-use lib.ListN.{length, get_or}
 use Rattle.lists.specs.Place.{everywhere}
 use Rattle.lists.specs.Table.{tabulated}
 use Rattle.lists.proofs.BoolLaws.{both}

@@ -4,12 +4,13 @@ use Prim.Native.Nat.{ℕ, zero, suc, ◌+◌, ◌≤◌, ◌<◌}
 use mathlib.Core.Path.{◌≡◌, refl, sym, ap, ◌∙◌}
 use mathlib.Core.Bool.{Bool, true, false, not, ◌&&◌, ◌||◌, true≢false}
 use mathlib.Core.List.{List, ◌∷◌}
+use native.Mathlib.Numerals.{add-one}
 use native.Mathlib.Omega.{arith}
 use borrow.Author.Tests.{eqb-true, eqb-false, not-false}
 use lib.Dec.{eqb}
 use lib.ListN.{length, get_or, take, drop, length-drop}
 use lib.Seq.{drop-cons, drop-drop, drop_at, length-take-le, take-add, take-take}
-use Rattle.lists.specs.Place.{anywhere, lowest}
+use Rattle.lists.specs.Place.{anywhere}
 use Rattle.lists.specs.Table.{tabulated}
 use Rattle.lists.proofs.BoolLaws.{both}
 use Rattle.lists.proofs.PlaceLaws.{lowest_of_none, below_lowest_fails}
@@ -141,3 +142,18 @@ module _
           ap (λ (bytes : List ℕ). anywhere is_dirt (drop 1000 bytes)) data_there
           ∙ ap (anywhere is_dirt) (drop_of_take 1000 24 rest long
           ∙ ap (take 24) (drop-drop 1000 (entry + 2) set ∙ ap (λ (k : ℕ). drop k set) at))
+
+-- the page of a turn stands in its sector, where none is lost
+pub stands_in_turn
+    : (set index : List ℕ) (indexed : Indexed set index)
+    (once : anywhere (is_twice_in (sectors_in set)) numbers ≡ false) (pages k : ℕ)
+    → pages ≤ 16
+    → anywhere (lost_at (sectors_in set)) (page_numbers pages) ≡ false
+    → k < pages
+    → (byte : k + 1 < 256) × There set index indexed once (k + 1) byte
+stands_in_turn set index indexed once pages k few none inside =
+    let byte : k + 1 < 256 = omega arith in (
+      byte,
+      page_is_there set index indexed once (k + 1) byte
+          (rw add-one (none_of_pages pages (lost_at (sectors_in set)) none k inside)),
+    )

@@ -11,7 +11,7 @@ use lib.ListN.{length, set, drop, length-append, length-map, drop_of_length-le}
 use Rattle.lists.specs.Filled.{stored_at}
 use Rattle.lists.specs.Place.{anywhere, lowest}
 use Rattle.lists.proofs.PlaceLaws.{lowest_of_none, lowest_of_some}
-use Rattle.refusal.specs.Answer.{Answer, accepted, refused, refuse_if, first_refusal}
+use Rattle.refusal.specs.Answer.{accepted, refused, refuse_if, first_refusal}
 use Rattle.refusal.proofs.AnswerLaws.{first_refusal_passes}
 use Rattle.timing.specs.Profile.{outside}
 use Rattle.sets.specs.Set.{Sector, is_misfit_set, sectors_in}

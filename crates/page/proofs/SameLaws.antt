@@ -2,15 +2,15 @@
 -- number. And reading and that merge turn a set away alike, since both begin with the tests of the set by itself. Rests
 -- on no axiom.
 use Prim.Native.Nat.{ℕ, suc, ◌*◌, ◌≤◌, ◌<◌}
-use mathlib.Core.Path.{◌≡◌, refl, sym, ap, ap₂, ◌∙◌}
-use mathlib.Core.Bool.{Bool, true, false, cond, ◌||◌, true≢false}
+use mathlib.Core.Path.{◌≡◌, refl, sym, ap, ◌∙◌}
+use mathlib.Core.Bool.{Bool, true, false, cond, true≢false}
 use mathlib.Core.List.{List, []}
 use native.Mathlib.Omega.{arith}
-use borrow.Author.Tests.{eqb-true, eqb-false, eq-eqb, ltb-false}
+use borrow.Author.Tests.{eq-eqb}
 use lib.Dec.{eqb, ltb}
 use lib.ListN.{length}
 use Rattle.lists.specs.Place.{anywhere, lowest}
-use Rattle.refusal.specs.Answer.{Answer, accepted, refused, refuse_if, first_refusal, settled}
+use Rattle.refusal.specs.Answer.{Answer, accepted, refused, refuse_if, first_refusal}
 use Rattle.refusal.proofs.AnswerLaws.{first_refusal_accepts}
 use Rattle.timing.specs.Profile.{outside}
 use Rattle.sets.specs.Set.{Sector, sectors_in}

@@ -2,7 +2,7 @@
 -- of 00. Rests on no axiom.
 use Prim.Native.Nat.{ℕ, zero, suc, ◌+◌, ◌*◌, ◌≤◌, ◌<◌}
 use mathlib.Core.Path.{◌≡◌, refl, sym, ap, ap₂, ◌∙◌}
-use mathlib.Core.Bool.{Bool, true, false, not, ◌&&◌, true≢false}
+use mathlib.Core.Bool.{Bool, true, false, true≢false}
 use mathlib.Core.List.{List, [], ◌∷◌, ◌++◌}
 use native.Mathlib.Omega.{arith}
 use borrow.Author.Tests.{eqb-true, ltb-false, not-false}
@@ -12,7 +12,6 @@ use lib.Seq.{take_at, drop_at, drop-drop, length-take-le}
 use Rattle.lists.specs.Place.{anywhere, everywhere}
 use Rattle.lists.proofs.BoolLaws.{both}
 use Rattle.lists.proofs.PlaceLaws.{nowhere_fails_at_first, nowhere_in_rest, everywhere_passes_at_first}
-use Rattle.refusal.specs.Answer.{accepted}
 use Rattle.refusal.proofs.AnswerLaws.{refuse_if_accepts, first_refusal_accepts}
 use Rattle.timing.specs.Profile.{outside}
 use Rattle.sectors.specs.Sector.{sector_size}
@@ -22,13 +21,11 @@ use Rattle.sets.specs.Alone.{set_rule}
 use Rattle.sets.specs.Claims.{is_sector}
 use Rattle.sets.proofs.FormLaws.{sets_as_bytes, fits_is_some}
 use Rattle.sets.proofs.SetRuleLaws.{accepted_set}
-use Rattle.merge.specs.Merge.{as_list}
-use Rattle.merge.proofs.HeldLaws.{has_number, held_has_number}
+use Rattle.merge.proofs.HeldLaws.{held_has_number}
 use Rattle.merge.proofs.MergedLaws.{held_is_sectors}
 use Rattle.page.specs.Page.{page_numbers, cells_in, fill_in, is_dirt, is_soiled}
 use Rattle.page.specs.Reading.{is_lost, data_in, lost_at, soiled_at, page_at, pages_in, pages_rule, read_rule}
 use Rattle.page.specs.Making.{page_of, sector_of_page}
-use Rattle.page.proofs.EachPageLaws.{in_range}
 use Rattle.page.proofs.PageLaws.{none_of_pages}
 use Rattle.page.proofs.MakingLaws.{page_here}
 use Rattle.page.proofs.ReadingLaws.{cells_after, all_cells, cells_here, pages_size}

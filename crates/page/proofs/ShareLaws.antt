@@ -1,6 +1,6 @@
 -- Why the sets of stretches of pages, merged, are the set of all of them: the sectors of neighbouring stretches are never
 -- at odds, and by number they stand one after the other. Rests on no axiom.
-use Prim.Native.Nat.{ℕ, zero, suc, ◌+◌, ◌*◌, ◌≤◌, ◌<◌}
+use Prim.Native.Nat.{ℕ, zero, suc, ◌+◌, ◌*◌, ◌≤◌}
 use mathlib.Core.Path.{◌≡◌, refl, sym, ap, ap₂, ◌∙◌}
 use mathlib.Core.Bool.{true}
 use mathlib.Core.List.{List, [], ◌∷◌, map}

@@ -8,7 +8,7 @@ use lists::copy;
 use refusal::Refusal;
 
 // How many sectors were made and how many bytes they take.
-#[derive(Drop)]
+#[derive(Clone, Copy)]
 pub enum Made {
     Set { count: usize, bytes: usize },
     Refused(Refusal),

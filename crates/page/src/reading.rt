@@ -19,7 +19,7 @@ use refusal::{Counted, Refusal};
 // Number and place of a refusal, 0 where there is none; how many pages were read and how many cells were stored; and
 // the number of raised dots on each page, 0 beyond those read.
 #[repr(C)]
-#[derive(Drop)]
+#[derive(Clone, Copy)]
 pub struct Pages {
     pub number: u32,
     pub place: u32,

@@ -16,7 +16,7 @@ use timing::{Cursor, Profile};
 const BLOCK: usize = 128;
 
 // How far a pass by blocks came, and where the classing stands.
-#[derive(Drop)]
+#[derive(Clone, Copy)]
 pub struct Progress {
     pub pass: Pass,
     pub cursor: Cursor,

@@ -1,5 +1,7 @@
 // Reading a stream interval by interval: one pass of the reading machine, which both readers share, and one that only
 // looks.
+#![tactic(auto)]
+
 ghost use Rattle.std.specs.Prelude.{◌≡◌, ◌-◌, ◌^◌, ◌≤◌, length};
 ghost use Rattle.lists.specs.Filled.{stored_at};
 ghost use Rattle.timing.specs.Class.{at_start};

@@ -21,14 +21,14 @@ use timing::Cursor;
 const BLOCK: usize = 128;
 
 // The register, and whether no gap is open in it.
-#[derive(Drop)]
+#[derive(Clone, Copy)]
 pub struct Seen {
     pub reading: Reading,
     pub clear: bool,
 }
 
 // How far it came, and where the classing stands.
-#[derive(Drop)]
+#[derive(Clone, Copy)]
 pub struct Look {
     pub seen: Seen,
     pub used: usize,

@@ -8,7 +8,7 @@ ghost use Rattle.symbols.specs.machine.Gaps.{gaps_from};
 ghost use Rattle.passes.specs.machine.Lanes.{packed, sums_of};
 
 // The half cells counted so far, and whether a gap was among them.
-#[derive(Drop)]
+#[derive(Clone, Copy)]
 pub struct Tally {
     pub sum: u32,
     pub gap: bool,

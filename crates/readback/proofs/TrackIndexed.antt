@@ -24,10 +24,10 @@ use Rattle.readback.specs.TrackIndexed.{Sector, items_of_sector, entry_behind, e
 use Rattle.readback.specs.TrackIndexed.{TrackIndexed, MadeTracksAreIndexed}
 use Rattle.readback.proofs.TrackFound.{track_found}
 
-pub as_many : (before : List ℕ) (ss : List Sector) → length (entries_behind before ss) ≡ length ss
+pub as_many : (ss : List Sector) (before : List ℕ) → length (entries_behind before ss) ≡ length ss
 unfolding entries_behind
-as_many before [] = refl
-as_many before (s ∷ ss) = ap suc (as_many _ ss)
+as_many [] before = refl
+as_many (s ∷ ss) before = ap suc (as_many ss _)
 
 -- behind a lower place, and not of a lower number
 all_behind
@@ -69,7 +69,7 @@ indexed_by_entries
     → TrackIndexed p changed ss
 unfolding index_rule crowd_rule index_entries handed_back
 indexed_by_entries ss p changed few accepts all =
-    let count = as_many [] ss in
+    let count = as_many ss [] in
     let answer : index_rule p changed ≡ accepted (length ss) =
     rw (accepts, all, le-ltb 32 (length (entries_behind [] ss)) (omega arith), count) in
     let entries : index_entries p changed ≡ padded (in_order (entries_behind [] ss)) = rw (answer, all) in

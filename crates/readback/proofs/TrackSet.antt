@@ -247,7 +247,7 @@ module _
         ap length (sym set_is_by_number ∙ listed_sectors)
         ∙ length-map listed (sector_from p changed)
         ∙ ordered_length (entries_behind [] ss)
-        ∙ as_many [] ss
+        ∙ as_many ss []
 
     pub set_held : (n : ℕ) → held_of n (by_number ss) ≡ held_of n (map as_read ss)
     set_held n = ap (held_of n) (sym set_is_by_number ∙ listed_sectors) ∙ same_held n

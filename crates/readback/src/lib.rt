@@ -1,1 +1,2 @@
 // No code: that a made sector reads back, stated over the definitions that the contracts cite, and proved.
+#![tactic(auto)]

@@ -1,9 +1,11 @@
 // Document 01, "Turned-away numbers": why an input is refused, with the place that the table gives to it.
+#![tactic(auto)]
+
 ghost use Rattle.std.specs.Prelude.{◌≡◌};
 ghost use Rattle.refusal.specs.Table.{number_of, place_of};
 ghost use Rattle.refusal.specs.Answer.{counted_answer};
 
-#[derive(Drop)]
+#[derive(Clone, Copy)]
 pub enum Refusal {
     // 1, unset: which of the profile's numbers, from 1
     ProfileOutOfRange(u32),
@@ -48,14 +50,14 @@ pub enum Refusal {
 }
 
 // What a test answers that gives no value.
-#[derive(Drop)]
+#[derive(Clone, Copy)]
 pub enum Verdict {
     Accepted,
     Refused(Refusal),
 }
 
 // What an operation answers that gives one number: a margin, a class, a place, or how many it wrote.
-#[derive(Drop)]
+#[derive(Clone, Copy)]
 pub enum Counted {
     Count(usize),
     Refused(Refusal),

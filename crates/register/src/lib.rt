@@ -1,4 +1,6 @@
 // Bytes through the check register.
+#![tactic(auto)]
+
 ghost use Rattle.std.specs.Prelude.{◌%◌, ◌<◌, ◌≡◌};
 ghost use Rattle.register.specs.Register.{fed};
 ghost use Rattle.register.specs.machine.Bytes.{fed_bytes};

@@ -6,3 +6,4 @@ pub mod RefusalLaws
 pub mod WholeLaws
 pub mod SpanLaws
 pub mod DriveReports
+pub mod GatherTurn

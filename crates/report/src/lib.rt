@@ -1,5 +1,7 @@
 // Document 02, (i): how worn a drive is. A report has five rows of four numbers and is handed back whole; what is
 // turned away is told by a function beside the one that hands the report back.
+#![tactic(auto)]
+
 ghost use Rattle.std.specs.Prelude.{◌≡◌};
 ghost use Rattle.refusal.specs.Answer.{verdict_answer};
 ghost use Rattle.report.specs.Report.{report_rule, reported, add_reports, add_rule, added};

@@ -1,5 +1,7 @@
 // Runs of class 2. The class of an interval depends on whether the one before it is of class 2: `short` are the bounds
 // after one that is, `long` those after any other. So in a run each interval but the first goes by `short` alone.
+#![tactic(auto)]
+
 ghost use Rattle.std.specs.Prelude.{◌+◌, ◌<◌, ◌≤◌, ◌≡◌, true, length};
 ghost use Rattle.timing.specs.Profile.{profile_rule};
 ghost use Rattle.timing.specs.Class.{Ascending};

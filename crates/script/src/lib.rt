@@ -1,4 +1,6 @@
 // Document 01, "The strip program": its input, as a profile and a list of items.
+#![tactic(auto)]
+
 mod items;
 mod profile;
 
@@ -13,21 +15,21 @@ use timing::Profile;
 pub const INPUT_BYTES: usize = 16384;
 
 // What the first line of the input is.
-#[derive(Drop)]
+#[derive(Clone, Copy)]
 pub enum ProfileLine {
     Given(Profile),
     Faulty,
 }
 
 // The place after a line's items.
-#[derive(Drop)]
+#[derive(Clone, Copy)]
 pub enum ItemLine {
     Items(usize),
     Faulty,
 }
 
 // What the input is: a profile and how many items the buffer holds, or where it is garbled.
-#[derive(Drop)]
+#[derive(Clone, Copy)]
 pub enum Script {
     Given(Profile, usize),
     Refused(Refusal),

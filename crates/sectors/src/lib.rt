@@ -1,4 +1,6 @@
 // Document 01, "Sector maker": the items of one sector, ID field and data field.
+#![tactic(auto)]
+
 ghost use Rattle.std.specs.Prelude.{◌+◌, ◌≤◌, ◌≡◌, [], ◌∷◌, ◌++◌, length, replicate};
 ghost use Rattle.lists.specs.Filled.{stored_at};
 ghost use Rattle.refusal.specs.Answer.{counted_answer};

@@ -8,7 +8,7 @@ use lib.Dec.{eqb}
 use lib.ListN.{length, get_or, take, drop}
 use Rattle.lists.specs.Place.{anywhere}
 use Rattle.sectors.specs.Sector.{sector_size}
-use Rattle.sets.specs.Set.{Sector, sector_of, sectors_in}
+use Rattle.sets.specs.Set.{sector_of, sectors_in}
 use Rattle.sets.specs.Held.{Nothing, One, held_of, is_twice, numbers}
 use Rattle.sets.specs.Alone.{is_twice_in}
 use Rattle.sets.specs.machine.Index.{sector_at, end_of, Indexed}

@@ -6,7 +6,7 @@ ghost use Rattle.sets.specs.machine.Span.{joined_span};
 use lists::at_most;
 
 // From `low` on, below `high`.
-#[derive(Drop)]
+#[derive(Clone, Copy)]
 pub struct Span {
     pub low: usize,
     pub high: usize,

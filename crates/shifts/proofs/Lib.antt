@@ -4,3 +4,6 @@ pub mod TopLaws
 pub mod AddedLaws
 pub mod EightLaws
 pub mod SixteenLaws
+pub mod ShiftEightsTopped
+pub mod ShiftEightsTurn
+pub mod ShiftInTurn

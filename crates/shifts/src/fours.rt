@@ -14,7 +14,7 @@ use lists::at_most;
 use symbols::Reading;
 
 // The register after some fours, and how many words they made whole.
-#[derive(Drop)]
+#[derive(Clone, Copy)]
 pub struct Fours {
     pub reading: Reading,
     pub count: usize,

@@ -1,4 +1,6 @@
 // Cells into the reading machine, cell by cell and eight at a time.
+#![tactic(auto)]
+
 use symbols::Reading;
 
 pub mod fours;
@@ -6,7 +8,7 @@ pub mod shift;
 mod top;
 
 // How far a pass came, and how many intervals it used.
-#[derive(Drop)]
+#[derive(Clone, Copy)]
 pub struct Pass {
     pub reading: Reading,
     pub used: usize,

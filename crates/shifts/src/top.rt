@@ -7,7 +7,7 @@ ghost use Rattle.shifts.specs.machine.Fours.{Tops, added_cell, added_all, past_w
 use symbols::Reading;
 
 // A cell is one difference and one bit set, and no shift waits for another.
-#[derive(Drop)]
+#[derive(Clone, Copy)]
 pub struct Top {
     pub cells: u64,
     // the places below them

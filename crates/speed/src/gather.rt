@@ -31,14 +31,14 @@ const BLOCK: usize = 64;
 const BLOCK_WORDS: usize = 17;
 
 // How far the reading of a block came.
-#[derive(Drop)]
+#[derive(Clone, Copy)]
 struct BlockRead {
     at: Progress,
     check: Check,
 }
 
 // How far the pass came: the check register after its items, the first interval that is no cell, and the extremes.
-#[derive(Drop)]
+#[derive(Clone, Copy)]
 pub struct Along {
     pub at: Progress,
     pub check: Check,
@@ -47,7 +47,7 @@ pub struct Along {
 }
 
 // How the pass ends: why it is refused, or how many intervals it used; whether the register is zero; the clearance.
-#[derive(Drop)]
+#[derive(Clone, Copy)]
 pub struct Gathered {
     pub end: Counted,
     pub holds: bool,

@@ -26,7 +26,7 @@ const SHORT_FIELD_BYTES: usize = 16;
 
 // What a field reads as, its clearance, the place of its lock, and the signed differences of the two sums to 32 × T1;
 // on a refusal these are 0.
-#[derive(Drop)]
+#[derive(Clone, Copy)]
 pub struct Corrected {
     pub read: FieldRead,
     pub clearance: u16,

@@ -1,4 +1,6 @@
 // Document 01, "The strip program": from the input's bytes to the output's.
+#![tactic(auto)]
+
 mod output;
 
 ghost use Rattle.std.specs.Prelude.{◌≤◌, ◌≡◌, length};

@@ -14,12 +14,12 @@ use Rattle.symbols.proofs.HalfCells.{halves, track, from_letter}
 use Rattle.symbols.proofs.HalfLaws.{halves_length, source_of_letter}
 use Rattle.symbols.proofs.NumberLaws.{ones_of_number, last_digits}
 
-ends_in_one : (n : ℕ) (cs : List Cell) → number_from (n * 2 + 1) (halves cs) % 2 ≡ 1
+ends_in_one : (cs : List Cell) (n : ℕ) → number_from (n * 2 + 1) (halves cs) % 2 ≡ 1
 unfolding halves number_from
-ends_in_one n [] = digits_mod n (omega arith)
-ends_in_one n (Short ∷ cs) = ends_in_one _ cs
-ends_in_one n (Medium ∷ cs) = ends_in_one _ cs
-ends_in_one n (Long ∷ cs) = ends_in_one _ cs
+ends_in_one [] n = digits_mod n (omega arith)
+ends_in_one (Short ∷ cs) n = ends_in_one cs _
+ends_in_one (Medium ∷ cs) n = ends_in_one cs _
+ends_in_one (Long ∷ cs) n = ends_in_one cs _
 
 -- the half cells before the data bit of a letter
 cells_before :
@@ -53,7 +53,7 @@ module _ (cs : List Cell) (i q : ℕ) (inside : i < length (read_bits cs)) (size
 
   odd : number_from 0 rest % 2 ≡ 1
   unfolding track number_from
-  odd = ap (λ (x : ℕ). x % 2) (sym rest_number) ∙ mod-mod-pow all q 1 ∙ ends_in_one 0 cs
+  odd = ap (λ (x : ℕ). x % 2) (sym rest_number) ∙ mod-mod-pow all q 1 ∙ ends_in_one cs 0
 
   register_rest : (j : ℕ) → j + (q + 1) ≡ 32 → all % 2 ^ 32 % 2 ^ (q + 1) ≡ number_from 0 rest
   register_rest j e =

@@ -1,10 +1,12 @@
 // Document 01, "From bits to cells": bits, symbols and cells of written bytes, and the reading of cells.
+#![tactic(auto)]
+
 ghost use Rattle.std.specs.Prelude.{◌≡◌, ◌≤◌};
 ghost use Rattle.symbols.specs.machine.Step.{fresh_reading, shifted, is_whole, code_word, closed};
 ghost use Rattle.symbols.specs.machine.Step.{empty_reading, stray_now, place_now};
 
 // A cell as it is read: of 2, 3 or 4 units.
-#[derive(Drop)]
+#[derive(Clone, Copy)]
 pub enum Cell {
     Short,
     Medium,
@@ -13,7 +15,7 @@ pub enum Cell {
 
 // Where the reading of cells stands: a shift register of half cells, as a data separator has one. A transition is a 1,
 // and a cell of so many units puts the next 1 so many half cells after the last.
-#[derive(Drop)]
+#[derive(Clone, Copy)]
 pub struct Reading {
     // the half cells read, the latest in the least significant place
     pub bits: u32,

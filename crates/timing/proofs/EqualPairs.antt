@@ -23,7 +23,7 @@ classes_of_pairs
 unfolding classes_from
 classes_of_pairs n two [] = refl
 classes_of_pairs n two (d ∷ ds) =
-    classes_of-cons (paired n) two d ds ∙ ap₂ ◌∷◌ (class_of_pair n two d) (classes_of_pairs n _ ds)
+    classes_of-cons (paired n) two d ds ∙ ap₂ ◌∷◌ (class_of_pair n two d) (classes_of_pairs n (is_two (class_of (paired n) two d)) ds)
 
 -- ---- the windows
 

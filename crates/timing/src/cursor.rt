@@ -8,7 +8,7 @@ use crate::{Bounds, Class, HalfClocks, Profile};
 
 // Where the classing of a list stands: the edges of the windows for the next interval, and the bounds among which those
 // for the one after it are chosen. The bounds are held, and not the kind before, so that a loop chooses once a turn.
-#[derive(Drop)]
+#[derive(Clone, Copy)]
 pub struct Cursor {
     pub min: HalfClocks,
     pub bounds: Bounds,
@@ -27,7 +27,7 @@ fn chosen(two: bool, short: Bounds, long: Bounds) -> Bounds
 }
 
 // The class of an interval, and where the classing stands after it.
-#[derive(Drop)]
+#[derive(Clone, Copy)]
 pub struct Classed {
     pub class: Class,
     pub next: Cursor,

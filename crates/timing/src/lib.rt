@@ -1,4 +1,6 @@
 // Document 01, "Profile", with document 02, (ix): the eleven numbers, when they are true, and the class of an interval.
+#![tactic(auto)]
+
 mod rule;
 
 ghost use Rattle.std.specs.Prelude.{◌≡◌, ◌*◌, ◌<◌};
@@ -14,11 +16,11 @@ pub use cursor::{Classed, Cursor};
 use refusal::{Counted, Verdict};
 
 // A compare point, in whole clocks.
-#[derive(Drop)]
+#[derive(Clone, Copy)]
 pub struct Clocks(pub u16);
 
 // A length, in half clocks.
-#[derive(Drop)]
+#[derive(Clone, Copy)]
 pub struct HalfClocks(pub u16);
 
 impl Clocks {
@@ -35,21 +37,21 @@ impl Clocks {
 pub const PROFILE_NUMBERS: usize = 11;
 
 // The least and the greatest that a number may be.
-#[derive(Drop)]
+#[derive(Clone, Copy)]
 pub struct Range {
     pub low: u16,
     pub high: u16,
 }
 
 // The bounds between the windows of classes 2, 3 and 4, after one kind of interval.
-#[derive(Drop)]
+#[derive(Clone, Copy)]
 pub struct Bounds {
     pub b23: HalfClocks,
     pub b34: HalfClocks,
 }
 
 // A drive's timing. Any 16-bit number can stand in each place; `check` says whether it may be used.
-#[derive(Drop)]
+#[derive(Clone, Copy)]
 pub struct Profile {
     pub t1: HalfClocks,
     pub t0: HalfClocks,
@@ -109,7 +111,7 @@ impl Profile {
 }
 
 // The class of an interval: narrow, 2, 3, 4 or wide.
-#[derive(Drop)]
+#[derive(Clone, Copy)]
 pub enum Class {
     Narrow,
     Two,

@@ -11,7 +11,7 @@ use timing::Profile;
 
 // Found and holds are 1 or 0; without data found, holds and data_place are 0.
 #[repr(C)]
-#[derive(Drop)]
+#[derive(Clone, Copy)]
 pub struct IndexEntry {
     pub id_place: u64,
     pub data_place: u64,
@@ -26,7 +26,7 @@ pub struct IndexEntry {
 // Number and place of a refusal, 0 where there is none; how many entries there are, and these. The fields of entries
 // beyond the count are 0.
 #[repr(C)]
-#[derive(Drop)]
+#[derive(Clone, Copy)]
 pub struct TrackIndex {
     pub number: u32,
     pub place: u32,

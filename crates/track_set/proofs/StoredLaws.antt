@@ -7,7 +7,7 @@ use mathlib.Core.List.{List, [], ◌∷◌, ◌++◌, map, append_assoc}
 use native.Mathlib.Omega.{arith}
 use borrow.Rule.Slice.PartMut.{put_mid}
 use lib.ListN.{length, set, take, drop, length-set, length-map, length-drop}
-use lib.Seq.{sets, sets-eq, drop-drop, length-take-le}
+use lib.Seq.{sets-eq, drop-drop, length-take-le}
 use Rattle.lists.specs.Filled.{stored_at}
 use Rattle.lists.proofs.StoreLaws.{stored_none, front_fills}
 use Rattle.timing.specs.Class.{classes_of}

@@ -1,4 +1,6 @@
 // The sectors of a track whose data was found, as a set: what the merge takes.
+#![tactic(auto)]
+
 ghost use Rattle.std.specs.Prelude.{◌+◌, ◌≤◌, ◌≡◌, length};
 ghost use Rattle.lists.specs.Filled.{stored_at};
 ghost use Rattle.timing.specs.Profile.{profile_rule};
@@ -12,7 +14,7 @@ use timing::Profile;
 use track::{IndexEntry, index_track};
 
 // Number and place of a refusal, 0 where there is none; how many sectors there are, and how many bytes are stored.
-#[derive(Drop)]
+#[derive(Clone, Copy)]
 pub struct TrackSet {
     pub number: u32,
     pub place: u32,

@@ -1,4 +1,6 @@
 // Request (v): the code word of a byte.
+#![tactic(auto)]
+
 mod table;
 
 ghost use Rattle.std.specs.Prelude.{◌≡◌, cond};

@@ -1,0 +1,48 @@
+-- `count::count_bytes` is a fold: the tally so far, and then the bytes from k on, make the whole. Rests on no axiom.
+use Prim.Native.Nat.{ℕ, ◌+◌, ◌<◌}
+use mathlib.Core.Path.{◌≡◌, refl, sym, ap, ◌∙◌}
+use mathlib.Core.List.{List}
+use native.Mathlib.Omega.{arith}
+use lib.ListN.{length, get_or, drop, drop_of_length-le}
+use Rattle.images.specs.machine.Tally.{tallied, tallied_byte}
+use Rattle.images.specs.declared.count.Tally.{Tally}
+use Rattle.images.proofs.TallyLaws.{tallied_from, tallied_none, tally_at_least}
+use Rattle.images.proofs.count.count_bytes.Goals as goal
+
+-- no tally on the way is larger than that of the whole
+small_on_the_way : (start tally : Tally) (bytes : List ℕ) (k : ℕ)
+    → k < length bytes
+    → tallied tally (drop k bytes) ≡ tallied start bytes
+    → (tallied start bytes).cells < 65536
+    → (tallied_byte tally (get_or bytes k 0)).cells < 65536
+small_on_the_way start tally bytes k h whole small =
+    let next = tallied_byte tally (get_or bytes k 0) in
+    let least = tally_at_least next (drop (k + 1) bytes) in
+    let same : (tallied next (drop (k + 1) bytes)).cells ≡ (tallied start bytes).cells =
+    ap (λ (t : Tally). t.cells) (sym (tallied_from tally bytes k h) ∙ whole) in
+    omega arith
+
+pub loop-k-init : goal.loop-k-init
+loop-k-init c = (omega arith, refl)
+
+pub count_byte-tally-requires : goal.count_byte-tally-requires
+count_byte-tally-requires c =
+    let head = c.loop-k in
+    small_on_the_way c.args.start head.tally c.args.bytes.now head.k c.loop-k-test.true
+    head.invariant.1 c.requires
+
+pub loop-k-preserved : goal.loop-k-preserved
+loop-k-preserved c =
+    let head = c.loop-k in
+    let bytes = c.args.bytes.now in (
+      omega arith,
+      ap (λ (t : Tally). tallied t (drop (head.k + 1) bytes)) c.count_byte-tally.ensures
+          ∙ sym (tallied_from head.tally bytes head.k c.loop-k-test.true)
+          ∙ head.invariant.1,
+    )
+
+pub returns : goal.returns
+returns c =
+    let head = c.loop-k in
+    let bytes = c.args.bytes.now in
+    rw (drop_of_length-le bytes c.loop-k-test.false, tallied_none head.tally) at head.invariant.1

@@ -1,0 +1,77 @@
+-- `Check::after_run` keeps what the bytes from k on make of the state: eights do, and two numbers below 256 pass
+-- through as the data bytes that they are. Rests on no axiom.
+use Prim.Native.Nat.{ℕ, ◌+◌, ◌≤◌, ◌<◌}
+use mathlib.Core.Path.{◌≡◌, refl, sym, ap, ◌∙◌}
+use mathlib.Core.List.{List}
+use native.Mathlib.Omega.{arith}
+use lib.Bits.{bit_or, or_add_and, and_le_l, and_le_r}
+use lib.ListN.{length, get_or, drop}
+use Rattle.items.specs.Written.{after_bytes}
+use Rattle.items.specs.declared.Check.{Check}
+use Rattle.items.proofs.CheckLaws.{unmarked, after_bytes_from, after_two_data_from}
+use Rattle.items.proofs.Check.after_run.Goals as goal
+
+both_small : (a b : ℕ) → bit_or a b ≤ 255 → (a < 256) × (b < 256)
+both_small a b h = (omega (arith, or_add_and a b, and_le_r a b), omega (arith, or_add_and a b, and_le_l a b))
+
+-- what the loop keeps, from the function's start on
+kept_from_start_2
+    : (c : goal.After-loop-k)
+    → after_bytes c.loop-k.check
+    (drop c.loop-k.k c.args.bytes.now)
+    ≡ after_bytes c.args.self
+    (drop c.args.from
+    c.args.bytes.now)
+kept_from_start_2 c =
+    let bytes = c.args.bytes.now in
+    c.loop-k.invariant.2
+    ∙ c.after_eights-eights.ensures.state
+    ∙ ap (λ (s : Check). after_bytes s (drop (c.args.from + 1) bytes)) c.after_byte-first.ensures
+    ∙ sym (after_bytes_from _ bytes _ c.requires)
+
+-- what the loop keeps, from the function's start on
+kept_from_start
+    : (c : goal.Then-high-low-gt255)
+    → after_bytes c.loop-k.check
+    (drop c.loop-k.k c.args.bytes.now)
+    ≡ after_bytes c.args.self
+    (drop c.args.from
+    c.args.bytes.now)
+kept_from_start c =
+    let bytes = c.args.bytes.now in
+    c.loop-k.invariant.2
+    ∙ c.after_eights-eights.ensures.state
+    ∙ ap (λ (s : Check). after_bytes s (drop (c.args.from + 1) bytes)) c.after_byte-first.ensures
+    ∙ sym (after_bytes_from _ bytes _ c.requires)
+
+pub overflow_sub-last : goal.overflow_sub-last
+overflow_sub-last c = omega (arith, c.requires)
+
+pub after_eights-eights-requires : goal.after_eights-eights-requires
+after_eights-eights-requires c = omega (arith, c.requires)
+
+pub loop-k-init : goal.loop-k-init
+loop-k-init c = let place = c.after_eights-eights.ensures.place in (omega (arith, place.0), place.1, refl)
+
+pub returns-then-high-low-gt255 : goal.returns-then-high-low-gt255
+returns-then-high-low-gt255 c =
+    record { place = (c.loop-k.invariant.0, c.loop-k.invariant.1); state = kept_from_start c }
+
+pub feed_two-requires : goal.feed_two-requires
+feed_two-requires c = both_small _ _ (omega (arith, c.if-high-low-gt255.false))
+
+pub loop-k-preserved : goal.loop-k-preserved
+loop-k-preserved c =
+    let head = c.loop-k in
+    let bytes : List ℕ = c.args.bytes.now in
+    let inside : head.k + 1 < length bytes = let test = c.loop-k-test.true in omega arith in
+    let small =
+    both_small (get_or bytes head.k 0) (get_or bytes (head.k + 1) 0) (omega (arith, c.if-high-low-gt255.false)) in (
+      omega (arith, head.invariant.0),
+      omega (arith, inside),
+      ap (λ (r : ℕ). after_bytes (unmarked r) (drop (head.k + 2) bytes)) c.feed_two.ensures
+          ∙ sym (after_two_data_from head.check bytes head.k inside small.0 small.1) ∙ head.invariant.2,
+    )
+
+pub returns : goal.returns
+returns c = record { place = (c.loop-k.invariant.0, c.loop-k.invariant.1); state = kept_from_start_2 c }

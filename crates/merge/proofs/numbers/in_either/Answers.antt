@@ -1,0 +1,10 @@
+-- Why `merge::numbers::in_either` tells whether one of two entries is not 0: it tests the one, then the other. Rests on
+-- no axiom.
+use borrow.Author.Tests.{eq-eqb, ne_eqb}
+use Rattle.merge.proofs.numbers.in_either.Goals as goal
+
+pub returns-then-a-ne0 : goal.returns-then-a-ne0
+returns-then-a-ne0 c = rw (ne_eqb _ 0 c.if-a-ne0.true)
+
+pub returns : goal.returns
+returns c = rw (eq-eqb _ 0 c.if-a-ne0.false)

@@ -1,0 +1,8 @@
+-- `look::move_on` is the definition, field by field. Rests on no axiom.
+use Rattle.std.proofs.Common.{refl}
+use Rattle.passes.specs.machine.Look.{calmed}
+use Rattle.passes.proofs.look.move_on.Goals as goal
+
+pub returns : goal.returns
+unfolding calmed
+returns c = rw (c.wrapping_add_u32.ensures.value, c.last_bits.ensures) refl

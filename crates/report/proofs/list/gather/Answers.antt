@@ -1,0 +1,26 @@
+-- Why `list::gather` answers `report_from`: each turn classes an interval and renews the row of its class, which is what
+-- the report of one interval more is. Rests on no axiom.
+use Prim.Native.Nat.{ℕ, ◌≤◌}
+use native.Mathlib.Omega.{arith}
+use lib.ListN.{get_or}
+use Rattle.report.proofs.GatherTurn.{nothing_gathered, gathered_by_step, gathered_all}
+use Rattle.report.proofs.GatherTurn.{renewed_row_fits}
+use Rattle.report.proofs.list.gather.Goals as goal
+
+pub loop-k-init : goal.loop-k-init
+loop-k-init c = nothing_gathered _ _
+
+pub renew-next-requires : goal.renew-next-requires
+renew-next-requires c =
+    let small : (i : ℕ) → get_or c.args.intervals.now i 0 ≤ 65535 =
+    λ i. let known = c.type_inv.intervals i in omega arith in
+    renewed_row_fits c.loop-k.invariant c.loop-k-test.true c.requires small
+    c.step-classed.ensures
+
+pub loop-k-preserved : goal.loop-k-preserved
+loop-k-preserved c =
+    gathered_by_step c.loop-k.invariant c.loop-k-test.true c.step-classed.ensures
+    c.renew-next.ensures
+
+pub returns : goal.returns
+returns c = gathered_all c.loop-k.invariant c.loop-k-test.false

@@ -1,0 +1,7 @@
+-- Why `Cursor::meets_two` tells class 2: the difference from Min is below that of B23. Rests on no axiom.
+use Rattle.std.proofs.Common.{arith}
+use Rattle.timing.proofs.EdgeLaws.{two_by_difference}
+use Rattle.timing.proofs.cursor.Cursor.meets_two.Goals as goal
+
+pub returns : goal.returns
+returns c = two_by_difference _ _ _ c.requires c.wrapping_sub_u16.ensures.value (omega arith) (omega arith)
