@@ -1,10 +1,10 @@
 /*
  * The library ism as one C file, for any processor.
  *
- * Made by portable/from_mir from what `rt mir ism` prints, with rattle-kit-5b-plain logic 097e4c862dff5811: from the
- * MIR of every function, for which the proofs hold on Rattle's abstract machine. The translator and the C compiler are
- * not proved; portable/README.md says how they are tested. Not to be edited: change the Rattle source, prove it, and
- * make this file again.
+ * Made by portable/from_mir from the libraries that rattle-kit-13f logic dac8208d650f15bf has proved and built: from
+ * the MIR of every function, for which the proofs hold on Rattle's abstract machine. The translator and the C compiler
+ * are not proved; portable/README.md says how they are tested. Not to be edited: change the Rattle source, prove it,
+ * and make this file again.
  *
  * Strict C99 without undefined behaviour; no heap, no library function, no state. Needs ism.h beside it or on the
  * include path: cc -std=c99 -O2 -Iinclude -c portable/ism.c
@@ -118,6 +118,11 @@ FIELD(ism_report_row, least, 8, 8);
 FIELD(ism_report_row, greatest, 16, 8);
 FIELD(ism_report_row, sum, 24, 8);
 
+struct slice_u16 {
+    const uint16_t *at;
+    uint64_t len;
+};
+
 struct slice_u16_mut {
     uint16_t *at;
     uint64_t len;
@@ -130,11 +135,6 @@ struct slice_u8 {
 
 struct slice_u8_mut {
     uint8_t *at;
-    uint64_t len;
-};
-
-struct slice_u16 {
-    const uint16_t *at;
     uint64_t len;
 };
 
@@ -173,97 +173,13 @@ struct refusal_Counted {
     } u;
 };
 
-/* items::Check, crates/items/src/lib.rt */
-struct items_Check {
-    uint16_t register_;
-    bool marked;
-};
-
-/* items::bytes::Stored, crates/items/src/bytes.rt */
-struct items_bytes_Stored {
-    struct items_Check check;
-    uint64_t count;
-};
-
-struct array_u16_2 {
-    uint16_t a[2];
-};
-
-/* refusal::Verdict, crates/refusal/src/lib.rt */
-enum { refusal_Verdict_Accepted, refusal_Verdict_Refused };
-struct refusal_Verdict {
-    uint8_t tag;
-    union {
-        struct refusal_Refusal Refused;
-    } u;
-};
-
-/* sets::span::Span, crates/sets/src/span.rt */
-struct sets_span_Span {
-    uint64_t low;
-    uint64_t high;
-};
-
-struct array_u16_256 {
-    uint16_t a[256];
-};
-
-/* merge::Merged, crates/merge/src/lib.rt */
-enum { merge_Merged_Set, merge_Merged_Refused };
-struct merge_Merged {
-    uint8_t tag;
-    union {
-        struct {
-            uint64_t count;
-            uint64_t bytes;
-        } Set;
-        struct refusal_Refusal Refused;
-    } u;
-};
-
-/* symbols::Reading, crates/symbols/src/lib.rt */
-struct symbols_Reading {
-    uint32_t bits;
-    uint32_t held;
-    uint32_t words;
-    uint32_t place;
-    bool stray;
-};
-
-/* shifts::top::Top, crates/shifts/src/top.rt */
-struct shifts_top_Top {
-    uint64_t cells;
-    uint32_t free;
-};
-
-struct slice_u32 {
-    const uint32_t *at;
-    uint64_t len;
-};
-
-/* shifts::Pass, crates/shifts/src/lib.rt */
-struct shifts_Pass {
-    struct symbols_Reading reading;
-    uint64_t used;
-};
-
-/* shifts::fours::Fours, crates/shifts/src/fours.rt */
-struct shifts_fours_Fours {
-    struct symbols_Reading reading;
-    uint64_t count;
-};
-
-struct slice_u32_mut {
-    uint32_t *at;
-    uint64_t len;
-};
-
-struct array_u32_32 {
-    uint32_t a[32];
-};
-
 /* timing::HalfClocks, crates/timing/src/lib.rt */
 struct timing_HalfClocks {
+    uint16_t f0;
+};
+
+/* timing::Clocks, crates/timing/src/lib.rt */
+struct timing_Clocks {
     uint16_t f0;
 };
 
@@ -271,20 +187,6 @@ struct timing_HalfClocks {
 struct timing_Bounds {
     struct timing_HalfClocks b23;
     struct timing_HalfClocks b34;
-};
-
-/* timing::cursor::Cursor, crates/timing/src/cursor.rt */
-struct timing_cursor_Cursor {
-    struct timing_HalfClocks min;
-    struct timing_Bounds bounds;
-    struct timing_HalfClocks rpt;
-    struct timing_Bounds short_;
-    struct timing_Bounds long_;
-};
-
-/* timing::Clocks, crates/timing/src/lib.rt */
-struct timing_Clocks {
-    uint16_t f0;
 };
 
 /* timing::Profile, crates/timing/src/lib.rt */
@@ -298,12 +200,6 @@ struct timing_Profile {
     struct timing_Bounds short_;
     struct timing_Bounds long_;
     struct timing_HalfClocks rpt;
-};
-
-/* timing::Class, crates/timing/src/lib.rt */
-enum { timing_Class_Narrow, timing_Class_Two, timing_Class_Three, timing_Class_Four, timing_Class_Wide };
-struct timing_Class {
-    uint8_t tag;
 };
 
 struct array_u16_11 {
@@ -320,57 +216,113 @@ struct array_timing_Range_11 {
     struct timing_Range a[11];
 };
 
+/* refusal::Verdict, crates/refusal/src/lib.rt */
+enum { refusal_Verdict_Accepted, refusal_Verdict_Refused };
+struct refusal_Verdict {
+    uint8_t tag;
+    union {
+        struct refusal_Refusal Refused;
+    } u;
+};
+
+/* timing::cursor::Cursor, crates/timing/src/cursor.rt */
+struct timing_cursor_Cursor {
+    struct timing_HalfClocks min;
+    struct timing_Bounds bounds;
+    struct timing_HalfClocks rpt;
+    struct timing_Bounds short_;
+    struct timing_Bounds long_;
+};
+
+/* timing::Class, crates/timing/src/lib.rt */
+enum { timing_Class_Narrow, timing_Class_Two, timing_Class_Three, timing_Class_Four, timing_Class_Wide };
+struct timing_Class {
+    uint8_t tag;
+};
+
 /* timing::cursor::Classed, crates/timing/src/cursor.rt */
 struct timing_cursor_Classed {
     struct timing_Class class;
     struct timing_cursor_Cursor next;
 };
 
-struct array_u16_129 {
-    uint16_t a[129];
+/* items::Check, crates/items/src/lib.rt */
+struct items_Check {
+    uint16_t register_;
+    bool marked;
+};
+
+/* items::bytes::Stored, crates/items/src/bytes.rt */
+struct items_bytes_Stored {
+    struct items_Check check;
+    uint64_t count;
+};
+
+struct array_u16_2 {
+    uint16_t a[2];
+};
+
+/* symbols::Reading, crates/symbols/src/lib.rt */
+struct symbols_Reading {
+    uint32_t bits;
+    uint32_t held;
+    uint32_t words;
+    uint32_t place;
+    bool stray;
+};
+
+struct array_u16_512 {
+    uint16_t a[512];
+};
+
+/* images::count::Tally, crates/images/src/count.rt */
+struct images_count_Tally {
+    uint16_t cells;
+    uint16_t previous;
+};
+
+struct array_u16_128 {
+    uint16_t a[128];
 };
 
 struct array_u16_10 {
     uint16_t a[10];
 };
 
-/* best::Writing, crates/best/src/lib.rt */
-struct best_Writing {
-    struct timing_HalfClocks t1;
-    struct timing_HalfClocks t0;
-    struct timing_Clocks early;
-    struct timing_Clocks normal;
-    struct timing_Clocks late;
+struct array_u16_129 {
+    uint16_t a[129];
 };
 
-/* best::windows::Shifts, crates/best/src/windows.rt */
-struct best_windows_Shifts {
-    uint16_t d;
-    uint16_t e;
-    uint16_t l;
+/* shifts::top::Top, crates/shifts/src/top.rt */
+struct shifts_top_Top {
+    uint64_t cells;
+    uint32_t free;
 };
 
-/* best::Best, crates/best/src/lib.rt */
-struct best_Best {
-    struct refusal_Counted answer;
-    struct timing_Profile profile;
+/* shifts::fours::Fours, crates/shifts/src/fours.rt */
+struct shifts_fours_Fours {
+    struct symbols_Reading reading;
+    uint64_t count;
 };
 
-/* pace::Pace, crates/pace/src/lib.rt */
-struct pace_Pace {
-    uint32_t nominal;
-    uint32_t even;
-    uint32_t odd;
+struct slice_u32_mut {
+    uint32_t *at;
+    uint64_t len;
 };
 
-/* passes::block::Progress, crates/passes/src/block.rt */
-struct passes_block_Progress {
-    struct shifts_Pass pass;
-    struct timing_cursor_Cursor cursor;
+struct slice_u32 {
+    const uint32_t *at;
+    uint64_t len;
 };
 
-struct array_u8_128 {
-    uint8_t a[128];
+/* shifts::Pass, crates/shifts/src/lib.rt */
+struct shifts_Pass {
+    struct symbols_Reading reading;
+    uint64_t used;
+};
+
+struct array_u32_32 {
+    uint32_t a[32];
 };
 
 struct array_u16_0 {
@@ -396,12 +348,26 @@ struct passes_look_Look {
     struct timing_cursor_Cursor cursor;
 };
 
-struct array_u64_4 {
-    uint64_t a[4];
+struct array_u8_128 {
+    uint8_t a[128];
 };
 
-struct array_u64_4_5 {
-    struct array_u64_4 a[5];
+/* passes::block::Progress, crates/passes/src/block.rt */
+struct passes_block_Progress {
+    struct shifts_Pass pass;
+    struct timing_cursor_Cursor cursor;
+};
+
+/* codec::pen::Pen, crates/codec/src/pen.rt */
+struct codec_pen_Pen {
+    uint64_t previous;
+    uint64_t cells;
+};
+
+/* codec::writer::Part, crates/codec/src/writer.rt */
+struct codec_writer_Part {
+    struct codec_pen_Pen pen;
+    struct items_Check check;
 };
 
 struct slice_u64 {
@@ -421,6 +387,22 @@ struct array_u64_15 {
     uint64_t a[15];
 };
 
+/* fields::gather::Summed, crates/fields/src/gather.rt */
+struct fields_gather_Summed {
+    struct shifts_Pass pass;
+    struct items_Check check;
+};
+
+struct array_u16_65 {
+    uint16_t a[65];
+};
+
+/* fields::gather::Gathered, crates/fields/src/gather.rt */
+struct fields_gather_Gathered {
+    struct refusal_Counted end;
+    bool holds;
+};
+
 /* fields::reader::FieldRead, crates/fields/src/reader.rt */
 enum { fields_reader_FieldRead_Field, fields_reader_FieldRead_Refused };
 struct fields_reader_FieldRead {
@@ -435,28 +417,55 @@ struct fields_reader_FieldRead {
     } u;
 };
 
-struct array_u16_65 {
-    uint16_t a[65];
-};
-
-/* fields::gather::Summed, crates/fields/src/gather.rt */
-struct fields_gather_Summed {
-    struct shifts_Pass pass;
-    struct items_Check check;
-};
-
-/* fields::gather::Gathered, crates/fields/src/gather.rt */
-struct fields_gather_Gathered {
-    struct refusal_Counted end;
-    bool holds;
-};
-
 struct array_u16_16 {
     uint16_t a[16];
 };
 
 struct array_u16_1030 {
     uint16_t a[1030];
+};
+
+/* sets::span::Span, crates/sets/src/span.rt */
+struct sets_span_Span {
+    uint64_t low;
+    uint64_t high;
+};
+
+struct array_u16_256 {
+    uint16_t a[256];
+};
+
+/* merge::Merged, crates/merge/src/lib.rt */
+enum { merge_Merged_Set, merge_Merged_Refused };
+struct merge_Merged {
+    uint8_t tag;
+    union {
+        struct {
+            uint64_t count;
+            uint64_t bytes;
+        } Set;
+        struct refusal_Refusal Refused;
+    } u;
+};
+
+struct array_u64_4 {
+    uint64_t a[4];
+};
+
+struct array_u64_4_5 {
+    struct array_u64_4 a[5];
+};
+
+/* entries::opening::Opened, crates/entries/src/opening.rt */
+enum { entries_opening_Opened_Field, entries_opening_Opened_NoField };
+struct entries_opening_Opened {
+    uint8_t tag;
+    union {
+        struct {
+            uint64_t used;
+            bool holds;
+        } Field;
+    } u;
 };
 
 /* entries::id::IdRead, crates/entries/src/id.rt */
@@ -471,18 +480,6 @@ struct entries_id_IdRead {
             uint8_t code;
             uint64_t used;
         } Id;
-    } u;
-};
-
-/* entries::opening::Opened, crates/entries/src/opening.rt */
-enum { entries_opening_Opened_Field, entries_opening_Opened_NoField };
-struct entries_opening_Opened {
-    uint8_t tag;
-    union {
-        struct {
-            uint64_t used;
-            bool holds;
-        } Field;
     } u;
 };
 
@@ -545,32 +542,6 @@ struct track_set_TrackSet {
     uint64_t bytes;
 };
 
-struct array_u16_512 {
-    uint16_t a[512];
-};
-
-/* images::count::Tally, crates/images/src/count.rt */
-struct images_count_Tally {
-    uint16_t cells;
-    uint16_t previous;
-};
-
-struct array_u16_128 {
-    uint16_t a[128];
-};
-
-/* codec::pen::Pen, crates/codec/src/pen.rt */
-struct codec_pen_Pen {
-    uint64_t previous;
-    uint64_t cells;
-};
-
-/* codec::writer::Part, crates/codec/src/writer.rt */
-struct codec_writer_Part {
-    struct codec_pen_Pen pen;
-    struct items_Check check;
-};
-
 /* clearance::extremes::Extremes, crates/clearance/src/extremes.rt */
 struct clearance_extremes_Extremes {
     uint16_t shortest;
@@ -598,6 +569,55 @@ struct clearance_ClearCount {
 /* clearance::ClearFieldRead, crates/clearance/src/lib.rt */
 struct clearance_ClearFieldRead {
     struct fields_reader_FieldRead read;
+    uint16_t clearance;
+};
+
+/* pace::Pace, crates/pace/src/lib.rt */
+struct pace_Pace {
+    uint32_t nominal;
+    uint32_t even;
+    uint32_t odd;
+};
+
+/* speed::reader::Corrected, crates/speed/src/reader.rt */
+struct speed_reader_Corrected {
+    struct fields_reader_FieldRead read;
+    uint16_t clearance;
+    uint64_t lock;
+    uint32_t even;
+    uint32_t odd;
+};
+
+/* speed::gather::Along, crates/speed/src/gather.rt */
+struct speed_gather_Along {
+    struct passes_block_Progress at;
+    struct items_Check check;
+    struct refusal_Verdict edges;
+    struct clearance_seen_Seen seen;
+};
+
+/* speed::gather::BlockRead, crates/speed/src/gather.rt */
+struct speed_gather_BlockRead {
+    struct passes_block_Progress at;
+    struct items_Check check;
+};
+
+struct array_u8_64 {
+    uint8_t a[64];
+};
+
+struct array_u16_17 {
+    uint16_t a[17];
+};
+
+struct array_u16_64 {
+    uint16_t a[64];
+};
+
+/* speed::gather::Gathered, crates/speed/src/gather.rt */
+struct speed_gather_Gathered {
+    struct refusal_Counted end;
+    bool holds;
     uint16_t clearance;
 };
 
@@ -656,46 +676,26 @@ struct limits_Held {
     struct array_limits_Limit_10 limits;
 };
 
-/* speed::gather::BlockRead, crates/speed/src/gather.rt */
-struct speed_gather_BlockRead {
-    struct passes_block_Progress at;
-    struct items_Check check;
+/* best::Writing, crates/best/src/lib.rt */
+struct best_Writing {
+    struct timing_HalfClocks t1;
+    struct timing_HalfClocks t0;
+    struct timing_Clocks early;
+    struct timing_Clocks normal;
+    struct timing_Clocks late;
 };
 
-struct array_u8_64 {
-    uint8_t a[64];
+/* best::windows::Shifts, crates/best/src/windows.rt */
+struct best_windows_Shifts {
+    uint16_t d;
+    uint16_t e;
+    uint16_t l;
 };
 
-struct array_u16_17 {
-    uint16_t a[17];
-};
-
-/* speed::gather::Along, crates/speed/src/gather.rt */
-struct speed_gather_Along {
-    struct passes_block_Progress at;
-    struct items_Check check;
-    struct refusal_Verdict edges;
-    struct clearance_seen_Seen seen;
-};
-
-struct array_u16_64 {
-    uint16_t a[64];
-};
-
-/* speed::gather::Gathered, crates/speed/src/gather.rt */
-struct speed_gather_Gathered {
-    struct refusal_Counted end;
-    bool holds;
-    uint16_t clearance;
-};
-
-/* speed::reader::Corrected, crates/speed/src/reader.rt */
-struct speed_reader_Corrected {
-    struct fields_reader_FieldRead read;
-    uint16_t clearance;
-    uint64_t lock;
-    uint32_t even;
-    uint32_t odd;
+/* best::Best, crates/best/src/lib.rt */
+struct best_Best {
+    struct refusal_Counted answer;
+    struct timing_Profile profile;
 };
 
 struct array_answers_card_IsmLimit_10 {
@@ -705,6 +705,10 @@ struct array_answers_card_IsmLimit_10 {
 struct array_answers_drive_IsmReportRow_5 {
     ism_report_row a[5];
 };
+
+static struct slice_u16 slice_u16(const uint16_t *at, uint64_t len) {
+    return (struct slice_u16){.at = at, .len = len};
+}
 
 static struct slice_u16_mut slice_u16_mut(uint16_t *at, uint64_t len) {
     return (struct slice_u16_mut){.at = at, .len = len};
@@ -718,16 +722,12 @@ static struct slice_u8_mut slice_u8_mut(uint8_t *at, uint64_t len) {
     return (struct slice_u8_mut){.at = at, .len = len};
 }
 
-static struct slice_u16 slice_u16(const uint16_t *at, uint64_t len) {
-    return (struct slice_u16){.at = at, .len = len};
+static struct slice_u32_mut slice_u32_mut(uint32_t *at, uint64_t len) {
+    return (struct slice_u32_mut){.at = at, .len = len};
 }
 
 static struct slice_u32 slice_u32(const uint32_t *at, uint64_t len) {
     return (struct slice_u32){.at = at, .len = len};
-}
-
-static struct slice_u32_mut slice_u32_mut(uint32_t *at, uint64_t len) {
-    return (struct slice_u32_mut){.at = at, .len = len};
 }
 
 static struct slice_u64 slice_u64(const uint64_t *at, uint64_t len) {
@@ -758,98 +758,31 @@ static int32_t as_int32(uint32_t bits) {
     return bits < 0x80000000 ? (int32_t)bits : -(int32_t)(0xFFFFFFFF - bits) - 1;
 }
 
-/* The crate std */
+/* The crate core */
 
-/* std::num::wrapping_add_u16, of the kit's library */
-static uint16_t std_num_wrapping_add_u16(uint16_t p1, uint16_t p2) {
+/* core::num::wrapping_add_u16, of the kit's library */
+static uint16_t core_num_wrapping_add_u16(uint16_t p1, uint16_t p2) {
     return (uint16_t)(p1 + p2);
 }
 
-/* std::num::wrapping_add_u32, of the kit's library */
-static uint32_t std_num_wrapping_add_u32(uint32_t p1, uint32_t p2) {
-    return (uint32_t)(p1 + p2);
-}
-
-/* std::num::wrapping_add_u64, of the kit's library */
-static uint64_t std_num_wrapping_add_u64(uint64_t p1, uint64_t p2) {
-    return (uint64_t)(p1 + p2);
-}
-
-/* std::num::wrapping_sub_u16, of the kit's library */
-static uint16_t std_num_wrapping_sub_u16(uint16_t p1, uint16_t p2) {
+/* core::num::wrapping_sub_u16, of the kit's library */
+static uint16_t core_num_wrapping_sub_u16(uint16_t p1, uint16_t p2) {
     return (uint16_t)(p1 - p2);
 }
 
-/* std::num::wrapping_sub_u32, of the kit's library */
-static uint32_t std_num_wrapping_sub_u32(uint32_t p1, uint32_t p2) {
+/* core::num::wrapping_sub_u32, of the kit's library */
+static uint32_t core_num_wrapping_sub_u32(uint32_t p1, uint32_t p2) {
     return (uint32_t)(p1 - p2);
 }
 
-/* The crate half_cells */
-
-/*
- * half_cells::cells_since, crates/half_cells/src/lib.rt
- * With its half cells in the low places of these bits, but for a surplus: the cells that end after the first missing
- * clock, one for each 1.
- */
-static uint32_t half_cells_cells_since(uint32_t bits, uint32_t surplus, uint32_t gaps) {
-    uint32_t below = (surplus + 32 - leading_zeros(gaps)) % 32;
-    return count_ones(bits & ((uint32_t)((uint32_t)1 << below) - 1));
+/* core::num::wrapping_add_u32, of the kit's library */
+static uint32_t core_num_wrapping_add_u32(uint32_t p1, uint32_t p2) {
+    return (uint32_t)(p1 + p2);
 }
 
-/* half_cells::data_bits, crates/half_cells/src/lib.rt: Every second bit of a word, moved together. */
-static uint16_t half_cells_data_bits(uint16_t word) {
-    uint16_t alone = word & 0x5555;
-    uint16_t pairs = (alone | (alone >> 1)) & 0x3333;
-    uint16_t fours = (pairs | (pairs >> 2)) & 0xF0F;
-    return (fours | (fours >> 4)) & 0xFF;
-}
-
-/*
- * half_cells::byte_of, crates/half_cells/src/lib.rt
- * The one byte that can have a word of 16 half cells: whether it has it depends on the data bit before.
- */
-static uint16_t half_cells_byte_of(uint16_t word) {
-    if (word == 17545) return 417;
-    if (word == 21028) return 450;
-    return half_cells_data_bits(word);
-}
-
-/*
- * half_cells::first_of_cells, crates/half_cells/src/lib.rt
- * The place of the first of so many cells, the last of which stands at this place.
- */
-static uint32_t half_cells_first_of_cells(uint32_t at, uint32_t cells) {
-    return std_num_wrapping_sub_u32(std_num_wrapping_add_u32(at, 1), cells);
-}
-
-/* half_cells::is_mark, crates/half_cells/src/lib.rt */
-static bool half_cells_is_mark(uint32_t x) {
-    uint16_t word = (uint16_t)(x % 65536);
-    return (word == 17545) | (word == 21028);
-}
-
-/*
- * half_cells::missing, crates/half_cells/src/lib.rt
- * The clock bits that a gap leaves out, each at the place above its own: it is 0 between two data bits 0.
- */
-static uint32_t half_cells_missing(uint32_t x) {
-    return (uint32_t)~(x | (uint32_t)(x << 1) | (uint32_t)(x << 2)) & 0x15554;
-}
-
-/* half_cells::fits, crates/half_cells/src/lib.rt: Whether no gap of a byte is out of place. */
-static bool half_cells_fits(uint32_t x) {
-    bool t3 = half_cells_missing(x) == 0;
-    return t3 | half_cells_is_mark(x);
-}
-
-/* half_cells::words_to_bytes, crates/half_cells/src/lib.rt: Each word of a list replaced by its byte. */
-static void half_cells_words_to_bytes(struct slice_u16_mut words) {
-    uint64_t k = 0;
-    while (k < words.len) {
-        words.at[k] = half_cells_byte_of(words.at[k]);
-        k++;
-    }
+/* core::num::wrapping_add_u64, of the kit's library */
+static uint64_t core_num_wrapping_add_u64(uint64_t p1, uint64_t p2) {
+    return (uint64_t)(p1 + p2);
 }
 
 /* The crate lists */
@@ -858,20 +791,6 @@ static void half_cells_words_to_bytes(struct slice_u16_mut words) {
 static uint64_t lists_at_most(uint64_t most, uint64_t count) {
     if (count < most) return count;
     return most;
-}
-
-/* lists::copy, crates/lists/src/lib.rt: Bytes from a place on, where all have room. */
-static void lists_copy(struct slice_u8 bytes, uint64_t at, struct slice_u8_mut out) {
-    uint64_t k = 0;
-    while (k < bytes.len) {
-        out.at[at + k] = bytes.at[k];
-        k++;
-    }
-}
-
-/* lists::put, crates/lists/src/lib.rt: Past the end nothing is stored. */
-static void lists_put(struct slice_u16_mut out, uint64_t at, uint16_t number) {
-    if (at < out.len) out.at[at] = number;
 }
 
 /* lists::store, crates/lists/src/lib.rt: Numbers from a place on, as many as there is room for. */
@@ -885,13 +804,21 @@ static void lists_store(struct slice_u16 numbers, uint64_t at, struct slice_u16_
     }
 }
 
-/* The crate refusal */
-
-/* refusal::Counted::count, crates/refusal/src/lib.rt: What was counted; 0 for a refusal. */
-static uint64_t refusal_Counted_count(struct refusal_Counted self) {
-    if (self.tag == refusal_Counted_Count) return self.u.Count;
-    return 0;
+/* lists::put, crates/lists/src/lib.rt: Past the end nothing is stored. */
+static void lists_put(struct slice_u16_mut out, uint64_t at, uint16_t number) {
+    if (at < out.len) out.at[at] = number;
 }
+
+/* lists::copy, crates/lists/src/lib.rt: Bytes from a place on, where all have room. */
+static void lists_copy(struct slice_u8 bytes, uint64_t at, struct slice_u8_mut out) {
+    uint64_t k = 0;
+    while (k < bytes.len) {
+        out.at[at + k] = bytes.at[k];
+        k++;
+    }
+}
+
+/* The crate refusal */
 
 /* refusal::Refusal::number, crates/refusal/src/lib.rt: The number in document 01's table. */
 static uint32_t refusal_Refusal_number(struct refusal_Refusal self) {
@@ -960,6 +887,246 @@ static uint32_t refusal_Counted_place(struct refusal_Counted self) {
     return refusal_Refusal_place(self.u.Refused);
 }
 
+/* refusal::Counted::count, crates/refusal/src/lib.rt: What was counted; 0 for a refusal. */
+static uint64_t refusal_Counted_count(struct refusal_Counted self) {
+    if (self.tag == refusal_Counted_Count) return self.u.Count;
+    return 0;
+}
+
+/* The crate timing */
+
+/*
+ * timing::Profile::from_numbers, crates/timing/src/lib.rt
+ * The profile of eleven numbers in document 02's order.
+ */
+static struct timing_Profile timing_Profile_from_numbers(const struct array_u16_11 *numbers) {
+    struct timing_Bounds t43 = {.b23 = {.f0 = numbers->a[7]}, .b34 = {.f0 = numbers->a[9]}};
+    struct timing_HalfClocks t47 = {.f0 = numbers->a[10]};
+    return (struct timing_Profile){.t1 = {.f0 = numbers->a[0]}, .t0 = {.f0 = numbers->a[1]},
+            .early = {.f0 = numbers->a[2]}, .normal = {.f0 = numbers->a[3]}, .late = {.f0 = numbers->a[4]},
+            .min = {.f0 = numbers->a[5]}, .short_ = {.b23 = {.f0 = numbers->a[6]}, .b34 = {.f0 = numbers->a[8]}},
+            .long_ = t43, .rpt = t47};
+}
+
+/* timing::Profile::numbers, crates/timing/src/lib.rt: Its numbers, in the same order. */
+static struct array_u16_11 timing_Profile_numbers(struct timing_Profile self) {
+    return (struct array_u16_11){{self.t1.f0, self.t0.f0, self.early.f0, self.normal.f0, self.late.f0, self.min.f0,
+            self.short_.b23.f0, self.long_.b23.f0, self.short_.b34.f0, self.long_.b34.f0, self.rpt.f0}};
+}
+
+/*
+ * timing::rule::lowest_unset, crates/timing/src/rule.rt
+ * Which of the numbers is the first out of range, from 1; 0 for none.
+ */
+static uint32_t timing_rule_lowest_unset(struct timing_Profile p) {
+    struct array_u16_11 numbers = timing_Profile_numbers(p);
+    struct array_timing_Range_11 ranges = {{{.low = 1, .high = 1023}, {.low = 1, .high = 1023}, {.low = 0, .high = 15},
+            {.low = 0, .high = 15}, {.low = 0, .high = 15}, {.low = 1, .high = 4095}, {.low = 1, .high = 4095},
+            {.low = 1, .high = 4095}, {.low = 1, .high = 4095}, {.low = 1, .high = 4095}, {.low = 1, .high = 4095}}};
+    uint64_t k = 0;
+    while (k < 11) {
+        struct timing_Range range = ranges.a[k];
+        uint16_t x = numbers.a[k];
+        if ((x < range.low) | (range.high < x)) return (uint32_t)k + 1;
+        k++;
+    }
+    return 0;
+}
+
+/*
+ * timing::Clocks::in_half_clocks, crates/timing/src/lib.rt
+ * The only way from clocks to half clocks, so that a compare point is never added to a length as it is.
+ */
+static struct timing_HalfClocks timing_Clocks_in_half_clocks(struct timing_Clocks self) {
+    return (struct timing_HalfClocks){.f0 = 2 * self.f0};
+}
+
+/*
+ * timing::rule::apart, crates/timing/src/rule.rt
+ * The distance from a point to a later one, in half clocks; 0 where they are out of order.
+ */
+static struct timing_HalfClocks timing_rule_apart(struct timing_Clocks from, struct timing_Clocks to) {
+    if (to.f0 < from.f0) return (struct timing_HalfClocks){.f0 = 0};
+    return timing_Clocks_in_half_clocks((struct timing_Clocks){.f0 = to.f0 - from.f0});
+}
+
+/*
+ * timing::rule::swing, crates/timing/src/rule.rt
+ * The distance between the latest and the earliest point (document 01's D).
+ */
+static struct timing_HalfClocks timing_rule_swing(struct timing_Profile p) {
+    return timing_rule_apart(p.early, p.late);
+}
+
+/* timing::rule::advance, crates/timing/src/rule.rt: The parts of it before and after Normal. */
+static struct timing_HalfClocks timing_rule_advance(struct timing_Profile p) {
+    return timing_rule_apart(p.early, p.normal);
+}
+
+/*
+ * timing::rule::is_true_short, crates/timing/src/rule.rt
+ * Whether the lengths that can be written after a cell of class 2 are in their windows.
+ */
+static bool timing_rule_is_true_short(struct timing_Profile p) {
+    uint16_t d = timing_rule_swing(p).f0;
+    uint16_t e = timing_rule_advance(p).f0;
+    uint16_t three = p.t1.f0 + p.t0.f0;
+    uint16_t four = p.t1.f0 + 2 * p.t0.f0;
+    bool t15 = p.short_.b34.f0 <= four + e;
+    return (p.t1.f0 < p.short_.b23.f0) & (p.short_.b23.f0 <= three + e) & (three + d < p.short_.b34.f0) & t15;
+}
+
+/* timing::rule::delay, crates/timing/src/rule.rt */
+static struct timing_HalfClocks timing_rule_delay(struct timing_Profile p) {
+    return timing_rule_apart(p.normal, p.late);
+}
+
+/* timing::rule::is_true_long, crates/timing/src/rule.rt: And those after any other. */
+static bool timing_rule_is_true_long(struct timing_Profile p) {
+    uint16_t l = timing_rule_delay(p).f0;
+    uint16_t three = p.t1.f0 + p.t0.f0;
+    uint16_t four = p.t1.f0 + 2 * p.t0.f0;
+    bool t13 = p.long_.b34.f0 <= four;
+    return (p.t1.f0 < p.long_.b23.f0 + l) & (p.long_.b23.f0 <= three) & (three + l < p.long_.b34.f0) & t13;
+}
+
+/* timing::rule::is_true, crates/timing/src/rule.rt: Whether a profile whose numbers are in range is true. */
+static bool timing_rule_is_true(struct timing_Profile p) {
+    uint16_t d = timing_rule_swing(p).f0;
+    uint16_t four = p.t1.f0 + 2 * p.t0.f0;
+    bool t11 = timing_rule_is_true_short(p);
+    bool t13 = timing_rule_is_true_long(p);
+    bool t14 = (p.early.f0 <= p.normal.f0) & (p.normal.f0 <= p.late.f0) & (p.min.f0 + d <= p.t1.f0) & t11 & t13;
+    return t14 & (four + d < p.rpt.f0);
+}
+
+/* timing::rule::check, crates/timing/src/rule.rt: Whether the profile may be used: 1, then 2. */
+static struct refusal_Verdict timing_rule_check(struct timing_Profile p) {
+    uint32_t which = timing_rule_lowest_unset(p);
+    if (which != 0) {
+        return (struct refusal_Verdict){.tag = refusal_Verdict_Refused,
+                .u.Refused = {.tag = refusal_Refusal_ProfileOutOfRange, .u.ProfileOutOfRange = which}};
+    }
+    if (timing_rule_is_true(p)) return (struct refusal_Verdict){.tag = refusal_Verdict_Accepted};
+    return (struct refusal_Verdict){.tag = refusal_Verdict_Refused,
+            .u.Refused = {.tag = refusal_Refusal_ProfileInconsistent}};
+}
+
+/*
+ * timing::cursor::chosen, crates/timing/src/cursor.rt
+ * The bounds after an interval of class 2, or after any other.
+ */
+static struct timing_Bounds timing_cursor_chosen(bool two, struct timing_Bounds short_, struct timing_Bounds long_) {
+    if (two) return short_;
+    return long_;
+}
+
+/*
+ * timing::cursor::Cursor::after, crates/timing/src/cursor.rt
+ * Behind an interval of class 2, or of any other, under a profile that the caller has checked, or does not care to.
+ */
+static struct timing_cursor_Cursor timing_cursor_Cursor_after(struct timing_Profile p, bool two) {
+    struct timing_HalfClocks min = p.min;
+    struct timing_Bounds short_ = p.short_;
+    struct timing_Bounds long_ = p.long_;
+    struct timing_HalfClocks rpt = p.rpt;
+    return (struct timing_cursor_Cursor){.min = min, .bounds = timing_cursor_chosen(two, short_, long_), .rpt = rpt,
+            .short_ = short_, .long_ = long_};
+}
+
+/* timing::cursor::Cursor::class_of, crates/timing/src/cursor.rt: The class of the next interval. */
+static struct timing_Class timing_cursor_Cursor_class_of(struct timing_cursor_Cursor self, uint16_t interval) {
+    if (interval < self.min.f0) return (struct timing_Class){.tag = timing_Class_Narrow};
+    if (interval < self.bounds.b23.f0) return (struct timing_Class){.tag = timing_Class_Two};
+    if (interval < self.bounds.b34.f0) return (struct timing_Class){.tag = timing_Class_Three};
+    if (interval < self.rpt.f0) return (struct timing_Class){.tag = timing_Class_Four};
+    return (struct timing_Class){.tag = timing_Class_Wide};
+}
+
+/*
+ * timing::cursor::Cursor::behind, crates/timing/src/cursor.rt
+ * Where the classing stands behind an interval that is of class 2, or is not.
+ */
+static struct timing_cursor_Cursor timing_cursor_Cursor_behind(struct timing_cursor_Cursor self, bool two) {
+    struct timing_Bounds short_ = self.short_;
+    struct timing_Bounds long_ = self.long_;
+    struct timing_cursor_Cursor next = self;
+    next.bounds = timing_cursor_chosen(two, short_, long_);
+    return next;
+}
+
+/* timing::cursor::Cursor::past, crates/timing/src/cursor.rt: Where it stands after the next interval. */
+static struct timing_cursor_Cursor timing_cursor_Cursor_past(struct timing_cursor_Cursor self, uint16_t interval) {
+    return timing_cursor_Cursor_behind(self, (self.min.f0 <= interval) & (interval < self.bounds.b23.f0));
+}
+
+/* timing::cursor::Cursor::step, crates/timing/src/cursor.rt: The next interval of the list. */
+static struct timing_cursor_Classed timing_cursor_Cursor_step(struct timing_cursor_Cursor self, uint16_t interval) {
+    struct timing_Class t3 = timing_cursor_Cursor_class_of(self, interval);
+    return (struct timing_cursor_Classed){.class = t3, .next = timing_cursor_Cursor_past(self, interval)};
+}
+
+/*
+ * timing::Class::number, crates/timing/src/lib.rt
+ * 2, 3 and 4 as the paper has them; 1 for narrow and 5 for wide.
+ */
+static uint64_t timing_Class_number(struct timing_Class self) {
+    switch (self.tag) {
+    case timing_Class_Narrow: return 1;
+    case timing_Class_Two: return 2;
+    case timing_Class_Three: return 3;
+    case timing_Class_Four: return 4;
+    default: return 5; /* timing_Class_Wide */
+    }
+}
+
+/*
+ * timing::class_number, crates/timing/src/lib.rt
+ * The class operation, told whether the interval before was of class 2: the class's number, after 1 and 2.
+ */
+static struct refusal_Counted timing_class_number(struct timing_Profile p, uint16_t interval, bool two) {
+    struct refusal_Verdict t6 = timing_rule_check(p);
+    if (t6.tag == refusal_Verdict_Refused) {
+        return (struct refusal_Counted){.tag = refusal_Counted_Refused, .u.Refused = t6.u.Refused};
+    }
+    struct timing_Class class = timing_cursor_Cursor_step(timing_cursor_Cursor_after(p, two), interval).class;
+    return (struct refusal_Counted){.tag = refusal_Counted_Count, .u.Count = timing_Class_number(class)};
+}
+
+/*
+ * timing::cursor::Cursor::is_steady, crates/timing/src/cursor.rt
+ * Whether it stands so behind every interval: the bounds are the same after either kind.
+ */
+static bool timing_cursor_Cursor_is_steady(struct timing_cursor_Cursor self) {
+    bool t5 = self.bounds.b23.f0 == self.long_.b23.f0;
+    bool t7 = self.bounds.b34.f0 == self.long_.b34.f0;
+    return (self.bounds.b23.f0 == self.short_.b23.f0) & (self.bounds.b34.f0 == self.short_.b34.f0) & t5 & t7;
+}
+
+/*
+ * timing::cursor::Cursor::meets_two, crates/timing/src/cursor.rt
+ * Whether the next interval is of class 2, by one compare: below Min the difference wraps to above all others.
+ */
+static bool timing_cursor_Cursor_meets_two(struct timing_cursor_Cursor self, uint16_t interval) {
+    return core_num_wrapping_sub_u16(interval, self.min.f0) < self.bounds.b23.f0 - self.min.f0;
+}
+
+/*
+ * timing::cursor::Cursor::start, crates/timing/src/cursor.rt
+ * Before the first interval of a list, where the one before counts as class 2.
+ */
+static struct timing_cursor_Cursor timing_cursor_Cursor_start(struct timing_Profile p) {
+    return timing_cursor_Cursor_after(p, true);
+}
+
+/*
+ * timing::cursor::Cursor::units, crates/timing/src/cursor.rt
+ * The units of its cell, where it is one: one more for each bound between the windows that it reaches.
+ */
+static uint8_t timing_cursor_Cursor_units(struct timing_cursor_Cursor self, uint16_t interval) {
+    return 2 + (uint8_t)(self.bounds.b23.f0 <= interval) + (uint8_t)(self.bounds.b34.f0 <= interval);
+}
+
 /* The crate register */
 
 /*
@@ -1002,47 +1169,6 @@ static uint16_t register_feed_two(uint16_t register_, uint16_t high, uint16_t lo
 
 /* The crate items */
 
-/*
- * items::Check::after_check, crates/items/src/lib.rt
- * The state after a check order's two bytes: whatever the register was, they leave 0.
- */
-static struct items_Check items_Check_after_check(struct items_Check self) {
-    (void)self;
-    return (struct items_Check){.register_ = 0, .marked = false};
-}
-
-/* items::Check::before_mark, crates/items/src/lib.rt: The register that a mark byte passes through. */
-static uint16_t items_Check_before_mark(struct items_Check self) {
-    if (self.marked) return self.register_;
-    return 65535;
-}
-
-/* items::lanes::four_at, crates/items/src/lanes.rt */
-static uint64_t items_lanes_four_at(struct slice_u16 numbers, uint64_t k) {
-    uint64_t t19 = (uint64_t)((uint64_t)numbers.at[k + 2] << 32);
-    uint64_t t26 = (uint64_t)((uint64_t)numbers.at[k + 3] << 48);
-    return (uint64_t)numbers.at[k] | (uint64_t)((uint64_t)numbers.at[k + 1] << 16) | t19 | t26;
-}
-
-/*
- * items::lanes::clear_at, crates/items/src/lanes.rt
- * Whether eight numbers have none of some bits, given for four lanes.
- */
-static bool items_lanes_clear_at(struct slice_u16 numbers, uint64_t k, uint64_t bits) {
-    uint64_t t4 = items_lanes_four_at(numbers, k);
-    return ((t4 | items_lanes_four_at(numbers, k + 4)) & bits) == 0;
-}
-
-/* items::Check::fresh, crates/items/src/lib.rt */
-static struct items_Check items_Check_fresh(void) {
-    return (struct items_Check){.register_ = 65535, .marked = false};
-}
-
-/* items::Check::high, crates/items/src/lib.rt: The two bytes that a check order writes. */
-static uint16_t items_Check_high(struct items_Check self) {
-    return self.register_ / 256;
-}
-
 /* items::is_check, crates/items/src/lib.rt */
 static bool items_is_check(uint16_t n) {
     return n == 512;
@@ -1063,17 +1189,22 @@ static uint16_t items_list_count_checks(struct slice_u16 items, uint64_t from, u
     return count;
 }
 
+/* items::list::written_bytes, crates/items/src/list.rt: How many bytes a list writes. */
+static uint64_t items_list_written_bytes(struct slice_u16 items) {
+    uint64_t count = 0;
+    uint64_t k = 0;
+    while (32768 <= items.len - k) {
+        uint64_t end = k + 32768;
+        count += 32768 + (uint64_t)items_list_count_checks(items, k, end);
+        k = end;
+    }
+    uint64_t end_2 = items.len;
+    return count + (end_2 - k) + (uint64_t)items_list_count_checks(items, k, end_2);
+}
+
 /* items::is_mark, crates/items/src/lib.rt */
 static bool items_is_mark(uint16_t n) {
     return n == 417 || n == 450;
-}
-
-/* items::Check::after_byte, crates/items/src/lib.rt */
-static struct items_Check items_Check_after_byte(struct items_Check self, uint16_t byte) {
-    if (items_is_mark(byte)) {
-        return (struct items_Check){.register_ = register_feed(items_Check_before_mark(self), byte), .marked = true};
-    }
-    return (struct items_Check){.register_ = register_feed(self.register_, byte), .marked = false};
 }
 
 /* items::is_item, crates/items/src/lib.rt */
@@ -1108,6 +1239,80 @@ static uint64_t items_list_find_foreign(struct slice_u16 items) {
         }
     }
     return k;
+}
+
+/* items::list::check_list, crates/items/src/list.rt: Whether the list may be written: 4, then 3. */
+static struct refusal_Verdict items_list_check_list(struct slice_u16 items) {
+    if (6400 < items.len) {
+        return (struct refusal_Verdict){.tag = refusal_Verdict_Refused, .u.Refused = {.tag = refusal_Refusal_TooLong}};
+    }
+    if (6400 < items_list_written_bytes(items)) {
+        return (struct refusal_Verdict){.tag = refusal_Verdict_Refused, .u.Refused = {.tag = refusal_Refusal_TooLong}};
+    }
+    if (items_list_all_items(items)) return (struct refusal_Verdict){.tag = refusal_Verdict_Accepted};
+    return (struct refusal_Verdict){.tag = refusal_Verdict_Refused,
+            .u.Refused = {.tag = refusal_Refusal_NotAnItem, .u.NotAnItem = (uint32_t)items_list_find_foreign(items)}};
+}
+
+/* items::Check::fresh, crates/items/src/lib.rt */
+static struct items_Check items_Check_fresh(void) {
+    return (struct items_Check){.register_ = 65535, .marked = false};
+}
+
+/* items::lanes::four_at, crates/items/src/lanes.rt */
+static uint64_t items_lanes_four_at(struct slice_u16 numbers, uint64_t k) {
+    uint64_t t19 = (uint64_t)((uint64_t)numbers.at[k + 2] << 32);
+    uint64_t t26 = (uint64_t)((uint64_t)numbers.at[k + 3] << 48);
+    return (uint64_t)numbers.at[k] | (uint64_t)((uint64_t)numbers.at[k + 1] << 16) | t19 | t26;
+}
+
+/*
+ * items::lanes::clear_at, crates/items/src/lanes.rt
+ * Whether eight numbers have none of some bits, given for four lanes.
+ */
+static bool items_lanes_clear_at(struct slice_u16 numbers, uint64_t k, uint64_t bits) {
+    uint64_t t4 = items_lanes_four_at(numbers, k);
+    return ((t4 | items_lanes_four_at(numbers, k + 4)) & bits) == 0;
+}
+
+/* items::list::pass_eights, crates/items/src/list.rt: Passes over numbers below a check order, eight at a time. */
+static uint64_t items_list_pass_eights(struct slice_u16 items) {
+    uint64_t k = 0;
+    while (8 <= items.len - k) {
+        if (items_lanes_clear_at(items, k, 18302908165848628736ull)) {
+            k += 8;
+        } else {
+            return k;
+        }
+    }
+    return k;
+}
+
+/*
+ * items::list::find_check, crates/items/src/list.rt
+ * The place of the lowest check order; the length where there is none.
+ */
+static uint64_t items_list_find_check(struct slice_u16 items) {
+    uint64_t k = items_list_pass_eights(items);
+    while (k < items.len) {
+        if (items_is_check(items.at[k])) return k;
+        k++;
+    }
+    return k;
+}
+
+/* items::Check::before_mark, crates/items/src/lib.rt: The register that a mark byte passes through. */
+static uint16_t items_Check_before_mark(struct items_Check self) {
+    if (self.marked) return self.register_;
+    return 65535;
+}
+
+/* items::Check::after_byte, crates/items/src/lib.rt */
+static struct items_Check items_Check_after_byte(struct items_Check self, uint16_t byte) {
+    if (items_is_mark(byte)) {
+        return (struct items_Check){.register_ = register_feed(items_Check_before_mark(self), byte), .marked = true};
+    }
+    return (struct items_Check){.register_ = register_feed(self.register_, byte), .marked = false};
 }
 
 /*
@@ -1167,37 +1372,6 @@ static struct items_bytes_Stored items_Check_after_run(struct items_Check self, 
     return (struct items_bytes_Stored){.check = check, .count = k};
 }
 
-/* items::Check::low, crates/items/src/lib.rt */
-static uint16_t items_Check_low(struct items_Check self) {
-    return self.register_ % 256;
-}
-
-/* items::list::pass_eights, crates/items/src/list.rt: Passes over numbers below a check order, eight at a time. */
-static uint64_t items_list_pass_eights(struct slice_u16 items) {
-    uint64_t k = 0;
-    while (8 <= items.len - k) {
-        if (items_lanes_clear_at(items, k, 18302908165848628736ull)) {
-            k += 8;
-        } else {
-            return k;
-        }
-    }
-    return k;
-}
-
-/*
- * items::list::find_check, crates/items/src/list.rt
- * The place of the lowest check order; the length where there is none.
- */
-static uint64_t items_list_find_check(struct slice_u16 items) {
-    uint64_t k = items_list_pass_eights(items);
-    while (k < items.len) {
-        if (items_is_check(items.at[k])) return k;
-        k++;
-    }
-    return k;
-}
-
 /* items::marks::three_marks, crates/items/src/marks.rt */
 static bool items_marks_three_marks(struct slice_u16 bytes, uint64_t k) {
     if (bytes.at[k] == 417) {
@@ -1234,6 +1408,25 @@ static struct items_Check items_Check_after_bytes(struct items_Check self, struc
     return check;
 }
 
+/* items::Check::high, crates/items/src/lib.rt: The two bytes that a check order writes. */
+static uint16_t items_Check_high(struct items_Check self) {
+    return self.register_ / 256;
+}
+
+/* items::Check::low, crates/items/src/lib.rt */
+static uint16_t items_Check_low(struct items_Check self) {
+    return self.register_ % 256;
+}
+
+/*
+ * items::Check::after_check, crates/items/src/lib.rt
+ * The state after a check order's two bytes: whatever the register was, they leave 0.
+ */
+static struct items_Check items_Check_after_check(struct items_Check self) {
+    (void)self;
+    return (struct items_Check){.register_ = 0, .marked = false};
+}
+
 /* items::bytes::write_run, crates/items/src/bytes.rt: A run of bytes, and the two of the check order behind it. */
 static struct items_Check items_bytes_write_run(struct items_Check start, struct slice_u16 run, uint64_t at,
         struct slice_u16_mut out) {
@@ -1268,55 +1461,21 @@ static struct items_bytes_Stored items_bytes_write_bytes(struct items_Check star
     return (struct items_bytes_Stored){.check = items_Check_after_bytes(check, last), .count = at + last.len};
 }
 
-/* items::list::written_bytes, crates/items/src/list.rt: How many bytes a list writes. */
-static uint64_t items_list_written_bytes(struct slice_u16 items) {
-    uint64_t count = 0;
-    uint64_t k = 0;
-    while (32768 <= items.len - k) {
-        uint64_t end = k + 32768;
-        count += 32768 + (uint64_t)items_list_count_checks(items, k, end);
-        k = end;
-    }
-    uint64_t end_2 = items.len;
-    return count + (end_2 - k) + (uint64_t)items_list_count_checks(items, k, end_2);
-}
-
-/* items::list::check_list, crates/items/src/list.rt: Whether the list may be written: 4, then 3. */
-static struct refusal_Verdict items_list_check_list(struct slice_u16 items) {
-    if (6400 < items.len) {
-        return (struct refusal_Verdict){.tag = refusal_Verdict_Refused, .u.Refused = {.tag = refusal_Refusal_TooLong}};
-    }
-    if (6400 < items_list_written_bytes(items)) {
-        return (struct refusal_Verdict){.tag = refusal_Verdict_Refused, .u.Refused = {.tag = refusal_Refusal_TooLong}};
-    }
-    if (items_list_all_items(items)) return (struct refusal_Verdict){.tag = refusal_Verdict_Accepted};
-    return (struct refusal_Verdict){.tag = refusal_Verdict_Refused,
-            .u.Refused = {.tag = refusal_Refusal_NotAnItem, .u.NotAnItem = (uint32_t)items_list_find_foreign(items)}};
-}
-
 /* The crate fifo */
-
-/* fifo::steps::given, crates/fifo/src/steps.rt */
-static ism_fifo_answer fifo_steps_given(uint16_t item, ism_fifo next) {
-    return (ism_fifo_answer){.number = 0, .place = 0, .item = item, .next = next};
-}
 
 /* fifo::Fifo::new, crates/fifo/src/lib.rt: Empty, with register 0, in the mode that `mode` says. */
 static ism_fifo fifo_Fifo_new(uint16_t mode) {
     return (ism_fifo){.mode = mode, .held = 0, .first = 0, .second = 0, .error = 0};
 }
 
-/* fifo::steps::not_an_item, crates/fifo/src/steps.rt */
-static ism_fifo_answer fifo_steps_not_an_item(ism_fifo next) {
-    struct refusal_Refusal why = {.tag = refusal_Refusal_NotAnItem, .u.NotAnItem = 0};
-    uint32_t t3 = refusal_Refusal_number(why);
-    return (ism_fifo_answer){.number = t3, .place = refusal_Refusal_place(why), .item = 0, .next = next};
+/* fifo::steps::with_items, crates/fifo/src/steps.rt */
+static ism_fifo fifo_steps_with_items(ism_fifo fifo, uint16_t held, uint16_t first, uint16_t second) {
+    return (ism_fifo){.mode = fifo.mode, .held = held, .first = first, .second = second, .error = fifo.error};
 }
 
-/* fifo::Fifo::read_error, crates/fifo/src/lib.rt: The processor reads the error register, in either mode. */
-static ism_fifo_answer fifo_Fifo_read_error(ism_fifo self) {
-    ism_fifo t2 = {.mode = self.mode, .held = self.held, .first = self.first, .second = self.second, .error = 0};
-    return fifo_steps_given(self.error, t2);
+/* fifo::steps::given, crates/fifo/src/steps.rt */
+static ism_fifo_answer fifo_steps_given(uint16_t item, ism_fifo next) {
+    return (ism_fifo_answer){.number = 0, .place = 0, .item = item, .next = next};
 }
 
 /* fifo::steps::with_fault, crates/fifo/src/steps.rt: A bit is set only while none is; a bit of 0 is no fault. */
@@ -1330,9 +1489,11 @@ static ism_fifo fifo_steps_with_fault(ism_fifo fifo, uint16_t bit) {
     return (ism_fifo){.mode = fifo.mode, .held = fifo.held, .first = fifo.first, .second = fifo.second, .error = t10};
 }
 
-/* fifo::steps::with_items, crates/fifo/src/steps.rt */
-static ism_fifo fifo_steps_with_items(ism_fifo fifo, uint16_t held, uint16_t first, uint16_t second) {
-    return (ism_fifo){.mode = fifo.mode, .held = held, .first = first, .second = second, .error = fifo.error};
+/* fifo::steps::not_an_item, crates/fifo/src/steps.rt */
+static ism_fifo_answer fifo_steps_not_an_item(ism_fifo next) {
+    struct refusal_Refusal why = {.tag = refusal_Refusal_NotAnItem, .u.NotAnItem = 0};
+    uint32_t t3 = refusal_Refusal_number(why);
+    return (ism_fifo_answer){.number = t3, .place = refusal_Refusal_place(why), .item = 0, .next = next};
 }
 
 /*
@@ -1348,16 +1509,16 @@ static ism_fifo_answer fifo_steps_append(ism_fifo fifo, uint16_t item, uint16_t 
     return fifo_steps_not_an_item(fifo);
 }
 
-/* fifo::Fifo::chip_put, crates/fifo/src/lib.rt: The chip puts an item. */
-static ism_fifo_answer fifo_Fifo_chip_put(ism_fifo self, uint16_t item) {
-    if (self.mode == 0) return fifo_steps_given(0, self);
-    return fifo_steps_append(self, item, 1);
-}
-
 /* fifo::Fifo::put, crates/fifo/src/lib.rt: The processor puts an item. */
 static ism_fifo_answer fifo_Fifo_put(ism_fifo self, uint16_t item) {
     if (self.mode == 0) return fifo_steps_append(self, item, 4);
     return fifo_steps_given(0, self);
+}
+
+/* fifo::Fifo::chip_put, crates/fifo/src/lib.rt: The chip puts an item. */
+static ism_fifo_answer fifo_Fifo_chip_put(ism_fifo self, uint16_t item) {
+    if (self.mode == 0) return fifo_steps_given(0, self);
+    return fifo_steps_append(self, item, 1);
 }
 
 /* fifo::steps::without_first, crates/fifo/src/steps.rt: The first item leaves. */
@@ -1378,12 +1539,6 @@ static ism_fifo_answer fifo_steps_shift(ism_fifo fifo, uint16_t fault, uint16_t 
     return fifo_steps_given(fifo.first, fifo_steps_without_first(fifo));
 }
 
-/* fifo::Fifo::chip_take, crates/fifo/src/lib.rt: The chip takes an item. */
-static ism_fifo_answer fifo_Fifo_chip_take(ism_fifo self) {
-    if (self.mode == 0) return fifo_steps_shift(self, 1, 0);
-    return fifo_steps_given(0, self);
-}
-
 /*
  * fifo::Fifo::take_data, crates/fifo/src/lib.rt
  * The processor takes an item at the data location, where a mark is a fault.
@@ -1399,432 +1554,93 @@ static ism_fifo_answer fifo_Fifo_take_mark(ism_fifo self) {
     return fifo_steps_shift(self, 4, 0);
 }
 
-/* The crate sectors */
+/* fifo::Fifo::chip_take, crates/fifo/src/lib.rt: The chip takes an item. */
+static ism_fifo_answer fifo_Fifo_chip_take(ism_fifo self) {
+    if (self.mode == 0) return fifo_steps_shift(self, 1, 0);
+    return fifo_steps_given(0, self);
+}
 
-/* sectors::put_data, crates/sectors/src/lib.rt */
-static uint64_t sectors_put_data(struct slice_u16_mut out, uint64_t at, struct slice_u8 bytes) {
+/* fifo::Fifo::read_error, crates/fifo/src/lib.rt: The processor reads the error register, in either mode. */
+static ism_fifo_answer fifo_Fifo_read_error(ism_fifo self) {
+    ism_fifo t2 = {.mode = self.mode, .held = self.held, .first = self.first, .second = self.second, .error = 0};
+    return fifo_steps_given(self.error, t2);
+}
+
+/* The crate half_cells */
+
+/*
+ * half_cells::missing, crates/half_cells/src/lib.rt
+ * The clock bits that a gap leaves out, each at the place above its own: it is 0 between two data bits 0.
+ */
+static uint32_t half_cells_missing(uint32_t x) {
+    return (uint32_t)~(x | (uint32_t)(x << 1) | (uint32_t)(x << 2)) & 0x15554;
+}
+
+/* half_cells::is_mark, crates/half_cells/src/lib.rt */
+static bool half_cells_is_mark(uint32_t x) {
+    uint16_t word = (uint16_t)(x % 65536);
+    return (word == 17545) | (word == 21028);
+}
+
+/* half_cells::fits, crates/half_cells/src/lib.rt: Whether no gap of a byte is out of place. */
+static bool half_cells_fits(uint32_t x) {
+    bool t3 = half_cells_missing(x) == 0;
+    return t3 | half_cells_is_mark(x);
+}
+
+/*
+ * half_cells::cells_since, crates/half_cells/src/lib.rt
+ * With its half cells in the low places of these bits, but for a surplus: the cells that end after the first missing
+ * clock, one for each 1.
+ */
+static uint32_t half_cells_cells_since(uint32_t bits, uint32_t surplus, uint32_t gaps) {
+    uint32_t below = (surplus + 32 - leading_zeros(gaps)) % 32;
+    return count_ones(bits & ((uint32_t)((uint32_t)1 << below) - 1));
+}
+
+/*
+ * half_cells::first_of_cells, crates/half_cells/src/lib.rt
+ * The place of the first of so many cells, the last of which stands at this place.
+ */
+static uint32_t half_cells_first_of_cells(uint32_t at, uint32_t cells) {
+    return core_num_wrapping_sub_u32(core_num_wrapping_add_u32(at, 1), cells);
+}
+
+/* half_cells::data_bits, crates/half_cells/src/lib.rt: Every second bit of a word, moved together. */
+static uint16_t half_cells_data_bits(uint16_t word) {
+    uint16_t alone = word & 0x5555;
+    uint16_t pairs = (alone | (alone >> 1)) & 0x3333;
+    uint16_t fours = (pairs | (pairs >> 2)) & 0xF0F;
+    return (fours | (fours >> 4)) & 0xFF;
+}
+
+/*
+ * half_cells::byte_of, crates/half_cells/src/lib.rt
+ * The one byte that can have a word of 16 half cells: whether it has it depends on the data bit before.
+ */
+static uint16_t half_cells_byte_of(uint16_t word) {
+    if (word == 17545) return 417;
+    if (word == 21028) return 450;
+    return half_cells_data_bits(word);
+}
+
+/* half_cells::words_to_bytes, crates/half_cells/src/lib.rt: Each word of a list replaced by its byte. */
+static void half_cells_words_to_bytes(struct slice_u16_mut words) {
     uint64_t k = 0;
-    while (k < bytes.len) {
-        out.at[at + k] = (uint16_t)bytes.at[k];
+    while (k < words.len) {
+        words.at[k] = half_cells_byte_of(words.at[k]);
         k++;
     }
-    out.at[at + k] = 512;
-    return at + k + 1;
-}
-
-/* sectors::put_identity, crates/sectors/src/lib.rt */
-static uint64_t sectors_put_identity(struct slice_u16_mut out, uint64_t at, uint8_t track, uint8_t side, uint8_t sector,
-        uint8_t code) {
-    out.at[at] = (uint16_t)track;
-    out.at[at + 1] = (uint16_t)side;
-    out.at[at + 2] = (uint16_t)sector;
-    out.at[at + 3] = (uint16_t)code;
-    out.at[at + 4] = 512;
-    return at + 5;
-}
-
-/* sectors::repeat, crates/sectors/src/lib.rt */
-static uint64_t sectors_repeat(struct slice_u16_mut out, uint64_t at, uint64_t count, uint16_t item) {
-    uint64_t k = 0;
-    while (k < count) {
-        out.at[at + k] = item;
-        k++;
-    }
-    return at + count;
-}
-
-/*
- * sectors::open_field, crates/sectors/src/lib.rt
- * 12 of 00, three marks A1, and the byte that tells an ID field from a data field.
- */
-static uint64_t sectors_open_field(struct slice_u16_mut out, uint64_t at, uint16_t kind) {
-    uint64_t marks = sectors_repeat(out, at, 12, 0);
-    uint64_t end = sectors_repeat(out, marks, 3, 417);
-    out.at[end] = kind;
-    return end + 1;
-}
-
-/* sectors::put_sector, crates/sectors/src/lib.rt: The whole sector at the front of the output. */
-static void sectors_put_sector(struct slice_u16_mut out, uint8_t track, uint8_t side, uint8_t sector, uint8_t code,
-        struct slice_u8 bytes) {
-    uint64_t id = sectors_open_field(out, 0, 254);
-    uint64_t gap = sectors_put_identity(out, id, track, side, sector, code);
-    uint64_t second = sectors_repeat(out, gap, 22, 78);
-    uint64_t first = sectors_open_field(out, second, 251);
-    uint64_t end = sectors_put_data(out, first, bytes);
-    sectors_repeat(out, end, 54, 78);
-}
-
-/* sectors::sector_size, crates/sectors/src/lib.rt: The bytes of data in a sector of a length code, 0 to 3. */
-static uint64_t sectors_sector_size(uint8_t code) {
-    switch (code) {
-    case 0: return 128;
-    case 1: return 256;
-    case 2: return 512;
-    default: return 1024;
-    }
-}
-
-/*
- * sectors::make_sector, crates/sectors/src/lib.rt
- * 13, for length code 0 too, then 9; on acceptance the items fill the front of the output and their number is
- * answered.
- */
-static struct refusal_Counted sectors_make_sector(uint8_t track, uint8_t side, uint8_t sector, uint8_t code,
-        struct slice_u8 bytes, struct slice_u16_mut out) {
-    if (code < 1) {
-        return (struct refusal_Counted){.tag = refusal_Counted_Refused,
-                .u.Refused = {.tag = refusal_Refusal_SectorSizeMismatch}};
-    }
-    if (3 < code) {
-        return (struct refusal_Counted){.tag = refusal_Counted_Refused,
-                .u.Refused = {.tag = refusal_Refusal_SectorSizeMismatch}};
-    }
-    if (bytes.len != sectors_sector_size(code)) {
-        return (struct refusal_Counted){.tag = refusal_Counted_Refused,
-                .u.Refused = {.tag = refusal_Refusal_SectorSizeMismatch}};
-    }
-    uint64_t count = bytes.len + 114;
-    if (out.len < count) {
-        return (struct refusal_Counted){.tag = refusal_Counted_Refused,
-                .u.Refused = {.tag = refusal_Refusal_OutputTooShort}};
-    }
-    sectors_put_sector(out, track, side, sector, code, bytes);
-    return (struct refusal_Counted){.tag = refusal_Counted_Count, .u.Count = count};
-}
-
-/* The crate sets */
-
-/* sets::span::at_least, crates/sets/src/span.rt */
-static uint64_t sets_span_at_least(uint64_t least, uint64_t number) {
-    if (least < number) return number;
-    return least;
-}
-
-/* sets::index::entry, crates/sets/src/index.rt */
-static uint16_t sets_index_entry(uint16_t old, uint16_t place) {
-    if (old == 0) return place;
-    return 65535;
-}
-
-/* sets::span::join, crates/sets/src/span.rt: The span of the numbers of either. */
-static struct sets_span_Span sets_span_join(struct sets_span_Span a, struct sets_span_Span b) {
-    uint64_t t3 = lists_at_most(a.low, b.low);
-    return (struct sets_span_Span){.low = t3, .high = sets_span_at_least(a.high, b.high)};
-}
-
-/*
- * sets::index::index_set, crates/sets/src/index.rt
- * Answers the span of the numbers. 32 sectors have at most 32,864 bytes, so a place fits 16 bits and is not 65,535.
- */
-static struct sets_span_Span sets_index_index_set(struct slice_u8 set, struct array_u16_256 *index) {
-    struct sets_span_Span span = {.low = 256, .high = 0};
-    uint64_t start = 0;
-    while (start < set.len) {
-        uint64_t code = start + 1;
-        uint64_t number = (uint64_t)set.at[start];
-        index->a[number] = sets_index_entry(index->a[number], (uint16_t)code);
-        struct sets_span_Span here = {.low = number, .high = number + 1};
-        span = sets_span_join(span, here);
-        start = code + 2 + sectors_sector_size(set.at[code]);
-    }
-    return span;
-}
-
-/* sets::index::sector_end, crates/sets/src/index.rt: The place after the sector that begins at a place. */
-static struct refusal_Counted sets_index_sector_end(struct slice_u8 set, uint64_t start) {
-    uint64_t left = set.len - start;
-    if (left < 3) {
-        return (struct refusal_Counted){.tag = refusal_Counted_Refused,
-                .u.Refused = {.tag = refusal_Refusal_SectorSizeMismatch}};
-    }
-    uint8_t code = set.at[start + 1];
-    if (3 < code) {
-        return (struct refusal_Counted){.tag = refusal_Counted_Refused,
-                .u.Refused = {.tag = refusal_Refusal_SectorSizeMismatch}};
-    }
-    uint64_t size = sectors_sector_size(code);
-    if (left - 3 < size) {
-        return (struct refusal_Counted){.tag = refusal_Counted_Refused,
-                .u.Refused = {.tag = refusal_Refusal_SectorSizeMismatch}};
-    }
-    return (struct refusal_Counted){.tag = refusal_Counted_Count, .u.Count = start + 3 + size};
-}
-
-/*
- * sets::index::count_sectors, crates/sets/src/index.rt
- * 13, looked for to the end of the set, or how many sectors it has.
- */
-static struct refusal_Counted sets_index_count_sectors(struct slice_u8 set) {
-    uint64_t count = 0;
-    uint64_t start = 0;
-    while (start < set.len) {
-        struct refusal_Counted t8 = sets_index_sector_end(set, start);
-        if (t8.tag == refusal_Counted_Refused) {
-            return (struct refusal_Counted){.tag = refusal_Counted_Refused, .u.Refused = t8.u.Refused};
-        }
-        count++;
-        start = t8.u.Count;
-    }
-    return (struct refusal_Counted){.tag = refusal_Counted_Count, .u.Count = count};
-}
-
-/* The crate merge */
-
-/* merge::check_counts, crates/merge/src/lib.rt */
-static struct refusal_Verdict merge_check_counts(uint64_t first, uint64_t second) {
-    if (32 < first) {
-        return (struct refusal_Verdict){.tag = refusal_Verdict_Refused,
-                .u.Refused = {.tag = refusal_Refusal_TooManySectors}};
-    }
-    if (32 < second) {
-        return (struct refusal_Verdict){.tag = refusal_Verdict_Refused,
-                .u.Refused = {.tag = refusal_Refusal_TooManySectors}};
-    }
-    return (struct refusal_Verdict){.tag = refusal_Verdict_Accepted};
-}
-
-/* merge::check_sets, crates/merge/src/lib.rt: 13, then 15 for a set of more than 32 sectors. */
-static struct refusal_Verdict merge_check_sets(struct slice_u8 first, struct slice_u8 second) {
-    struct refusal_Counted t7 = sets_index_count_sectors(first);
-    if (t7.tag == refusal_Counted_Refused) {
-        return (struct refusal_Verdict){.tag = refusal_Verdict_Refused, .u.Refused = t7.u.Refused};
-    }
-    uint64_t a = t7.u.Count;
-    struct refusal_Counted t9 = sets_index_count_sectors(second);
-    if (t9.tag == refusal_Counted_Refused) {
-        return (struct refusal_Verdict){.tag = refusal_Verdict_Refused, .u.Refused = t9.u.Refused};
-    }
-    return merge_check_counts(a, t9.u.Count);
-}
-
-/* merge::output::entry_size, crates/merge/src/output.rt */
-static uint64_t merge_output_entry_size(struct slice_u8 set, uint16_t entry) {
-    if (entry == 0) return 0;
-    uint64_t code = (uint64_t)entry;
-    return 3 + sectors_sector_size(set.at[code]);
-}
-
-/* merge::numbers::in_either, crates/merge/src/numbers.rt */
-static bool merge_numbers_in_either(uint16_t a, uint16_t b) {
-    if (a != 0) return true;
-    return b != 0;
-}
-
-/* merge::numbers::count_numbers, crates/merge/src/numbers.rt: How many different numbers two sets have. */
-static uint64_t merge_numbers_count_numbers(const struct array_u16_256 *a, const struct array_u16_256 *b,
-        struct sets_span_Span span) {
-    uint64_t count = 0;
-    uint64_t n = span.low;
-    while (n < span.high) {
-        if (merge_numbers_in_either(a->a[n], b->a[n])) count++;
-        n++;
-    }
-    return count;
-}
-
-/*
- * merge::choice::same_bytes, crates/merge/src/choice.rt
- * Looks at every byte: a loop that could end early would go byte by byte.
- */
-static bool merge_choice_same_bytes(struct slice_u8 a, struct slice_u8 b) {
-    if (a.len != b.len) return false;
-    bool same = true;
-    uint64_t k = 0;
-    while (k < a.len) {
-        same = same & (a.at[k] == b.at[k]);
-        k++;
-    }
-    return same;
-}
-
-/* merge::choice::copies_disagree, crates/merge/src/choice.rt: Both sums good and unlike bytes. */
-static bool merge_choice_copies_disagree(struct slice_u8 first, uint64_t a, struct slice_u8 second, uint64_t b) {
-    if (first.at[a + 1] == 0) return false;
-    if (second.at[b + 1] == 0) return false;
-    uint8_t code = first.at[a];
-    if (code != second.at[b]) return true;
-    uint64_t size = sectors_sector_size(code);
-    uint64_t a_data = a + 2;
-    uint64_t a_end = a_data + size;
-    uint64_t b_data = b + 2;
-    uint64_t b_end = b_data + size;
-    struct slice_u8 t24 = slice_u8(second.at + b_data, b_end - b_data);
-    return !merge_choice_same_bytes(slice_u8(first.at + a_data, a_end - a_data), t24);
-}
-
-/* merge::choice::at_odds, crates/merge/src/choice.rt */
-static bool merge_choice_at_odds(struct slice_u8 first, uint16_t a, struct slice_u8 second, uint16_t b) {
-    if (a == 65535) return true;
-    if (b == 65535) return true;
-    if (a == 0) return false;
-    if (b == 0) return false;
-    return merge_choice_copies_disagree(first, (uint64_t)a, second, (uint64_t)b);
-}
-
-/*
- * merge::choice::lowest_at_odds, crates/merge/src/choice.rt
- * The lowest number at which the sets are at odds; 256 where there is none.
- */
-static uint64_t merge_choice_lowest_at_odds(struct slice_u8 first, const struct array_u16_256 *a,
-        struct slice_u8 second, const struct array_u16_256 *b, struct sets_span_Span span) {
-    uint64_t n = span.low;
-    while (n < span.high) {
-        if (merge_choice_at_odds(first, a->a[n], second, b->a[n])) return n;
-        n++;
-    }
-    return 256;
-}
-
-/*
- * merge::check_numbers, crates/merge/src/lib.rt
- * 15 for more than 32 different numbers, then 17; else how many there are.
- */
-static struct refusal_Counted merge_check_numbers(struct slice_u8 first, const struct array_u16_256 *a,
-        struct slice_u8 second, const struct array_u16_256 *b, struct sets_span_Span span) {
-    uint64_t count = merge_numbers_count_numbers(a, b, span);
-    if (32 < count) {
-        return (struct refusal_Counted){.tag = refusal_Counted_Refused,
-                .u.Refused = {.tag = refusal_Refusal_TooManySectors}};
-    }
-    uint64_t lowest = merge_choice_lowest_at_odds(first, a, second, b, span);
-    if (lowest < 256) {
-        return (struct refusal_Counted){.tag = refusal_Counted_Refused,
-                .u.Refused = {.tag = refusal_Refusal_SectorsAtOdds, .u.SectorsAtOdds = (uint32_t)lowest}};
-    }
-    return (struct refusal_Counted){.tag = refusal_Counted_Count, .u.Count = count};
-}
-
-/* merge::output::sum_byte, crates/merge/src/output.rt */
-static uint8_t merge_output_sum_byte(uint8_t sum) {
-    if (sum == 0) return 0;
-    return 1;
-}
-
-/* merge::output::put_sector, crates/merge/src/output.rt: The sector whose length code stands at a place. */
-static uint64_t merge_output_put_sector(struct slice_u8 set, uint64_t code, struct slice_u8_mut out, uint64_t start) {
-    uint64_t size = sectors_sector_size(set.at[code]);
-    out.at[start] = set.at[code - 1];
-    out.at[start + 1] = set.at[code];
-    out.at[start + 2] = merge_output_sum_byte(set.at[code + 1]);
-    uint64_t data = code + 2;
-    uint64_t end = data + size;
-    lists_copy(slice_u8(set.at + data, end - data), start + 3, out);
-    return start + 3 + size;
-}
-
-/* merge::output::put_entry, crates/merge/src/output.rt */
-static uint64_t merge_output_put_entry(struct slice_u8 set, uint16_t entry, struct slice_u8_mut out, uint64_t start) {
-    if (entry == 0) return start;
-    return merge_output_put_sector(set, (uint64_t)entry, out, start);
-}
-
-/* merge::choice::takes_second, crates/merge/src/choice.rt: Whether it is the second set's copy that is taken. */
-static bool merge_choice_takes_second(struct slice_u8 first, uint16_t a, struct slice_u8 second, uint16_t b) {
-    if (a == 0) return true;
-    if (b == 0) return false;
-    uint64_t a_sum = (uint64_t)a + 1;
-    if (first.at[a_sum] != 0) return false;
-    uint64_t b_sum = (uint64_t)b + 1;
-    return second.at[b_sum] != 0;
-}
-
-/* merge::output::put_taken, crates/merge/src/output.rt: The copy taken, if one of the sets has the number. */
-static uint64_t merge_output_put_taken(struct slice_u8 first, uint16_t a, struct slice_u8 second, uint16_t b,
-        struct slice_u8_mut out, uint64_t start) {
-    if (merge_choice_takes_second(first, a, second, b)) {
-        return merge_output_put_entry(second, b, out, start);
-    }
-    return merge_output_put_entry(first, a, out, start);
-}
-
-/*
- * merge::output::taken_size, crates/merge/src/output.rt
- * The bytes that the copy taken has; none where neither set has the number.
- */
-static uint64_t merge_output_taken_size(struct slice_u8 first, uint16_t a, struct slice_u8 second, uint16_t b) {
-    if (merge_choice_takes_second(first, a, second, b)) return merge_output_entry_size(second, b);
-    return merge_output_entry_size(first, a);
-}
-
-/* merge::ascending::merged_size, crates/merge/src/ascending.rt */
-static uint64_t merge_ascending_merged_size(struct slice_u8 first, const struct array_u16_256 *a,
-        struct slice_u8 second, const struct array_u16_256 *b, struct sets_span_Span span) {
-    uint64_t size = 0;
-    uint64_t n = span.low;
-    while (n < span.high) {
-        size += merge_output_taken_size(first, a->a[n], second, b->a[n]);
-        n++;
-    }
-    return size;
-}
-
-/* merge::ascending::write_merged, crates/merge/src/ascending.rt */
-static void merge_ascending_write_merged(struct slice_u8 first, const struct array_u16_256 *a, struct slice_u8 second,
-        const struct array_u16_256 *b, struct sets_span_Span span, struct slice_u8_mut out) {
-    uint64_t start = 0;
-    uint64_t n = span.low;
-    while (n < span.high) {
-        start = merge_output_put_taken(first, a->a[n], second, b->a[n], out, start);
-        n++;
-    }
-}
-
-/* merge::deliver, crates/merge/src/lib.rt: 9, or the merged set at the front of the output. */
-static struct merge_Merged merge_deliver(struct slice_u8 first, const struct array_u16_256 *a, struct slice_u8 second,
-        const struct array_u16_256 *b, struct sets_span_Span span, uint64_t count, struct slice_u8_mut out) {
-    uint64_t bytes = merge_ascending_merged_size(first, a, second, b, span);
-    if (out.len < bytes) {
-        return (struct merge_Merged){.tag = merge_Merged_Refused, .u.Refused = {.tag = refusal_Refusal_OutputTooShort}};
-    }
-    merge_ascending_write_merged(first, a, second, b, span, out);
-    return (struct merge_Merged){.tag = merge_Merged_Set, .u.Set = {.count = count, .bytes = bytes}};
-}
-
-/* merge::merge_checked, crates/merge/src/lib.rt: Two sets of at most 32 sectors each. */
-static struct merge_Merged merge_merge_checked(struct slice_u8 first, struct slice_u8 second, struct slice_u8_mut out) {
-    struct array_u16_256 a = {0};
-    struct array_u16_256 b = {0};
-    struct sets_span_Span one = sets_index_index_set(first, &a);
-    struct sets_span_Span other = sets_index_index_set(second, &b);
-    struct sets_span_Span span = sets_span_join(one, other);
-    struct refusal_Counted t13 = merge_check_numbers(first, &a, second, &b, span);
-    if (t13.tag == refusal_Counted_Refused) {
-        return (struct merge_Merged){.tag = merge_Merged_Refused, .u.Refused = t13.u.Refused};
-    }
-    return merge_deliver(first, &a, second, &b, span, t13.u.Count, out);
-}
-
-/*
- * merge::merge_sets, crates/merge/src/lib.rt
- * 13, 15, 17, 9. On acceptance the merged set fills the front of the output, by ascending sector number.
- */
-static struct merge_Merged merge_merge_sets(struct slice_u8 first, struct slice_u8 second, struct slice_u8_mut out) {
-    struct refusal_Verdict t5 = merge_check_sets(first, second);
-    if (t5.tag == refusal_Verdict_Refused) {
-        return (struct merge_Merged){.tag = merge_Merged_Refused, .u.Refused = t5.u.Refused};
-    }
-    return merge_merge_checked(first, second, out);
 }
 
 /* The crate symbols */
 
 /*
- * symbols::Reading::close, crates/symbols/src/lib.rt
- * On to the next byte after the cell at this place made one whole. Of the gaps out of place the lowest is kept.
+ * symbols::Reading::new, crates/symbols/src/lib.rt
+ * The transition before the first cell is the lead's clock bit.
  */
-static struct symbols_Reading symbols_Reading_close(struct symbols_Reading self, uint32_t at) {
-    uint32_t surplus = (self.held - 17) % 32;
-    uint32_t x = (self.bits >> surplus) % 131072;
-    uint32_t gaps = half_cells_missing(x);
-    self.held -= 16;
-    self.words = std_num_wrapping_add_u32(self.words, 1);
-    if (gaps == 0) return self;
-    if (half_cells_is_mark(x)) return self;
-    if (self.stray) return self;
-    self.stray = true;
-    self.place = half_cells_first_of_cells(at, half_cells_cells_since(self.bits, surplus, gaps));
-    return self;
+static struct symbols_Reading symbols_Reading_new(void) {
+    return (struct symbols_Reading){.bits = 1, .held = 0, .words = 0, .place = 0, .stray = false};
 }
 
 /*
@@ -1836,11 +1652,14 @@ static struct symbols_Reading symbols_Reading_empty(void) {
 }
 
 /*
- * symbols::Reading::is_stray, crates/symbols/src/lib.rt
- * A gap was out of place, also one on the last bit, which no later byte has shown.
+ * symbols::Reading::shift, crates/symbols/src/lib.rt
+ * One cell more, of so many units: 0s, then the 1 that ends it.
  */
-static bool symbols_Reading_is_stray(struct symbols_Reading self) {
-    return self.stray | ((self.held == 4) & (self.bits % 16 == 1));
+static struct symbols_Reading symbols_Reading_shift(struct symbols_Reading self, uint8_t units) {
+    uint32_t more = (uint32_t)units;
+    self.bits = (uint32_t)(self.bits << (more % 32)) | 0x1;
+    self.held = core_num_wrapping_add_u32(self.held, more);
+    return self;
 }
 
 /*
@@ -1851,23 +1670,37 @@ static bool symbols_Reading_is_whole(struct symbols_Reading self) {
     return 17 <= self.held;
 }
 
-/*
- * symbols::Reading::new, crates/symbols/src/lib.rt
- * The transition before the first cell is the lead's clock bit.
- */
-static struct symbols_Reading symbols_Reading_new(void) {
-    return (struct symbols_Reading){.bits = 1, .held = 0, .words = 0, .place = 0, .stray = false};
+/* symbols::Reading::word, crates/symbols/src/lib.rt: The code word of a byte that is whole. */
+static uint16_t symbols_Reading_word(struct symbols_Reading self) {
+    uint32_t surplus = (self.held - 17) % 32;
+    uint32_t x = (self.bits >> surplus) % 131072;
+    return (uint16_t)(x % 65536);
 }
 
 /*
- * symbols::Reading::shift, crates/symbols/src/lib.rt
- * One cell more, of so many units: 0s, then the 1 that ends it.
+ * symbols::Reading::close, crates/symbols/src/lib.rt
+ * On to the next byte after the cell at this place made one whole. Of the gaps out of place the lowest is kept.
  */
-static struct symbols_Reading symbols_Reading_shift(struct symbols_Reading self, uint8_t units) {
-    uint32_t more = (uint32_t)units;
-    self.bits = (uint32_t)(self.bits << (more % 32)) | 0x1;
-    self.held = std_num_wrapping_add_u32(self.held, more);
+static struct symbols_Reading symbols_Reading_close(struct symbols_Reading self, uint32_t at) {
+    uint32_t surplus = (self.held - 17) % 32;
+    uint32_t x = (self.bits >> surplus) % 131072;
+    uint32_t gaps = half_cells_missing(x);
+    self.held -= 16;
+    self.words = core_num_wrapping_add_u32(self.words, 1);
+    if (gaps == 0) return self;
+    if (half_cells_is_mark(x)) return self;
+    if (self.stray) return self;
+    self.stray = true;
+    self.place = half_cells_first_of_cells(at, half_cells_cells_since(self.bits, surplus, gaps));
     return self;
+}
+
+/*
+ * symbols::Reading::is_stray, crates/symbols/src/lib.rt
+ * A gap was out of place, also one on the last bit, which no later byte has shown.
+ */
+static bool symbols_Reading_is_stray(struct symbols_Reading self) {
+    return self.stray | ((self.held == 4) & (self.bits % 16 == 1));
 }
 
 /*
@@ -1879,684 +1712,318 @@ static uint32_t symbols_Reading_stray_place(struct symbols_Reading self, uint32_
     return last;
 }
 
-/* symbols::Reading::word, crates/symbols/src/lib.rt: The code word of a byte that is whole. */
-static uint16_t symbols_Reading_word(struct symbols_Reading self) {
-    uint32_t surplus = (self.held - 17) % 32;
-    uint32_t x = (self.bits >> surplus) % 131072;
-    return (uint16_t)(x % 65536);
-}
-
-/* The crate shifts */
-
-/* shifts::top::add_cell, crates/shifts/src/top.rt */
-static struct shifts_top_Top shifts_top_add_cell(struct shifts_top_Top t, uint8_t units) {
-    uint32_t free = std_num_wrapping_sub_u32(t.free, (uint32_t)units);
-    return (struct shifts_top_Top){.cells = t.cells | (uint64_t)((uint64_t)1 << (uint64_t)(free % 64)), .free = free};
-}
-
-/* shifts::top::add_four, crates/shifts/src/top.rt: The four cells from a place on. */
-static struct shifts_top_Top shifts_top_add_four(struct shifts_top_Top t, struct slice_u8 units, uint64_t k) {
-    struct shifts_top_Top t5 = shifts_top_add_cell(t, units.at[k]);
-    struct shifts_top_Top two = shifts_top_add_cell(t5, units.at[k + 1]);
-    t5 = shifts_top_add_cell(two, units.at[k + 2]);
-    return shifts_top_add_cell(t5, units.at[k + 3]);
-}
+/* The crate words */
 
 /*
- * shifts::fours::all_fit, crates/shifts/src/fours.rt
- * Whether no gap is out of place, with no jump for any word, so that it is told in vector instructions.
+ * words::spread_word, crates/words/src/lib.rt
+ * The bits of a data byte at every second place, and a clock bit between each two that are 0.
  */
-static bool shifts_fours_all_fit(struct slice_u32 words) {
-    bool all = true;
-    uint64_t k = 0;
-    while (k < words.len) {
-        all = all & half_cells_fits(words.at[k]);
-        k++;
-    }
-    return all;
+static uint16_t words_spread_word(uint16_t previous, uint16_t byte) {
+    uint16_t fours = (byte | (uint16_t)((uint32_t)byte << 4)) & 0xF0F;
+    uint16_t pairs = (fours | (uint16_t)((uint32_t)fours << 2)) & 0x3333;
+    uint16_t data = (pairs | (uint16_t)((uint32_t)pairs << 1)) & 0x5555;
+    uint16_t clocks = ((data | (data >> 2) | (uint16_t)((uint32_t)previous << 14)) & 0x5555) ^ 0x5555;
+    return data | (uint16_t)((uint32_t)clocks << 1);
 }
 
-/*
- * shifts::shift::goes_by_eights, crates/shifts/src/shift.rt
- * Whether cells that make so many words at most go by eights: not a few, nor those behind no half cell, as at first,
- * nor the end of a field.
- */
-static bool shifts_shift_goes_by_eights(struct symbols_Reading m, uint64_t room, uint32_t most) {
-    return (4 <= room) & (1 <= m.held) & (room < (uint64_t)(most - m.words));
-}
-
-/* shifts::top::is_whole, crates/shifts/src/top.rt */
-static bool shifts_top_is_whole(struct shifts_top_Top t) {
-    return t.free < 48;
-}
-
-/* shifts::top::ease, crates/shifts/src/top.rt: On to the next byte where one is whole, without a jump. */
-static struct shifts_top_Top shifts_top_ease(struct shifts_top_Top t) {
-    uint32_t more = 16 * (uint32_t)shifts_top_is_whole(t);
-    return (struct shifts_top_Top){.cells = (uint64_t)(t.cells << (uint64_t)more),
-            .free = std_num_wrapping_add_u32(t.free, more)};
-}
-
-/* shifts::top::past_word, crates/shifts/src/top.rt: On to the next byte. */
-static struct shifts_top_Top shifts_top_past_word(struct shifts_top_Top t) {
-    return (struct shifts_top_Top){.cells = (uint64_t)(t.cells << 16), .free = std_num_wrapping_add_u32(t.free, 16)};
-}
-
-/* shifts::fours::shift_four, crates/shifts/src/fours.rt */
-static struct symbols_Reading shifts_fours_shift_four(struct symbols_Reading m, struct slice_u8 units, uint64_t k) {
-    struct symbols_Reading t5 = symbols_Reading_shift(m, units.at[k]);
-    struct symbols_Reading two = symbols_Reading_shift(t5, units.at[k + 1]);
-    t5 = symbols_Reading_shift(two, units.at[k + 2]);
-    return symbols_Reading_shift(t5, units.at[k + 3]);
-}
-
-/*
- * shifts::fours::last_bits, crates/shifts/src/fours.rt
- * The register after sixteen cells, which have all its half cells.
- */
-static uint32_t shifts_fours_last_bits(struct slice_u8 units, uint64_t k) {
-    struct symbols_Reading half =
-            shifts_fours_shift_four(shifts_fours_shift_four(symbols_Reading_empty(), units, k), units, k + 4);
-    return shifts_fours_shift_four(shifts_fours_shift_four(half, units, k + 8), units, k + 12).bits;
-}
-
-/*
- * shifts::shift::shift_in, crates/shifts/src/shift.rt
- * Cells of so many units, the first at place `from`, until so many bytes are whole or no cell is left. Bytes are
- * counted only where one is closed, which keeps the loop short. Code words are stored from place `to` on, where there
- * is room.
- */
-static struct shifts_Pass shifts_shift_shift_in(struct symbols_Reading start, struct slice_u8 units, uint64_t from,
-        uint32_t most, uint64_t to, struct slice_u16_mut out) {
-    struct symbols_Reading m = start;
-    uint64_t store_at = to;
-    uint64_t k = 0;
-    while (k < units.len) {
-        struct symbols_Reading next = symbols_Reading_shift(m, units.at[k]);
-        uint64_t place = from + k;
-        k++;
-        if (symbols_Reading_is_whole(next)) {
-            lists_put(out, store_at, symbols_Reading_word(next));
-            store_at++;
-            m = symbols_Reading_close(next, (uint32_t)(place % 4294967296ull));
-            if (most <= m.words) return (struct shifts_Pass){.reading = m, .used = place + 1};
-        } else {
-            m = next;
-        }
-    }
-    return (struct shifts_Pass){.reading = m, .used = from + k};
-}
-
-/*
- * shifts::fours::store, crates/shifts/src/fours.rt
- * The words without the data bit before each, from a place on, as many as there is room for. A strip is first read
- * without room.
- */
-static void shifts_fours_store(struct slice_u32 words, uint64_t at, struct slice_u16_mut out) {
-    if (out.len <= at) return;
-    uint64_t count = lists_at_most(out.len - at, words.len);
-    uint64_t k = 0;
-    while (k < count) {
-        out.at[at + k] = (uint16_t)(words.at[k] % 65536);
-        k++;
-    }
-}
-
-/* shifts::top::top_of, crates/shifts/src/top.rt */
-static struct shifts_top_Top shifts_top_top_of(struct symbols_Reading m) {
-    uint32_t free = 64 - m.held;
-    return (struct shifts_top_Top){.cells = (uint64_t)((uint64_t)((uint64_t)m.bits << (uint64_t)(free - 1)) << 1),
-            .free = free};
-}
-
-/*
- * shifts::top::top_word, crates/shifts/src/top.rt
- * The half cells of the byte that is whole, with the data bit before it; where none is whole, other half cells.
- */
-static uint32_t shifts_top_top_word(struct shifts_top_Top t) {
-    return (uint32_t)(t.cells >> 47);
-}
-
-/*
- * shifts::fours::shift_eights, crates/shifts/src/fours.rt
- * So many eights, two at least. The first word of each is whole; the second is stored, and where it is not whole the
- * next eight's first in the same place.
- */
-static struct shifts_fours_Fours shifts_fours_shift_eights(struct symbols_Reading start, struct slice_u8 units,
-        uint64_t eights, struct slice_u32_mut words) {
-    struct shifts_top_Top t = shifts_top_top_of(start);
-    uint64_t count = 0;
-    uint64_t i = 0;
-    while (i < eights) {
-        struct shifts_top_Top eight = shifts_top_add_four(shifts_top_add_four(t, units, 8 * i), units, 8 * i + 4);
-        words.at[count] = shifts_top_top_word(eight);
-        struct shifts_top_Top next = shifts_top_past_word(eight);
-        words.at[count + 1] = shifts_top_top_word(next);
-        count += 1 + (uint64_t)shifts_top_is_whole(next);
-        t = shifts_top_ease(next);
-        i++;
-    }
-    struct symbols_Reading reading = start;
-    reading.bits = shifts_fours_last_bits(units, units.len - 16);
-    reading.held = 64 - t.free;
-    reading.words = std_num_wrapping_add_u32(start.words, (uint32_t)(count % 4294967296ull));
-    return (struct shifts_fours_Fours){.reading = reading, .count = count};
-}
-
-/*
- * shifts::shift::shift_block, crates/shifts/src/shift.rt
- * Cells that leave bytes to read: by so many eights, for whose words there is room, and cell by cell what is over and,
- * for its place, where a gap is out of place.
- */
-static struct shifts_Pass shifts_shift_shift_block(struct symbols_Reading m, struct slice_u8 units, uint64_t eights,
-        struct slice_u32_mut words, uint64_t from, uint32_t most, uint64_t to, struct slice_u16_mut out) {
-    uint64_t cells = 8 * eights;
-    struct shifts_fours_Fours fours = shifts_fours_shift_eights(m, slice_u8(units.at, cells), eights, words);
-    uint64_t count = fours.count;
-    if (shifts_fours_all_fit(slice_u32(words.at, count))) {
-        shifts_fours_store(slice_u32(words.at, count), to, out);
-        struct symbols_Reading reading = fours.reading;
-        uint64_t t29 = from + cells;
-        uint64_t t30 = to + count;
-        return shifts_shift_shift_in(reading, slice_u8(units.at + cells, units.len - cells), t29, most, t30, out);
-    }
-    return shifts_shift_shift_in(m, units, from, most, to, out);
-}
-
-/* shifts::shift::shift_units, crates/shifts/src/shift.rt: By eights, or cell by cell. */
-static struct shifts_Pass shifts_shift_shift_units(struct symbols_Reading m, struct slice_u8 units, uint64_t from,
-        uint32_t most, uint64_t to, struct slice_u16_mut out) {
-    uint64_t eights = units.len / 8;
-    uint64_t room = 2 * eights;
-    if (shifts_shift_goes_by_eights(m, room, most)) {
-        struct array_u32_32 words = {0};
-        return shifts_shift_shift_block(m, units, eights, slice_u32_mut(words.a, room), from, most, to, out);
-    }
-    return shifts_shift_shift_in(m, units, from, most, to, out);
-}
-
-/* The crate timing */
-
-/*
- * timing::cursor::chosen, crates/timing/src/cursor.rt
- * The bounds after an interval of class 2, or after any other.
- */
-static struct timing_Bounds timing_cursor_chosen(bool two, struct timing_Bounds short_, struct timing_Bounds long_) {
-    if (two) return short_;
-    return long_;
-}
-
-/*
- * timing::cursor::Cursor::after, crates/timing/src/cursor.rt
- * Behind an interval of class 2, or of any other, under a profile that the caller has checked, or does not care to.
- */
-static struct timing_cursor_Cursor timing_cursor_Cursor_after(struct timing_Profile p, bool two) {
-    struct timing_HalfClocks min = p.min;
-    struct timing_Bounds short_ = p.short_;
-    struct timing_Bounds long_ = p.long_;
-    struct timing_HalfClocks rpt = p.rpt;
-    return (struct timing_cursor_Cursor){.min = min, .bounds = timing_cursor_chosen(two, short_, long_), .rpt = rpt,
-            .short_ = short_, .long_ = long_};
-}
-
-/*
- * timing::cursor::Cursor::behind, crates/timing/src/cursor.rt
- * Where the classing stands behind an interval that is of class 2, or is not.
- */
-static struct timing_cursor_Cursor timing_cursor_Cursor_behind(struct timing_cursor_Cursor self, bool two) {
-    struct timing_Bounds short_ = self.short_;
-    struct timing_Bounds long_ = self.long_;
-    struct timing_cursor_Cursor next = self;
-    next.bounds = timing_cursor_chosen(two, short_, long_);
-    return next;
-}
-
-/* timing::cursor::Cursor::class_of, crates/timing/src/cursor.rt: The class of the next interval. */
-static struct timing_Class timing_cursor_Cursor_class_of(struct timing_cursor_Cursor self, uint16_t interval) {
-    if (interval < self.min.f0) return (struct timing_Class){.tag = timing_Class_Narrow};
-    if (interval < self.bounds.b23.f0) return (struct timing_Class){.tag = timing_Class_Two};
-    if (interval < self.bounds.b34.f0) return (struct timing_Class){.tag = timing_Class_Three};
-    if (interval < self.rpt.f0) return (struct timing_Class){.tag = timing_Class_Four};
-    return (struct timing_Class){.tag = timing_Class_Wide};
-}
-
-/*
- * timing::Profile::from_numbers, crates/timing/src/lib.rt
- * The profile of eleven numbers in document 02's order.
- */
-static struct timing_Profile timing_Profile_from_numbers(const struct array_u16_11 *numbers) {
-    struct timing_Bounds t43 = {.b23 = {.f0 = numbers->a[7]}, .b34 = {.f0 = numbers->a[9]}};
-    struct timing_HalfClocks t47 = {.f0 = numbers->a[10]};
-    return (struct timing_Profile){.t1 = {.f0 = numbers->a[0]}, .t0 = {.f0 = numbers->a[1]},
-            .early = {.f0 = numbers->a[2]}, .normal = {.f0 = numbers->a[3]}, .late = {.f0 = numbers->a[4]},
-            .min = {.f0 = numbers->a[5]}, .short_ = {.b23 = {.f0 = numbers->a[6]}, .b34 = {.f0 = numbers->a[8]}},
-            .long_ = t43, .rpt = t47};
-}
-
-/*
- * timing::Clocks::in_half_clocks, crates/timing/src/lib.rt
- * The only way from clocks to half clocks, so that a compare point is never added to a length as it is.
- */
-static struct timing_HalfClocks timing_Clocks_in_half_clocks(struct timing_Clocks self) {
-    return (struct timing_HalfClocks){.f0 = 2 * self.f0};
-}
-
-/*
- * timing::rule::apart, crates/timing/src/rule.rt
- * The distance from a point to a later one, in half clocks; 0 where they are out of order.
- */
-static struct timing_HalfClocks timing_rule_apart(struct timing_Clocks from, struct timing_Clocks to) {
-    if (to.f0 < from.f0) return (struct timing_HalfClocks){.f0 = 0};
-    return timing_Clocks_in_half_clocks((struct timing_Clocks){.f0 = to.f0 - from.f0});
-}
-
-/* timing::rule::advance, crates/timing/src/rule.rt: The parts of it before and after Normal. */
-static struct timing_HalfClocks timing_rule_advance(struct timing_Profile p) {
-    return timing_rule_apart(p.early, p.normal);
-}
-
-/* timing::rule::delay, crates/timing/src/rule.rt */
-static struct timing_HalfClocks timing_rule_delay(struct timing_Profile p) {
-    return timing_rule_apart(p.normal, p.late);
-}
-
-/*
- * timing::cursor::Cursor::is_steady, crates/timing/src/cursor.rt
- * Whether it stands so behind every interval: the bounds are the same after either kind.
- */
-static bool timing_cursor_Cursor_is_steady(struct timing_cursor_Cursor self) {
-    bool t5 = self.bounds.b23.f0 == self.long_.b23.f0;
-    bool t7 = self.bounds.b34.f0 == self.long_.b34.f0;
-    return (self.bounds.b23.f0 == self.short_.b23.f0) & (self.bounds.b34.f0 == self.short_.b34.f0) & t5 & t7;
-}
-
-/* timing::rule::is_true_long, crates/timing/src/rule.rt: And those after any other. */
-static bool timing_rule_is_true_long(struct timing_Profile p) {
-    uint16_t l = timing_rule_delay(p).f0;
-    uint16_t three = p.t1.f0 + p.t0.f0;
-    uint16_t four = p.t1.f0 + 2 * p.t0.f0;
-    bool t13 = p.long_.b34.f0 <= four;
-    return (p.t1.f0 < p.long_.b23.f0 + l) & (p.long_.b23.f0 <= three) & (three + l < p.long_.b34.f0) & t13;
-}
-
-/*
- * timing::cursor::Cursor::meets_two, crates/timing/src/cursor.rt
- * Whether the next interval is of class 2, by one compare: below Min the difference wraps to above all others.
- */
-static bool timing_cursor_Cursor_meets_two(struct timing_cursor_Cursor self, uint16_t interval) {
-    return std_num_wrapping_sub_u16(interval, self.min.f0) < self.bounds.b23.f0 - self.min.f0;
-}
-
-/*
- * timing::Class::number, crates/timing/src/lib.rt
- * 2, 3 and 4 as the paper has them; 1 for narrow and 5 for wide.
- */
-static uint64_t timing_Class_number(struct timing_Class self) {
-    switch (self.tag) {
-    case timing_Class_Narrow: return 1;
-    case timing_Class_Two: return 2;
-    case timing_Class_Three: return 3;
-    case timing_Class_Four: return 4;
-    default: return 5; /* timing_Class_Wide */
-    }
-}
-
-/* timing::Profile::numbers, crates/timing/src/lib.rt: Its numbers, in the same order. */
-static struct array_u16_11 timing_Profile_numbers(struct timing_Profile self) {
-    return (struct array_u16_11){{self.t1.f0, self.t0.f0, self.early.f0, self.normal.f0, self.late.f0, self.min.f0,
-            self.short_.b23.f0, self.long_.b23.f0, self.short_.b34.f0, self.long_.b34.f0, self.rpt.f0}};
-}
-
-/*
- * timing::rule::lowest_unset, crates/timing/src/rule.rt
- * Which of the numbers is the first out of range, from 1; 0 for none.
- */
-static uint32_t timing_rule_lowest_unset(struct timing_Profile p) {
-    struct array_u16_11 numbers = timing_Profile_numbers(p);
-    struct array_timing_Range_11 ranges = {{{.low = 1, .high = 1023}, {.low = 1, .high = 1023}, {.low = 0, .high = 15},
-            {.low = 0, .high = 15}, {.low = 0, .high = 15}, {.low = 1, .high = 4095}, {.low = 1, .high = 4095},
-            {.low = 1, .high = 4095}, {.low = 1, .high = 4095}, {.low = 1, .high = 4095}, {.low = 1, .high = 4095}}};
-    uint64_t k = 0;
-    while (k < 11) {
-        struct timing_Range range = ranges.a[k];
-        uint16_t x = numbers.a[k];
-        if ((x < range.low) | (range.high < x)) return (uint32_t)k + 1;
-        k++;
-    }
-    return 0;
-}
-
-/* timing::cursor::Cursor::past, crates/timing/src/cursor.rt: Where it stands after the next interval. */
-static struct timing_cursor_Cursor timing_cursor_Cursor_past(struct timing_cursor_Cursor self, uint16_t interval) {
-    return timing_cursor_Cursor_behind(self, (self.min.f0 <= interval) & (interval < self.bounds.b23.f0));
-}
-
-/*
- * timing::cursor::Cursor::start, crates/timing/src/cursor.rt
- * Before the first interval of a list, where the one before counts as class 2.
- */
-static struct timing_cursor_Cursor timing_cursor_Cursor_start(struct timing_Profile p) {
-    return timing_cursor_Cursor_after(p, true);
-}
-
-/* timing::cursor::Cursor::step, crates/timing/src/cursor.rt: The next interval of the list. */
-static struct timing_cursor_Classed timing_cursor_Cursor_step(struct timing_cursor_Cursor self, uint16_t interval) {
-    struct timing_Class t3 = timing_cursor_Cursor_class_of(self, interval);
-    return (struct timing_cursor_Classed){.class = t3, .next = timing_cursor_Cursor_past(self, interval)};
-}
-
-/*
- * timing::rule::swing, crates/timing/src/rule.rt
- * The distance between the latest and the earliest point (document 01's D).
- */
-static struct timing_HalfClocks timing_rule_swing(struct timing_Profile p) {
-    return timing_rule_apart(p.early, p.late);
-}
-
-/*
- * timing::rule::is_true_short, crates/timing/src/rule.rt
- * Whether the lengths that can be written after a cell of class 2 are in their windows.
- */
-static bool timing_rule_is_true_short(struct timing_Profile p) {
-    uint16_t d = timing_rule_swing(p).f0;
-    uint16_t e = timing_rule_advance(p).f0;
-    uint16_t three = p.t1.f0 + p.t0.f0;
-    uint16_t four = p.t1.f0 + 2 * p.t0.f0;
-    bool t15 = p.short_.b34.f0 <= four + e;
-    return (p.t1.f0 < p.short_.b23.f0) & (p.short_.b23.f0 <= three + e) & (three + d < p.short_.b34.f0) & t15;
-}
-
-/* timing::rule::is_true, crates/timing/src/rule.rt: Whether a profile whose numbers are in range is true. */
-static bool timing_rule_is_true(struct timing_Profile p) {
-    uint16_t d = timing_rule_swing(p).f0;
-    uint16_t four = p.t1.f0 + 2 * p.t0.f0;
-    bool t11 = timing_rule_is_true_short(p);
-    bool t13 = timing_rule_is_true_long(p);
-    bool t14 = (p.early.f0 <= p.normal.f0) & (p.normal.f0 <= p.late.f0) & (p.min.f0 + d <= p.t1.f0) & t11 & t13;
-    return t14 & (four + d < p.rpt.f0);
-}
-
-/* timing::rule::check, crates/timing/src/rule.rt: Whether the profile may be used: 1, then 2. */
-static struct refusal_Verdict timing_rule_check(struct timing_Profile p) {
-    uint32_t which = timing_rule_lowest_unset(p);
-    if (which != 0) {
-        return (struct refusal_Verdict){.tag = refusal_Verdict_Refused,
-                .u.Refused = {.tag = refusal_Refusal_ProfileOutOfRange, .u.ProfileOutOfRange = which}};
-    }
-    if (timing_rule_is_true(p)) return (struct refusal_Verdict){.tag = refusal_Verdict_Accepted};
-    return (struct refusal_Verdict){.tag = refusal_Verdict_Refused,
-            .u.Refused = {.tag = refusal_Refusal_ProfileInconsistent}};
-}
-
-/*
- * timing::class_number, crates/timing/src/lib.rt
- * The class operation, told whether the interval before was of class 2: the class's number, after 1 and 2.
- */
-static struct refusal_Counted timing_class_number(struct timing_Profile p, uint16_t interval, bool two) {
-    struct refusal_Verdict t6 = timing_rule_check(p);
-    if (t6.tag == refusal_Verdict_Refused) {
-        return (struct refusal_Counted){.tag = refusal_Counted_Refused, .u.Refused = t6.u.Refused};
-    }
-    struct timing_Class class = timing_cursor_Cursor_step(timing_cursor_Cursor_after(p, two), interval).class;
-    return (struct refusal_Counted){.tag = refusal_Counted_Count, .u.Count = timing_Class_number(class)};
-}
-
-/*
- * timing::cursor::Cursor::units, crates/timing/src/cursor.rt
- * The units of its cell, where it is one: one more for each bound between the windows that it reaches.
- */
-static uint8_t timing_cursor_Cursor_units(struct timing_cursor_Cursor self, uint16_t interval) {
-    return 2 + (uint8_t)(self.bounds.b23.f0 <= interval) + (uint8_t)(self.bounds.b34.f0 <= interval);
-}
-
-/* The crate intervals */
-
-/* intervals::units::choose, crates/intervals/src/units.rt */
-static uint16_t intervals_units_choose(uint16_t mask, uint16_t short_, uint16_t long_) {
-    uint16_t gap = std_num_wrapping_sub_u16(short_, long_);
-    return std_num_wrapping_add_u16(long_, gap & mask);
-}
-
-/*
- * intervals::edges::find_outside, crates/intervals/src/edges.rt
- * The first that is none, the first of all having place `from`.
- */
-static struct refusal_Verdict intervals_edges_find_outside(uint16_t min, uint16_t rpt, uint64_t from,
-        struct slice_u16 intervals) {
-    uint64_t k = 0;
-    while (k < intervals.len) {
-        uint16_t interval = intervals.at[k];
-        if (interval < min) {
-            return (struct refusal_Verdict){.tag = refusal_Verdict_Refused,
-                    .u.Refused = {.tag = refusal_Refusal_IntervalTooShort, .u.IntervalTooShort = (uint32_t)(from + k)}};
-        }
-        if (rpt <= interval) {
-            return (struct refusal_Verdict){.tag = refusal_Verdict_Refused,
-                    .u.Refused = {.tag = refusal_Refusal_IntervalTooLong, .u.IntervalTooLong = (uint32_t)(from + k)}};
-        }
-        k++;
-    }
-    return (struct refusal_Verdict){.tag = refusal_Verdict_Accepted};
-}
-
-/* intervals::units::greater, crates/intervals/src/units.rt */
-static uint16_t intervals_units_greater(uint16_t a, uint16_t b) {
-    if (a < b) return b;
-    return a;
-}
-
-/*
- * intervals::edges::all_inside, crates/intervals/src/edges.rt
- * Whether all lie between the two edges, where there is room between them: none is further past the lower than the
- * upper is, and one below it wraps to above all others. With no jump for any, so that vector instructions tell it.
- */
-static bool intervals_edges_all_inside(uint16_t min, uint16_t rpt, struct slice_u16 intervals) {
-    uint16_t most = 0;
-    uint64_t k = 0;
-    while (k < intervals.len) {
-        most = intervals_units_greater(most, std_num_wrapping_sub_u16(intervals.at[k], min));
-        k++;
-    }
-    return most < rpt - min;
-}
-
-/* intervals::edges::all_cells, crates/intervals/src/edges.rt: Whether all are cells. */
-static bool intervals_edges_all_cells(struct timing_Profile p, struct slice_u16 intervals) {
-    return intervals_edges_all_inside(p.min.f0, p.rpt.f0, intervals);
-}
-
-/*
- * intervals::edges::check_edges_from, crates/intervals/src/edges.rt
- * It is looked for only where there is one among some.
- */
-static struct refusal_Verdict intervals_edges_check_edges_from(struct timing_cursor_Cursor start, uint64_t from,
-        struct slice_u16 intervals) {
-    uint16_t min = start.min.f0;
-    uint16_t rpt = start.rpt.f0;
-    uint64_t k = 0;
-    while (k < intervals.len) {
-        uint64_t next = k + lists_at_most(128, intervals.len - k);
-        if (intervals_edges_all_inside(min, rpt, slice_u16(intervals.at + k, next - k))) {
-            k = next;
-        } else {
-            return intervals_edges_find_outside(min, rpt, from + k, slice_u16(intervals.at + k, intervals.len - k));
-        }
-    }
-    return (struct refusal_Verdict){.tag = refusal_Verdict_Accepted};
-}
-
-/* intervals::edges::check_edges, crates/intervals/src/edges.rt: Of a whole list. */
-static struct refusal_Verdict intervals_edges_check_edges(struct timing_Profile p, struct slice_u16 intervals) {
-    return intervals_edges_check_edges_from(timing_cursor_Cursor_start(p), 0, intervals);
-}
-
-/*
- * intervals::units::is_clear, crates/intervals/src/units.rt
- * Whether an interval does not lie between two bounds. One compare for it: between them it is less past the lower than
- * the upper is; below both the difference wraps, and is no less.
- */
-static bool intervals_units_is_clear(uint16_t low, uint16_t high, uint16_t interval) {
-    return high - low <= std_num_wrapping_sub_u16(interval, low);
-}
-
-/*
- * intervals::units::is_two, crates/intervals/src/units.rt
- * Whether an interval is of class 2, where that is told by itself.
- */
-static bool intervals_units_is_two(struct timing_cursor_Cursor c, uint16_t interval) {
-    return (c.min.f0 <= interval) & (interval < c.short_.b23.f0);
-}
-
-/* intervals::units::last_of, crates/intervals/src/units.rt */
-static uint16_t intervals_units_last_of(struct slice_u16 intervals) {
-    return intervals.at[intervals.len - 1];
-}
-
-/* intervals::units::lesser, crates/intervals/src/units.rt */
-static uint16_t intervals_units_lesser(uint16_t a, uint16_t b) {
-    if (a < b) return a;
-    return b;
-}
-
-/*
- * intervals::units::all_sure, crates/intervals/src/units.rt
- * Whether each interval is of class 2 after either kind, or after none: it does not lie between the two B23. The
- * clearance asks it, since the one before an interval then tells its bounds.
- */
-static bool intervals_units_all_sure(struct timing_Bounds short_, struct timing_Bounds long_,
-        struct slice_u16 intervals) {
-    uint16_t low = intervals_units_lesser(short_.b23.f0, long_.b23.f0);
-    uint16_t high = intervals_units_greater(short_.b23.f0, long_.b23.f0);
-    bool all = true;
-    uint64_t k = 0;
-    while (k < intervals.len) {
-        all = all & intervals_units_is_clear(low, high, intervals.at[k]);
-        k++;
-    }
-    return all;
-}
-
-/*
- * intervals::units::mask_of, crates/intervals/src/units.rt
- * All ones or none, by which to choose without a jump.
- */
-static uint16_t intervals_units_mask_of(bool two) {
-    if (two) return 65535;
-    return 0;
-}
-
-/*
- * intervals::units::mark_kinds, crates/intervals/src/units.rt
- * The kind of each at the place behind it; the first is as behind another than class 2.
- */
-static void intervals_units_mark_kinds(struct timing_cursor_Cursor c, struct slice_u16 intervals,
-        struct slice_u16_mut kinds) {
-    kinds.at[0] = 0;
-    uint64_t k = 0;
-    while (k < intervals.len) {
-        kinds.at[k + 1] = intervals_units_mask_of(intervals_units_is_two(c, intervals.at[k]));
-        k++;
-    }
-}
-
-/* intervals::units::units_by, crates/intervals/src/units.rt: By given bounds. */
-static uint8_t intervals_units_units_by(struct timing_Bounds bounds, uint16_t interval) {
-    return 2 + (uint8_t)(bounds.b23.f0 <= interval) + (uint8_t)(bounds.b34.f0 <= interval);
-}
-
-/*
- * intervals::units::fill_behind, crates/intervals/src/units.rt
- * Each by the kind of the one before it, the first as behind another than class 2. All stand on the same side of both
- * B23, so that B34 alone is chosen.
- */
-static void intervals_units_fill_behind(struct timing_cursor_Cursor c, struct slice_u16 intervals,
-        struct slice_u16 kinds, struct slice_u8_mut units) {
-    uint64_t k = 0;
-    while (k < intervals.len) {
-        uint16_t b34 = intervals_units_choose(kinds.at[k], c.short_.b34.f0, c.long_.b34.f0);
-        struct timing_Bounds bounds = {.b23 = {.f0 = c.short_.b23.f0}, .b34 = {.f0 = b34}};
-        units.at[k] = intervals_units_units_by(bounds, intervals.at[k]);
-        k++;
-    }
-}
-
-/* intervals::units::fill_units, crates/intervals/src/units.rt: At once, all by the same bounds. */
-static void intervals_units_fill_units(struct timing_Bounds bounds, struct slice_u16 intervals,
-        struct slice_u8_mut units) {
-    uint64_t k = 0;
-    while (k < intervals.len) {
-        units.at[k] = intervals_units_units_by(bounds, intervals.at[k]);
-        k++;
-    }
-}
-
-/* intervals::units::units_in_turn, crates/intervals/src/units.rt: One after the other. */
-static struct timing_cursor_Cursor intervals_units_units_in_turn(struct timing_cursor_Cursor start,
-        struct slice_u16 intervals, struct slice_u8_mut units) {
-    struct timing_cursor_Cursor cursor = start;
-    uint64_t k = 0;
-    while (k < intervals.len) {
-        uint16_t interval = intervals.at[k];
-        units.at[k] = timing_cursor_Cursor_units(cursor, interval);
-        cursor = timing_cursor_Cursor_past(cursor, interval);
-        k++;
-    }
-    return cursor;
-}
-
-/*
- * intervals::units::units_of_sure, crates/intervals/src/units.rt
- * Where none lies between the two B23. The first two go by where the classing stands.
- */
-static struct timing_cursor_Cursor intervals_units_units_of_sure(struct timing_cursor_Cursor start,
-        struct slice_u16 intervals, struct slice_u16_mut kinds, struct slice_u8_mut units) {
-    intervals_units_mark_kinds(start, intervals, kinds);
-    intervals_units_fill_behind(start, intervals, slice_u16(kinds.at, kinds.len), units);
-    units.at[0] = timing_cursor_Cursor_units(start, intervals.at[0]);
-    struct timing_cursor_Cursor next = timing_cursor_Cursor_past(start, intervals.at[0]);
-    units.at[1] = timing_cursor_Cursor_units(next, intervals.at[1]);
-    struct timing_cursor_Cursor t20 = timing_cursor_Cursor_behind(start, true);
-    return timing_cursor_Cursor_past(t20, intervals_units_last_of(intervals));
-}
-
-/*
- * intervals::units::units_of, crates/intervals/src/units.rt
- * The units of intervals, each as a cell, from where the classing stands on.
- */
-static struct timing_cursor_Cursor intervals_units_units_of(struct timing_cursor_Cursor start,
-        struct slice_u16 intervals, struct slice_u8_mut units) {
-    if (timing_cursor_Cursor_is_steady(start)) {
-        intervals_units_fill_units(start.bounds, intervals, units);
-        return start;
-    }
-    if (intervals.len < 2) return intervals_units_units_in_turn(start, intervals, units);
-    if (intervals_units_all_sure(start.short_, start.long_, intervals)) {
-        uint64_t n = intervals.len + 1;
-        struct array_u16_129 kinds = {0};
-        return intervals_units_units_of_sure(start, intervals, slice_u16_mut(kinds.a, n), units);
-    }
-    return intervals_units_units_in_turn(start, intervals, units);
-}
-
-/* The crate lengths */
-
-/* lengths::table::either, crates/lengths/src/table.rt */
-static struct timing_Clocks lengths_table_either(bool test, struct timing_Clocks yes, struct timing_Clocks no) {
+/* words::either, crates/words/src/lib.rt */
+static uint16_t words_either(bool test, uint16_t yes, uint16_t no) {
     if (test) return yes;
     return no;
 }
 
-/* lengths::least, crates/lengths/src/lib.rt */
-static uint16_t lengths_least(uint16_t a, uint16_t b) {
-    if (a < b) return a;
-    return b;
+/*
+ * words::made_word, crates/words/src/lib.rt
+ * The same without the table, which is slow to copy where few words are asked for and large where all are. A mark's
+ * word is chosen after the other is made: with no jump, so that the words of many bytes are made in vector
+ * instructions.
+ */
+static uint16_t words_made_word(uint16_t previous, uint16_t w) {
+    uint16_t word = words_spread_word(previous % 2, w % 256);
+    return words_either(w == 417, 17545, words_either(w == 450, 21028, word));
 }
 
-/* lengths::table::point, crates/lengths/src/table.rt: The compare point of a transition between two symbols. */
-static struct timing_Clocks lengths_table_point(struct timing_Profile p, bool before, bool after) {
-    if (before) return lengths_table_either(after, p.normal, p.early);
-    return lengths_table_either(after, p.late, p.normal);
+/*
+ * words::table::code_words, crates/words/src/table.rt
+ * The constant would be copied wherever it is named: a loop binds it before its first turn, and lends it.
+ */
+static struct array_u16_512 words_table_code_words(void) {
+    return (struct array_u16_512){{43690, 43689, 43684, 43685, 43666, 43665, 43668, 43669, 43594, 43593, 43588, 43589,
+            43602, 43601, 43604, 43605, 43306, 43305, 43300, 43301, 43282, 43281, 43284, 43285, 43338, 43337, 43332,
+            43333, 43346, 43345, 43348, 43349, 42154, 42153, 42148, 42149, 42130, 42129, 42132, 42133, 42058, 42057,
+            42052, 42053, 42066, 42065, 42068, 42069, 42282, 42281, 42276, 42277, 42258, 42257, 42260, 42261, 42314,
+            42313, 42308, 42309, 42322, 42321, 42324, 42325, 37546, 37545, 37540, 37541, 37522, 37521, 37524, 37525,
+            37450, 37449, 37444, 37445, 37458, 37457, 37460, 37461, 37162, 37161, 37156, 37157, 37138, 37137, 37140,
+            37141, 37194, 37193, 37188, 37189, 37202, 37201, 37204, 37205, 38058, 38057, 38052, 38053, 38034, 38033,
+            38036, 38037, 37962, 37961, 37956, 37957, 37970, 37969, 37972, 37973, 38186, 38185, 38180, 38181, 38162,
+            38161, 38164, 38165, 38218, 38217, 38212, 38213, 38226, 38225, 38228, 38229, 19114, 19113, 19108, 19109,
+            19090, 19089, 19092, 19093, 19018, 19017, 19012, 19013, 19026, 19025, 19028, 19029, 18730, 18729, 18724,
+            18725, 18706, 18705, 18708, 18709, 18762, 18761, 18756, 18757, 18770, 18769, 18772, 18773, 17578, 17577,
+            17572, 17573, 17554, 17553, 17556, 17557, 17482, 17481, 17476, 17477, 17490, 17489, 17492, 17493, 17706,
+            17705, 17700, 17701, 17682, 17681, 17684, 17685, 17738, 17737, 17732, 17733, 17746, 17745, 17748, 17749,
+            21162, 21161, 21156, 21157, 21138, 21137, 21140, 21141, 21066, 21065, 21060, 21061, 21074, 21073, 21076,
+            21077, 20778, 20777, 20772, 20773, 20754, 20753, 20756, 20757, 20810, 20809, 20804, 20805, 20818, 20817,
+            20820, 20821, 21674, 21673, 21668, 21669, 21650, 21649, 21652, 21653, 21578, 21577, 21572, 21573, 21586,
+            21585, 21588, 21589, 21802, 21801, 21796, 21797, 21778, 21777, 21780, 21781, 21834, 21833, 21828, 21829,
+            21842, 21841, 21844, 21845, 10922, 10921, 10916, 10917, 10898, 10897, 10900, 10901, 10826, 10825, 10820,
+            10821, 10834, 10833, 10836, 10837, 10538, 10537, 10532, 10533, 10514, 10513, 10516, 10517, 10570, 10569,
+            10564, 10565, 10578, 10577, 10580, 10581, 9386, 9385, 9380, 9381, 9362, 9361, 9364, 9365, 9290, 9289, 9284,
+            9285, 9298, 9297, 9300, 9301, 9514, 9513, 9508, 9509, 9490, 9489, 9492, 9493, 9546, 9545, 9540, 9541, 9554,
+            9553, 9556, 9557, 4778, 4777, 4772, 4773, 4754, 4753, 4756, 4757, 4682, 4681, 4676, 4677, 4690, 4689, 4692,
+            4693, 4394, 4393, 4388, 4389, 4370, 4369, 4372, 4373, 4426, 4425, 4420, 4421, 4434, 4433, 4436, 4437, 5290,
+            5289, 5284, 5285, 5266, 5265, 5268, 5269, 5194, 5193, 5188, 5189, 5202, 5201, 5204, 5205, 5418, 5417, 5412,
+            5413, 5394, 5393, 5396, 5397, 5450, 5449, 5444, 5445, 5458, 5457, 5460, 5461, 19114, 19113, 19108, 19109,
+            19090, 19089, 19092, 19093, 19018, 19017, 19012, 19013, 19026, 19025, 19028, 19029, 18730, 18729, 18724,
+            18725, 18706, 18705, 18708, 18709, 18762, 18761, 18756, 18757, 18770, 18769, 18772, 18773, 17578, 17577,
+            17572, 17573, 17554, 17553, 17556, 17557, 17482, 17481, 17476, 17477, 17490, 17489, 17492, 17493, 17706,
+            17705, 17700, 17701, 17682, 17681, 17684, 17685, 17738, 17737, 17732, 17733, 17746, 17745, 17748, 17749,
+            21162, 21161, 21156, 21157, 21138, 21137, 21140, 21141, 21066, 21065, 21060, 21061, 21074, 21073, 21076,
+            21077, 20778, 20777, 20772, 20773, 20754, 20753, 20756, 20757, 20810, 20809, 20804, 20805, 20818, 20817,
+            20820, 20821, 21674, 21673, 21668, 21669, 21650, 21649, 21652, 21653, 21578, 21577, 21572, 21573, 21586,
+            21585, 21588, 21589, 21802, 21801, 21796, 21797, 21778, 21777, 21780, 21781, 21834, 21833, 21828, 21829,
+            21842, 21841, 21844, 21845}};
 }
+
+/*
+ * words::word_of, crates/words/src/lib.rt
+ * The word of a written byte after the byte before, whose last bit is the previous bit.
+ */
+static uint16_t words_word_of(const struct array_u16_512 *table, uint16_t previous, uint16_t byte) {
+    if (byte == 417) return 17545;
+    if (byte == 450) return 21028;
+    return table->a[(uint64_t)((previous % 2) * 256 + byte % 256)];
+}
+
+/* The crate images */
+
+/* images::count::count_byte, crates/images/src/count.rt */
+static struct images_count_Tally images_count_count_byte(struct images_count_Tally tally, uint16_t byte) {
+    uint16_t ones = (uint16_t)count_ones(words_made_word(tally.previous, byte));
+    return (struct images_count_Tally){.cells = tally.cells + ones, .previous = byte};
+}
+
+/* images::count::count_bytes, crates/images/src/count.rt */
+static struct images_count_Tally images_count_count_bytes(struct images_count_Tally start, struct slice_u16 bytes) {
+    struct images_count_Tally tally = start;
+    uint64_t k = 0;
+    while (k < bytes.len) {
+        tally = images_count_count_byte(tally, bytes.at[k]);
+        k++;
+    }
+    return tally;
+}
+
+/*
+ * images::count::count_blocks, crates/images/src/count.rt
+ * Block by block, as the bytes that they write: one loop then counts the bytes of many runs.
+ */
+static struct images_count_Tally images_count_count_blocks(struct slice_u16 items) {
+    struct images_count_Tally tally = {.cells = 0, .previous = 0};
+    struct items_Check check = items_Check_fresh();
+    struct array_u16_128 bytes = {0};
+    uint64_t from = 0;
+    while (from < items.len) {
+        uint64_t end = from + lists_at_most(64, items.len - from);
+        struct items_bytes_Stored stored =
+                items_bytes_write_bytes(check, slice_u16(items.at + from, end - from), slice_u16_mut(bytes.a, 128));
+        uint64_t count = stored.count;
+        tally = images_count_count_bytes(tally, slice_u16(bytes.a, count));
+        check = stored.check;
+        from = end;
+    }
+    return tally;
+}
+
+/*
+ * images::count::count_items, crates/images/src/count.rt
+ * A list with no check order is its own bytes, and needs no register.
+ */
+static struct images_count_Tally images_count_count_items(struct slice_u16 items, uint64_t bytes) {
+    if (bytes == items.len) {
+        struct images_count_Tally none = {.cells = 0, .previous = 0};
+        return images_count_count_bytes(none, items);
+    }
+    return images_count_count_blocks(items);
+}
+
+/*
+ * images::count::count_cells, crates/images/src/count.rt
+ * The cells of an accepted list that writes so many bytes. The two closing 0s end two cells after a 0, and one after a
+ * 1.
+ */
+static uint64_t images_count_count_cells(struct slice_u16 items, uint64_t bytes) {
+    struct images_count_Tally tally = images_count_count_items(items, bytes);
+    uint64_t cells = (uint64_t)tally.cells;
+    if (tally.previous % 2 == 1) return cells + 1;
+    return cells + 2;
+}
+
+/*
+ * images::make::store_written, crates/images/src/make.rt
+ * A list with no check order is its own bytes, and needs no register.
+ */
+static void images_make_store_written(struct slice_u16 items, uint64_t bytes, struct slice_u16_mut out) {
+    if (bytes == items.len) {
+        lists_store(items, 0, out);
+        return;
+    }
+    items_bytes_write_bytes(items_Check_fresh(), items, out);
+}
+
+/*
+ * images::make::turn_few, crates/images/src/make.rt
+ * Written bytes become their words where they stand, by the rule.
+ */
+static void images_make_turn_few(struct slice_u16_mut bytes) {
+    uint16_t previous = 0;
+    uint64_t k = 0;
+    while (k < bytes.len) {
+        uint16_t byte = bytes.at[k];
+        bytes.at[k] = words_made_word(previous, byte);
+        previous = byte;
+        k++;
+    }
+}
+
+/* images::make::turn_many, crates/images/src/make.rt: The same by the table. */
+static void images_make_turn_many(struct slice_u16_mut bytes) {
+    struct array_u16_512 table = words_table_code_words();
+    uint16_t previous = 0;
+    uint64_t k = 0;
+    while (k < bytes.len) {
+        uint16_t byte = bytes.at[k];
+        bytes.at[k] = words_word_of(&table, previous, byte);
+        previous = byte;
+        k++;
+    }
+}
+
+/* images::make::turn_into_words, crates/images/src/make.rt */
+static void images_make_turn_into_words(struct slice_u16_mut bytes) {
+    if (bytes.len < 12) {
+        images_make_turn_few(bytes);
+        return;
+    }
+    images_make_turn_many(bytes);
+}
+
+/* images::make::make_words, crates/images/src/make.rt: An accepted list: 9, or its image. */
+static struct refusal_Counted images_make_make_words(struct slice_u16 items, struct slice_u16_mut out) {
+    uint64_t n = items_list_written_bytes(items);
+    if (out.len < n) {
+        return (struct refusal_Counted){.tag = refusal_Counted_Refused,
+                .u.Refused = {.tag = refusal_Refusal_OutputTooShort}};
+    }
+    images_make_store_written(items, n, out);
+    images_make_turn_into_words(slice_u16_mut(out.at, n));
+    return (struct refusal_Counted){.tag = refusal_Counted_Count, .u.Count = n};
+}
+
+/*
+ * images::make::make_image, crates/images/src/make.rt
+ * A list of items as an image: 4, 3, 9, or the number of words stored.
+ */
+static struct refusal_Counted images_make_make_image(struct slice_u16 items, struct slice_u16_mut out) {
+    struct refusal_Verdict t4 = items_list_check_list(items);
+    if (t4.tag == refusal_Verdict_Refused) {
+        return (struct refusal_Counted){.tag = refusal_Counted_Refused, .u.Refused = t4.u.Refused};
+    }
+    return images_make_make_words(items, out);
+}
+
+/*
+ * images::read::is_ruly, crates/images/src/read.rt
+ * Whether its candidate has a word: a mark's is told first, so that no test of a mark is left for the others.
+ */
+static bool images_read_is_ruly(uint16_t previous, uint16_t word) {
+    if (word == 17545) return true;
+    if (word == 21028) return true;
+    return words_made_word(previous, half_cells_byte_of(word)) == word;
+}
+
+/*
+ * images::read::all_ruly, crates/images/src/read.rt
+ * Whether no word is unruly; a word's last bit is its byte's. Looks at every word: a loop that could end early would
+ * go word by word.
+ */
+static bool images_read_all_ruly(struct slice_u16 words) {
+    bool all = true;
+    uint16_t previous = 0;
+    uint64_t k = 0;
+    while (k < words.len) {
+        uint16_t word = words.at[k];
+        all = all & images_read_is_ruly(previous, word);
+        previous = word;
+        k++;
+    }
+    return all;
+}
+
+/*
+ * images::read::find_unruly, crates/images/src/read.rt
+ * The place of the lowest word that its candidate does not have after the byte before; the length where there is none.
+ */
+static uint64_t images_read_find_unruly(struct slice_u16 words) {
+    struct array_u16_512 table = words_table_code_words();
+    uint16_t previous = 0;
+    uint64_t k = 0;
+    while (k < words.len) {
+        uint16_t word = words.at[k];
+        uint16_t byte = half_cells_byte_of(word);
+        if (words_word_of(&table, previous, byte) == word) {
+            previous = byte;
+            k++;
+        } else {
+            return k;
+        }
+    }
+    return k;
+}
+
+/* images::read::check_words, crates/images/src/read.rt: Whether the words are an image: 4, then 16. */
+static struct refusal_Verdict images_read_check_words(struct slice_u16 words) {
+    if (6400 < words.len) {
+        return (struct refusal_Verdict){.tag = refusal_Verdict_Refused, .u.Refused = {.tag = refusal_Refusal_TooLong}};
+    }
+    if (images_read_all_ruly(words)) return (struct refusal_Verdict){.tag = refusal_Verdict_Accepted};
+    uint64_t k = images_read_find_unruly(words);
+    return (struct refusal_Verdict){.tag = refusal_Verdict_Refused,
+            .u.Refused = {.tag = refusal_Refusal_UnrulyWord, .u.UnrulyWord = (uint32_t)k}};
+}
+
+/*
+ * images::read::store_bytes, crates/images/src/read.rt
+ * The candidates of words, from the front of the output on.
+ */
+static void images_read_store_bytes(struct slice_u16 words, struct slice_u16_mut out) {
+    lists_store(words, 0, out);
+    uint64_t n = words.len;
+    half_cells_words_to_bytes(slice_u16_mut(out.at, n));
+}
+
+/* images::read::read_words, crates/images/src/read.rt: An image: 9, or its items. */
+static struct refusal_Counted images_read_read_words(struct slice_u16 words, struct slice_u16_mut out) {
+    if (out.len < words.len) {
+        return (struct refusal_Counted){.tag = refusal_Counted_Refused,
+                .u.Refused = {.tag = refusal_Refusal_OutputTooShort}};
+    }
+    images_read_store_bytes(words, out);
+    return (struct refusal_Counted){.tag = refusal_Counted_Count, .u.Count = words.len};
+}
+
+/*
+ * images::read::read_image, crates/images/src/read.rt
+ * An image as items: 4, 16, 9, or the number of items stored.
+ */
+static struct refusal_Counted images_read_read_image(struct slice_u16 words, struct slice_u16_mut out) {
+    struct refusal_Verdict t4 = images_read_check_words(words);
+    if (t4.tag == refusal_Verdict_Refused) {
+        return (struct refusal_Counted){.tag = refusal_Counted_Refused, .u.Refused = t4.u.Refused};
+    }
+    return images_read_read_words(words, out);
+}
+
+/* The crate lengths */
 
 /* lengths::room, crates/lengths/src/lib.rt: How far it is up to an edge; 0 where the edge lies below. */
 static uint16_t lengths_room(uint16_t from, uint16_t to) {
@@ -2595,6 +2062,12 @@ static struct array_u16_10 lengths_rooms(struct timing_Profile p) {
     return (struct array_u16_10){{t8, t10, t11, t13, t15, t16, t18, t20, t22, lengths_room_below(four + d, p.rpt.f0)}};
 }
 
+/* lengths::least, crates/lengths/src/lib.rt */
+static uint16_t lengths_least(uint16_t a, uint16_t b) {
+    if (a < b) return a;
+    return b;
+}
+
 /* lengths::least_room, crates/lengths/src/lib.rt: The least room of a true profile. */
 static uint16_t lengths_least_room(struct timing_Profile p) {
     struct array_u16_10 r = lengths_rooms(p);
@@ -2623,6 +2096,18 @@ static struct refusal_Counted lengths_margin(struct timing_Profile p) {
     return (struct refusal_Counted){.tag = refusal_Counted_Count, .u.Count = (uint64_t)lengths_least_room(p)};
 }
 
+/* lengths::table::either, crates/lengths/src/table.rt */
+static struct timing_Clocks lengths_table_either(bool test, struct timing_Clocks yes, struct timing_Clocks no) {
+    if (test) return yes;
+    return no;
+}
+
+/* lengths::table::point, crates/lengths/src/table.rt: The compare point of a transition between two symbols. */
+static struct timing_Clocks lengths_table_point(struct timing_Profile p, bool before, bool after) {
+    if (before) return lengths_table_either(after, p.normal, p.early);
+    return lengths_table_either(after, p.late, p.normal);
+}
+
 /*
  * lengths::table::shifted, crates/lengths/src/table.rt
  * A nominal length with the shift at its two ends, which can be below zero.
@@ -2646,244 +2131,425 @@ static struct timing_HalfClocks lengths_table_length_between(struct timing_Profi
     return lengths_table_shifted(nominal, t12, timing_Clocks_in_half_clocks(end));
 }
 
-/* The crate best */
+/* The crate intervals */
 
-/* best::windows::least, crates/best/src/windows.rt */
-static uint16_t best_windows_least(uint16_t a, uint16_t b) {
+/* intervals::units::lesser, crates/intervals/src/units.rt */
+static uint16_t intervals_units_lesser(uint16_t a, uint16_t b) {
     if (a < b) return a;
     return b;
 }
 
-/*
- * best::windows::middle, crates/best/src/windows.rt
- * The bound in the middle between the nearest lengths on its two sides; the lower of two.
- */
-static uint16_t best_windows_middle(uint16_t below, uint16_t above) {
-    return (below + above + 1) / 2;
+/* intervals::units::greater, crates/intervals/src/units.rt */
+static uint16_t intervals_units_greater(uint16_t a, uint16_t b) {
+    if (a < b) return b;
+    return a;
 }
 
 /*
- * best::trial::trial, crates/best/src/trial.rt
- * The five numbers with windows that are in range, so that `timing` can be asked about the five.
+ * intervals::units::is_clear, crates/intervals/src/units.rt
+ * Whether an interval does not lie between two bounds. One compare for it: between them it is less past the lower than
+ * the upper is; below both the difference wraps, and is no less.
  */
-static struct timing_Profile best_trial_trial(struct best_Writing w) {
-    return (struct timing_Profile){.t1 = {.f0 = w.t1.f0}, .t0 = {.f0 = w.t0.f0}, .early = {.f0 = w.early.f0},
-            .normal = {.f0 = w.normal.f0}, .late = {.f0 = w.late.f0}, .min = {.f0 = 1},
-            .short_ = {.b23 = {.f0 = 1}, .b34 = {.f0 = 1}}, .long_ = {.b23 = {.f0 = 1}, .b34 = {.f0 = 1}},
-            .rpt = {.f0 = 1}};
+static bool intervals_units_is_clear(uint16_t low, uint16_t high, uint16_t interval) {
+    return high - low <= core_num_wrapping_sub_u16(interval, low);
 }
 
 /*
- * best::trial::lowest_unset, crates/best/src/trial.rt
- * Which of the five is the first out of range, from 1; 0 for none.
+ * intervals::units::all_sure, crates/intervals/src/units.rt
+ * Whether each interval is of class 2 after either kind, or after none: it does not lie between the two B23. The
+ * clearance asks it, since the one before an interval then tells its bounds.
  */
-static uint32_t best_trial_lowest_unset(struct best_Writing w) {
-    struct refusal_Verdict t3 = timing_rule_check(best_trial_trial(w));
-    if (t3.tag == refusal_Verdict_Accepted) return 0;
-    struct refusal_Refusal refusal = t3.u.Refused;
-    if (refusal_Refusal_number(refusal) == 1) return refusal_Refusal_place(refusal);
-    return 0;
-}
-
-/* best::windows::shifts_of, crates/best/src/windows.rt */
-static struct best_windows_Shifts best_windows_shifts_of(struct best_Writing w) {
-    struct timing_Profile p = best_trial_trial(w);
-    struct timing_HalfClocks t3 = timing_rule_swing(p);
-    struct timing_HalfClocks t4 = timing_rule_advance(p);
-    return (struct best_windows_Shifts){.d = t3.f0, .e = t4.f0, .l = timing_rule_delay(p).f0};
-}
-
-/* best::windows::best_margin, crates/best/src/windows.rt: The largest margin that any windows have. */
-static uint16_t best_windows_best_margin(struct best_Writing w) {
-    struct best_windows_Shifts s = best_windows_shifts_of(w);
-    return best_windows_least(w.t1.f0 - s.d - 1, (w.t0.f0 - s.l - 1) / 2);
-}
-
-/*
- * best::windows::centred, crates/best/src/windows.rt
- * Each bound in the middle, Min and Rpt as far out as the margin needs.
- */
-static struct timing_Profile best_windows_centred(struct best_Writing w, uint16_t margin) {
-    struct best_windows_Shifts s = best_windows_shifts_of(w);
-    uint16_t two = w.t1.f0;
-    uint16_t three = w.t1.f0 + w.t0.f0;
-    uint16_t four = w.t1.f0 + 2 * w.t0.f0;
-    uint16_t b23_short = best_windows_middle(two, three + s.e);
-    uint16_t b23_long = best_windows_middle(two - s.l, three);
-    uint16_t b34_short = best_windows_middle(three + s.d, four + s.e);
-    uint16_t b34_long = best_windows_middle(three + s.l, four);
-    struct timing_Bounds t24 = {.b23 = {.f0 = b23_long}, .b34 = {.f0 = b34_long}};
-    return (struct timing_Profile){.t1 = {.f0 = w.t1.f0}, .t0 = {.f0 = w.t0.f0}, .early = {.f0 = w.early.f0},
-            .normal = {.f0 = w.normal.f0}, .late = {.f0 = w.late.f0}, .min = {.f0 = two - s.d - margin},
-            .short_ = {.b23 = {.f0 = b23_short}, .b34 = {.f0 = b34_short}}, .long_ = t24,
-            .rpt = {.f0 = four + s.d + margin + 1}};
-}
-
-/* best::windows::has_windows, crates/best/src/windows.rt: Whether any windows are true. */
-static bool best_windows_has_windows(struct best_Writing w) {
-    struct best_windows_Shifts s = best_windows_shifts_of(w);
-    return (w.early.f0 <= w.normal.f0) & (w.normal.f0 <= w.late.f0) & (s.d < w.t1.f0) & (s.l < w.t0.f0);
-}
-
-/* best::best_windows, crates/best/src/lib.rt: 1, 2; else the profile with the largest margin. */
-static struct best_Best best_best_windows(struct best_Writing w) {
-    uint32_t which = best_trial_lowest_unset(w);
-    struct best_Best result;
-    if (which != 0) {
-        result = (struct best_Best){.answer = {.tag = refusal_Counted_Refused,
-                .u.Refused = {.tag = refusal_Refusal_ProfileOutOfRange, .u.ProfileOutOfRange = which}},
-                .profile = {.t1 = {.f0 = 0}, .t0 = {.f0 = 0}, .early = {.f0 = 0}, .normal = {.f0 = 0},
-                .late = {.f0 = 0}, .min = {.f0 = 0}, .short_ = {.b23 = {.f0 = 0}, .b34 = {.f0 = 0}},
-                .long_ = {.b23 = {.f0 = 0}, .b34 = {.f0 = 0}}, .rpt = {.f0 = 0}}};
-        return result;
-    }
-    if (best_windows_has_windows(w)) {
-        uint16_t margin = best_windows_best_margin(w);
-        struct timing_Profile profile = best_windows_centred(w, margin);
-        return (struct best_Best){.answer = {.tag = refusal_Counted_Count, .u.Count = (uint64_t)margin},
-                .profile = profile};
-    }
-    result = (struct best_Best){.answer = {.tag = refusal_Counted_Refused,
-            .u.Refused = {.tag = refusal_Refusal_ProfileInconsistent}},
-            .profile = {.t1 = {.f0 = 0}, .t0 = {.f0 = 0}, .early = {.f0 = 0}, .normal = {.f0 = 0}, .late = {.f0 = 0},
-            .min = {.f0 = 0}, .short_ = {.b23 = {.f0 = 0}, .b34 = {.f0 = 0}},
-            .long_ = {.b23 = {.f0 = 0}, .b34 = {.f0 = 0}}, .rpt = {.f0 = 0}}};
-    return result;
-}
-
-/* The crate pace */
-
-/* pace::corrected, crates/pace/src/lib.rt: An interval at the pace of a sum, cut off. */
-static uint16_t pace_corrected(uint32_t nominal, uint32_t sum, uint16_t interval) {
-    uint32_t number = ((uint32_t)interval * nominal) / sum;
-    if (65535 < number) return 65535;
-    return (uint16_t)number;
-}
-
-/* pace::Pace::correct, crates/pace/src/lib.rt: Intervals of which the first is even: the two sums take turns. */
-static void pace_Pace_correct(struct pace_Pace self, struct slice_u16 intervals, struct slice_u16_mut out) {
-    uint32_t nominal = self.nominal;
-    uint32_t own = self.even;
-    uint32_t other = self.odd;
+static bool intervals_units_all_sure(struct timing_Bounds short_, struct timing_Bounds long_,
+        struct slice_u16 intervals) {
+    uint16_t low = intervals_units_lesser(short_.b23.f0, long_.b23.f0);
+    uint16_t high = intervals_units_greater(short_.b23.f0, long_.b23.f0);
+    bool all = true;
     uint64_t k = 0;
     while (k < intervals.len) {
-        out.at[k] = pace_corrected(nominal, own, intervals.at[k]);
-        uint32_t next = other;
-        other = own;
-        own = next;
+        all = all & intervals_units_is_clear(low, high, intervals.at[k]);
         k++;
     }
+    return all;
 }
 
-/* pace::difference, crates/pace/src/lib.rt: The signed difference of a sum to 32 × T1. */
-static uint32_t pace_difference(uint32_t nominal, uint32_t sum) {
-    return (uint32_t)((uint32_t)sum - (uint32_t)nominal);
-}
-
-/* pace::Pace::measured, crates/pace/src/lib.rt: Of 64 intervals. */
-static struct pace_Pace pace_Pace_measured(struct timing_HalfClocks t1, struct slice_u16 run) {
-    uint32_t even = 0;
-    uint32_t odd = 0;
+/*
+ * intervals::edges::all_inside, crates/intervals/src/edges.rt
+ * Whether all lie between the two edges, where there is room between them: none is further past the lower than the
+ * upper is, and one below it wraps to above all others. With no jump for any, so that vector instructions tell it.
+ */
+static bool intervals_edges_all_inside(uint16_t min, uint16_t rpt, struct slice_u16 intervals) {
+    uint16_t most = 0;
     uint64_t k = 0;
-    while (k < 64) {
-        even += (uint32_t)run.at[k];
-        odd += (uint32_t)run.at[k + 1];
-        k += 2;
+    while (k < intervals.len) {
+        most = intervals_units_greater(most, core_num_wrapping_sub_u16(intervals.at[k], min));
+        k++;
     }
-    return (struct pace_Pace){.nominal = 32 * (uint32_t)t1.f0, .even = even, .odd = odd};
+    return most < rpt - min;
 }
 
-/* pace::off_speed, crates/pace/src/lib.rt: 16 × the difference, sign dropped, exceeds 32 × T1. */
-static bool pace_off_speed(uint32_t nominal, uint32_t sum) {
-    if (sum < nominal) return nominal < 16 * (nominal - sum);
-    return nominal < 16 * (sum - nominal);
-}
-
-/* pace::Pace::check, crates/pace/src/lib.rt: 18, off speed: the even ones, then the odd. */
-static struct refusal_Verdict pace_Pace_check(struct pace_Pace self) {
-    if (pace_off_speed(self.nominal, self.even)) {
-        return (struct refusal_Verdict){.tag = refusal_Verdict_Refused,
-                .u.Refused = {.tag = refusal_Refusal_OffSpeed, .u.OffSpeed = 0}};
-    }
-    if (pace_off_speed(self.nominal, self.odd)) {
-        return (struct refusal_Verdict){.tag = refusal_Verdict_Refused,
-                .u.Refused = {.tag = refusal_Refusal_OffSpeed, .u.OffSpeed = 1}};
+/*
+ * intervals::edges::find_outside, crates/intervals/src/edges.rt
+ * The first that is none, the first of all having place `from`.
+ */
+static struct refusal_Verdict intervals_edges_find_outside(uint16_t min, uint16_t rpt, uint64_t from,
+        struct slice_u16 intervals) {
+    uint64_t k = 0;
+    while (k < intervals.len) {
+        uint16_t interval = intervals.at[k];
+        if (interval < min) {
+            return (struct refusal_Verdict){.tag = refusal_Verdict_Refused,
+                    .u.Refused = {.tag = refusal_Refusal_IntervalTooShort, .u.IntervalTooShort = (uint32_t)(from + k)}};
+        }
+        if (rpt <= interval) {
+            return (struct refusal_Verdict){.tag = refusal_Verdict_Refused,
+                    .u.Refused = {.tag = refusal_Refusal_IntervalTooLong, .u.IntervalTooLong = (uint32_t)(from + k)}};
+        }
+        k++;
     }
     return (struct refusal_Verdict){.tag = refusal_Verdict_Accepted};
 }
 
-/* The crate passes */
-
 /*
- * passes::block::Progress::goes_on, crates/passes/src/block.rt
- * Whether bytes are wanted, and intervals are left to read them from.
+ * intervals::edges::check_edges_from, crates/intervals/src/edges.rt
+ * It is looked for only where there is one among some.
  */
-static bool passes_block_Progress_goes_on(struct passes_block_Progress self, uint32_t most, uint64_t length) {
-    return (self.pass.used < length) & (self.pass.reading.words < most);
-}
-
-/*
- * passes::last_place, crates/passes/src/lib.rt
- * The place of the last of so many intervals; 0 where there is none.
- */
-static uint32_t passes_last_place(uint64_t used) {
-    if (used == 0) return 0;
-    return (uint32_t)(used - 1);
-}
-
-/*
- * passes::look::move_on, crates/passes/src/look.rt
- * The register after cells without a gap, where none is open: they have so many half cells with those that it holds.
- */
-static struct symbols_Reading passes_look_move_on(struct symbols_Reading m, struct slice_u8 units, uint32_t sum) {
-    uint32_t last = sum - 1;
-    struct symbols_Reading reading = m;
-    reading.bits = shifts_fours_last_bits(units, units.len - 16);
-    reading.held = last % 16 + 1;
-    reading.words = std_num_wrapping_add_u32(m.words, last / 16);
-    return reading;
-}
-
-/*
- * passes::block::pass_block, crates/passes/src/block.rt
- * The intervals of a block, whose units have as many places.
- */
-static struct passes_block_Progress passes_block_pass_block(struct passes_block_Progress at, struct slice_u16 intervals,
-        struct slice_u8_mut units, uint32_t most, uint64_t to, struct slice_u16_mut out) {
-    struct timing_cursor_Cursor cursor = intervals_units_units_of(at.cursor, intervals, units);
-    return (struct passes_block_Progress){.pass = shifts_shift_shift_units(at.pass.reading,
-            slice_u8(units.at, units.len), at.pass.used, most, to, out), .cursor = cursor};
-}
-
-/*
- * passes::block::Progress::next_block, crates/passes/src/block.rt
- * One block more, whose code words are stored from place `to` on.
- */
-static struct passes_block_Progress passes_block_Progress_next_block(struct passes_block_Progress self,
-        struct slice_u16 intervals, uint32_t most, uint64_t to, struct slice_u16_mut out) {
-    uint64_t from = self.pass.used;
-    uint64_t n = lists_at_most(128, intervals.len - from);
-    struct array_u8_128 units = {0};
-    struct slice_u8_mut t16 = slice_u8_mut(units.a, n);
-    return passes_block_pass_block(self, slice_u16(intervals.at + from, from + n - from), t16, most, to, out);
-}
-
-/*
- * passes::block::Progress::pass_on, crates/passes/src/block.rt
- * Until so many bytes are whole, so many intervals more are used, or none is left. The code words are stored from the
- * front on, where there is room.
- */
-static struct passes_block_Progress passes_block_Progress_pass_on(struct passes_block_Progress self,
-        struct slice_u16 intervals, uint64_t count, uint32_t most, struct slice_u16_mut out) {
-    uint32_t first = self.pass.reading.words;
-    uint64_t end = self.pass.used + lists_at_most(count, intervals.len - self.pass.used);
-    struct passes_block_Progress at = self;
-    while (passes_block_Progress_goes_on(at, most, end)) {
-        uint32_t done = at.pass.reading.words - first;
-        at = passes_block_Progress_next_block(at, slice_u16(intervals.at, end), most, (uint64_t)done, out);
+static struct refusal_Verdict intervals_edges_check_edges_from(struct timing_cursor_Cursor start, uint64_t from,
+        struct slice_u16 intervals) {
+    uint16_t min = start.min.f0;
+    uint16_t rpt = start.rpt.f0;
+    uint64_t k = 0;
+    while (k < intervals.len) {
+        uint64_t next = k + lists_at_most(128, intervals.len - k);
+        if (intervals_edges_all_inside(min, rpt, slice_u16(intervals.at + k, next - k))) {
+            k = next;
+        } else {
+            return intervals_edges_find_outside(min, rpt, from + k, slice_u16(intervals.at + k, intervals.len - k));
+        }
     }
-    return at;
+    return (struct refusal_Verdict){.tag = refusal_Verdict_Accepted};
 }
+
+/* intervals::edges::check_edges, crates/intervals/src/edges.rt: Of a whole list. */
+static struct refusal_Verdict intervals_edges_check_edges(struct timing_Profile p, struct slice_u16 intervals) {
+    return intervals_edges_check_edges_from(timing_cursor_Cursor_start(p), 0, intervals);
+}
+
+/* intervals::units::units_by, crates/intervals/src/units.rt: By given bounds. */
+static uint8_t intervals_units_units_by(struct timing_Bounds bounds, uint16_t interval) {
+    return 2 + (uint8_t)(bounds.b23.f0 <= interval) + (uint8_t)(bounds.b34.f0 <= interval);
+}
+
+/* intervals::units::fill_units, crates/intervals/src/units.rt: At once, all by the same bounds. */
+static void intervals_units_fill_units(struct timing_Bounds bounds, struct slice_u16 intervals,
+        struct slice_u8_mut units) {
+    uint64_t k = 0;
+    while (k < intervals.len) {
+        units.at[k] = intervals_units_units_by(bounds, intervals.at[k]);
+        k++;
+    }
+}
+
+/* intervals::units::units_in_turn, crates/intervals/src/units.rt: One after the other. */
+static struct timing_cursor_Cursor intervals_units_units_in_turn(struct timing_cursor_Cursor start,
+        struct slice_u16 intervals, struct slice_u8_mut units) {
+    struct timing_cursor_Cursor cursor = start;
+    uint64_t k = 0;
+    while (k < intervals.len) {
+        uint16_t interval = intervals.at[k];
+        units.at[k] = timing_cursor_Cursor_units(cursor, interval);
+        cursor = timing_cursor_Cursor_past(cursor, interval);
+        k++;
+    }
+    return cursor;
+}
+
+/*
+ * intervals::units::is_two, crates/intervals/src/units.rt
+ * Whether an interval is of class 2, where that is told by itself.
+ */
+static bool intervals_units_is_two(struct timing_cursor_Cursor c, uint16_t interval) {
+    return (c.min.f0 <= interval) & (interval < c.short_.b23.f0);
+}
+
+/*
+ * intervals::units::mask_of, crates/intervals/src/units.rt
+ * All ones or none, by which to choose without a jump.
+ */
+static uint16_t intervals_units_mask_of(bool two) {
+    if (two) return 65535;
+    return 0;
+}
+
+/*
+ * intervals::units::mark_kinds, crates/intervals/src/units.rt
+ * The kind of each at the place behind it; the first is as behind another than class 2.
+ */
+static void intervals_units_mark_kinds(struct timing_cursor_Cursor c, struct slice_u16 intervals,
+        struct slice_u16_mut kinds) {
+    kinds.at[0] = 0;
+    uint64_t k = 0;
+    while (k < intervals.len) {
+        kinds.at[k + 1] = intervals_units_mask_of(intervals_units_is_two(c, intervals.at[k]));
+        k++;
+    }
+}
+
+/* intervals::units::choose, crates/intervals/src/units.rt */
+static uint16_t intervals_units_choose(uint16_t mask, uint16_t short_, uint16_t long_) {
+    uint16_t gap = core_num_wrapping_sub_u16(short_, long_);
+    return core_num_wrapping_add_u16(long_, gap & mask);
+}
+
+/*
+ * intervals::units::fill_behind, crates/intervals/src/units.rt
+ * Each by the kind of the one before it, the first as behind another than class 2. All stand on the same side of both
+ * B23, so that B34 alone is chosen.
+ */
+static void intervals_units_fill_behind(struct timing_cursor_Cursor c, struct slice_u16 intervals,
+        struct slice_u16 kinds, struct slice_u8_mut units) {
+    uint64_t k = 0;
+    while (k < intervals.len) {
+        uint16_t b34 = intervals_units_choose(kinds.at[k], c.short_.b34.f0, c.long_.b34.f0);
+        struct timing_Bounds bounds = {.b23 = {.f0 = c.short_.b23.f0}, .b34 = {.f0 = b34}};
+        units.at[k] = intervals_units_units_by(bounds, intervals.at[k]);
+        k++;
+    }
+}
+
+/* intervals::units::last_of, crates/intervals/src/units.rt */
+static uint16_t intervals_units_last_of(struct slice_u16 intervals) {
+    return intervals.at[intervals.len - 1];
+}
+
+/*
+ * intervals::units::units_of_sure, crates/intervals/src/units.rt
+ * Where none lies between the two B23. The first two go by where the classing stands.
+ */
+static struct timing_cursor_Cursor intervals_units_units_of_sure(struct timing_cursor_Cursor start,
+        struct slice_u16 intervals, struct slice_u16_mut kinds, struct slice_u8_mut units) {
+    intervals_units_mark_kinds(start, intervals, kinds);
+    intervals_units_fill_behind(start, intervals, slice_u16(kinds.at, kinds.len), units);
+    units.at[0] = timing_cursor_Cursor_units(start, intervals.at[0]);
+    struct timing_cursor_Cursor next = timing_cursor_Cursor_past(start, intervals.at[0]);
+    units.at[1] = timing_cursor_Cursor_units(next, intervals.at[1]);
+    struct timing_cursor_Cursor t20 = timing_cursor_Cursor_behind(start, true);
+    return timing_cursor_Cursor_past(t20, intervals_units_last_of(intervals));
+}
+
+/*
+ * intervals::units::units_of, crates/intervals/src/units.rt
+ * The units of intervals, each as a cell, from where the classing stands on.
+ */
+static struct timing_cursor_Cursor intervals_units_units_of(struct timing_cursor_Cursor start,
+        struct slice_u16 intervals, struct slice_u8_mut units) {
+    if (timing_cursor_Cursor_is_steady(start)) {
+        intervals_units_fill_units(start.bounds, intervals, units);
+        return start;
+    }
+    if (intervals.len < 2) return intervals_units_units_in_turn(start, intervals, units);
+    if (intervals_units_all_sure(start.short_, start.long_, intervals)) {
+        uint64_t n = intervals.len + 1;
+        struct array_u16_129 kinds = {0};
+        return intervals_units_units_of_sure(start, intervals, slice_u16_mut(kinds.a, n), units);
+    }
+    return intervals_units_units_in_turn(start, intervals, units);
+}
+
+/* intervals::edges::all_cells, crates/intervals/src/edges.rt: Whether all are cells. */
+static bool intervals_edges_all_cells(struct timing_Profile p, struct slice_u16 intervals) {
+    return intervals_edges_all_inside(p.min.f0, p.rpt.f0, intervals);
+}
+
+/* The crate shifts */
+
+/*
+ * shifts::shift::goes_by_eights, crates/shifts/src/shift.rt
+ * Whether cells that make so many words at most go by eights: not a few, nor those behind no half cell, as at first,
+ * nor the end of a field.
+ */
+static bool shifts_shift_goes_by_eights(struct symbols_Reading m, uint64_t room, uint32_t most) {
+    return (4 <= room) & (1 <= m.held) & (room < (uint64_t)(most - m.words));
+}
+
+/* shifts::top::top_of, crates/shifts/src/top.rt */
+static struct shifts_top_Top shifts_top_top_of(struct symbols_Reading m) {
+    uint32_t free = 64 - m.held;
+    return (struct shifts_top_Top){.cells = (uint64_t)((uint64_t)((uint64_t)m.bits << (uint64_t)(free - 1)) << 1),
+            .free = free};
+}
+
+/* shifts::top::add_cell, crates/shifts/src/top.rt */
+static struct shifts_top_Top shifts_top_add_cell(struct shifts_top_Top t, uint8_t units) {
+    uint32_t free = core_num_wrapping_sub_u32(t.free, (uint32_t)units);
+    return (struct shifts_top_Top){.cells = t.cells | (uint64_t)((uint64_t)1 << (uint64_t)(free % 64)), .free = free};
+}
+
+/* shifts::top::add_four, crates/shifts/src/top.rt: The four cells from a place on. */
+static struct shifts_top_Top shifts_top_add_four(struct shifts_top_Top t, struct slice_u8 units, uint64_t k) {
+    struct shifts_top_Top t5 = shifts_top_add_cell(t, units.at[k]);
+    struct shifts_top_Top two = shifts_top_add_cell(t5, units.at[k + 1]);
+    t5 = shifts_top_add_cell(two, units.at[k + 2]);
+    return shifts_top_add_cell(t5, units.at[k + 3]);
+}
+
+/*
+ * shifts::top::top_word, crates/shifts/src/top.rt
+ * The half cells of the byte that is whole, with the data bit before it; where none is whole, other half cells.
+ */
+static uint32_t shifts_top_top_word(struct shifts_top_Top t) {
+    return (uint32_t)(t.cells >> 47);
+}
+
+/* shifts::top::past_word, crates/shifts/src/top.rt: On to the next byte. */
+static struct shifts_top_Top shifts_top_past_word(struct shifts_top_Top t) {
+    return (struct shifts_top_Top){.cells = (uint64_t)(t.cells << 16), .free = core_num_wrapping_add_u32(t.free, 16)};
+}
+
+/* shifts::top::is_whole, crates/shifts/src/top.rt */
+static bool shifts_top_is_whole(struct shifts_top_Top t) {
+    return t.free < 48;
+}
+
+/* shifts::top::ease, crates/shifts/src/top.rt: On to the next byte where one is whole, without a jump. */
+static struct shifts_top_Top shifts_top_ease(struct shifts_top_Top t) {
+    uint32_t more = 16 * (uint32_t)shifts_top_is_whole(t);
+    return (struct shifts_top_Top){.cells = (uint64_t)(t.cells << (uint64_t)more),
+            .free = core_num_wrapping_add_u32(t.free, more)};
+}
+
+/* shifts::fours::shift_four, crates/shifts/src/fours.rt */
+static struct symbols_Reading shifts_fours_shift_four(struct symbols_Reading m, struct slice_u8 units, uint64_t k) {
+    struct symbols_Reading t5 = symbols_Reading_shift(m, units.at[k]);
+    struct symbols_Reading two = symbols_Reading_shift(t5, units.at[k + 1]);
+    t5 = symbols_Reading_shift(two, units.at[k + 2]);
+    return symbols_Reading_shift(t5, units.at[k + 3]);
+}
+
+/*
+ * shifts::fours::last_bits, crates/shifts/src/fours.rt
+ * The register after sixteen cells, which have all its half cells.
+ */
+static uint32_t shifts_fours_last_bits(struct slice_u8 units, uint64_t k) {
+    struct symbols_Reading half =
+            shifts_fours_shift_four(shifts_fours_shift_four(symbols_Reading_empty(), units, k), units, k + 4);
+    return shifts_fours_shift_four(shifts_fours_shift_four(half, units, k + 8), units, k + 12).bits;
+}
+
+/*
+ * shifts::fours::shift_eights, crates/shifts/src/fours.rt
+ * So many eights, two at least. The first word of each is whole; the second is stored, and where it is not whole the
+ * next eight's first in the same place.
+ */
+static struct shifts_fours_Fours shifts_fours_shift_eights(struct symbols_Reading start, struct slice_u8 units,
+        uint64_t eights, struct slice_u32_mut words) {
+    struct shifts_top_Top t = shifts_top_top_of(start);
+    uint64_t count = 0;
+    uint64_t i = 0;
+    while (i < eights) {
+        struct shifts_top_Top eight = shifts_top_add_four(shifts_top_add_four(t, units, 8 * i), units, 8 * i + 4);
+        words.at[count] = shifts_top_top_word(eight);
+        struct shifts_top_Top next = shifts_top_past_word(eight);
+        words.at[count + 1] = shifts_top_top_word(next);
+        count += 1 + (uint64_t)shifts_top_is_whole(next);
+        t = shifts_top_ease(next);
+        i++;
+    }
+    struct symbols_Reading reading = start;
+    reading.bits = shifts_fours_last_bits(units, units.len - 16);
+    reading.held = 64 - t.free;
+    reading.words = core_num_wrapping_add_u32(start.words, (uint32_t)(count % 4294967296ull));
+    return (struct shifts_fours_Fours){.reading = reading, .count = count};
+}
+
+/*
+ * shifts::fours::all_fit, crates/shifts/src/fours.rt
+ * Whether no gap is out of place, with no jump for any word, so that it is told in vector instructions.
+ */
+static bool shifts_fours_all_fit(struct slice_u32 words) {
+    bool all = true;
+    uint64_t k = 0;
+    while (k < words.len) {
+        all = all & half_cells_fits(words.at[k]);
+        k++;
+    }
+    return all;
+}
+
+/*
+ * shifts::fours::store, crates/shifts/src/fours.rt
+ * The words without the data bit before each, from a place on, as many as there is room for. A strip is first read
+ * without room.
+ */
+static void shifts_fours_store(struct slice_u32 words, uint64_t at, struct slice_u16_mut out) {
+    if (out.len <= at) return;
+    uint64_t count = lists_at_most(out.len - at, words.len);
+    uint64_t k = 0;
+    while (k < count) {
+        out.at[at + k] = (uint16_t)(words.at[k] % 65536);
+        k++;
+    }
+}
+
+/*
+ * shifts::shift::shift_in, crates/shifts/src/shift.rt
+ * Cells of so many units, the first at place `from`, until so many bytes are whole or no cell is left. Bytes are
+ * counted only where one is closed, which keeps the loop short. Code words are stored from place `to` on, where there
+ * is room.
+ */
+static struct shifts_Pass shifts_shift_shift_in(struct symbols_Reading start, struct slice_u8 units, uint64_t from,
+        uint32_t most, uint64_t to, struct slice_u16_mut out) {
+    struct symbols_Reading m = start;
+    uint64_t store_at = to;
+    uint64_t k = 0;
+    while (k < units.len) {
+        struct symbols_Reading next = symbols_Reading_shift(m, units.at[k]);
+        uint64_t place = from + k;
+        k++;
+        if (symbols_Reading_is_whole(next)) {
+            lists_put(out, store_at, symbols_Reading_word(next));
+            store_at++;
+            m = symbols_Reading_close(next, (uint32_t)(place % 4294967296ull));
+            if (most <= m.words) return (struct shifts_Pass){.reading = m, .used = place + 1};
+        } else {
+            m = next;
+        }
+    }
+    return (struct shifts_Pass){.reading = m, .used = from + k};
+}
+
+/*
+ * shifts::shift::shift_block, crates/shifts/src/shift.rt
+ * Cells that leave bytes to read: by so many eights, for whose words there is room, and cell by cell what is over and,
+ * for its place, where a gap is out of place.
+ */
+static struct shifts_Pass shifts_shift_shift_block(struct symbols_Reading m, struct slice_u8 units, uint64_t eights,
+        struct slice_u32_mut words, uint64_t from, uint32_t most, uint64_t to, struct slice_u16_mut out) {
+    uint64_t cells = 8 * eights;
+    struct shifts_fours_Fours fours = shifts_fours_shift_eights(m, slice_u8(units.at, cells), eights, words);
+    uint64_t count = fours.count;
+    if (shifts_fours_all_fit(slice_u32(words.at, count))) {
+        shifts_fours_store(slice_u32(words.at, count), to, out);
+        struct symbols_Reading reading = fours.reading;
+        uint64_t t29 = from + cells;
+        uint64_t t30 = to + count;
+        return shifts_shift_shift_in(reading, slice_u8(units.at + cells, units.len - cells), t29, most, t30, out);
+    }
+    return shifts_shift_shift_in(m, units, from, most, to, out);
+}
+
+/* shifts::shift::shift_units, crates/shifts/src/shift.rt: By eights, or cell by cell. */
+static struct shifts_Pass shifts_shift_shift_units(struct symbols_Reading m, struct slice_u8 units, uint64_t from,
+        uint32_t most, uint64_t to, struct slice_u16_mut out) {
+    uint64_t eights = units.len / 8;
+    uint64_t room = 2 * eights;
+    if (shifts_shift_goes_by_eights(m, room, most)) {
+        struct array_u32_32 words = {0};
+        return shifts_shift_shift_block(m, units, eights, slice_u32_mut(words.a, room), from, most, to, out);
+    }
+    return shifts_shift_shift_in(m, units, from, most, to, out);
+}
+
+/* The crate passes */
 
 /* passes::look::shift_on, crates/passes/src/look.rt: Cells through the register. */
 static struct symbols_Reading passes_look_shift_on(struct symbols_Reading m, struct slice_u8 units, uint64_t from,
@@ -2891,44 +2557,6 @@ static struct symbols_Reading passes_look_shift_on(struct symbols_Reading m, str
     struct array_u16_0 none = {0};
     struct shifts_Pass pass = shifts_shift_shift_units(m, units, from, most, 0, slice_u16_mut(none.a, 0));
     return pass.reading;
-}
-
-/* passes::block::Progress::start, crates/passes/src/block.rt: Before the first interval. */
-static struct passes_block_Progress passes_block_Progress_start(struct timing_Profile p) {
-    struct shifts_Pass t3 = {.reading = symbols_Reading_new(), .used = 0};
-    return (struct passes_block_Progress){.pass = t3, .cursor = timing_cursor_Cursor_start(p)};
-}
-
-/*
- * passes::pass_over, crates/passes/src/lib.rt
- * One pass, until so many bytes are whole or no interval is left, each interval taken as a cell. The code words that
- * have room are stored from the front on.
- */
-static struct shifts_Pass passes_pass_over(struct timing_Profile p, struct slice_u16 intervals, uint32_t most,
-        struct slice_u16_mut out) {
-    struct passes_block_Progress at =
-            passes_block_Progress_pass_on(passes_block_Progress_start(p), intervals, intervals.len, most, out);
-    return at.pass;
-}
-
-/* passes::scan::sums_of, crates/passes/src/scan.rt: In each byte the sum of it and those below. */
-static uint64_t passes_scan_sums_of(uint64_t x) {
-    uint64_t two = std_num_wrapping_add_u64(x, (uint64_t)(x << 8));
-    uint64_t four = std_num_wrapping_add_u64(two, (uint64_t)(two << 16));
-    return std_num_wrapping_add_u64(four, (uint64_t)(four << 32));
-}
-
-/*
- * passes::scan::scan_eight, crates/passes/src/scan.rt
- * Eight cells more. That a cell begins at a clock bit is told by the sum of all up to its end, since four is even: the
- * bit of that sum which stands over LONG's is set where it and one more is odd.
- */
-static struct passes_scan_Tally passes_scan_scan_eight(struct passes_scan_Tally at, uint64_t x) {
-    uint64_t sums = passes_scan_sums_of(x);
-    uint64_t t8 = (uint64_t)((uint64_t)289360691352306692ull << (uint64_t)(at.sum % 2));
-    uint64_t even = std_num_wrapping_add_u64((uint64_t)(sums << 2), t8);
-    return (struct passes_scan_Tally){.sum = std_num_wrapping_add_u32(at.sum, (uint32_t)(sums >> 56)),
-            .gap = at.gap | ((x & even) != 0)};
 }
 
 /* passes::scan::wide, crates/passes/src/scan.rt */
@@ -2954,6 +2582,26 @@ static uint64_t passes_scan_eight_at(struct slice_u8 units, uint64_t k) {
     return t3 + passes_scan_four_at(units, k + 4) * 4294967296ull;
 }
 
+/* passes::scan::sums_of, crates/passes/src/scan.rt: In each byte the sum of it and those below. */
+static uint64_t passes_scan_sums_of(uint64_t x) {
+    uint64_t two = core_num_wrapping_add_u64(x, (uint64_t)(x << 8));
+    uint64_t four = core_num_wrapping_add_u64(two, (uint64_t)(two << 16));
+    return core_num_wrapping_add_u64(four, (uint64_t)(four << 32));
+}
+
+/*
+ * passes::scan::scan_eight, crates/passes/src/scan.rt
+ * Eight cells more. That a cell begins at a clock bit is told by the sum of all up to its end, since four is even: the
+ * bit of that sum which stands over LONG's is set where it and one more is odd.
+ */
+static struct passes_scan_Tally passes_scan_scan_eight(struct passes_scan_Tally at, uint64_t x) {
+    uint64_t sums = passes_scan_sums_of(x);
+    uint64_t t8 = (uint64_t)((uint64_t)289360691352306692ull << (uint64_t)(at.sum % 2));
+    uint64_t even = core_num_wrapping_add_u64((uint64_t)(sums << 2), t8);
+    return (struct passes_scan_Tally){.sum = core_num_wrapping_add_u32(at.sum, (uint32_t)(sums >> 56)),
+            .gap = at.gap | ((x & even) != 0)};
+}
+
 /* passes::scan::scan, crates/passes/src/scan.rt: A block of 128 cells, after so many half cells. */
 static struct passes_scan_Tally passes_scan_scan(uint32_t start, struct slice_u8 units) {
     struct passes_scan_Tally at = {.sum = start, .gap = false};
@@ -2963,6 +2611,19 @@ static struct passes_scan_Tally passes_scan_scan(uint32_t start, struct slice_u8
         i++;
     }
     return at;
+}
+
+/*
+ * passes::look::move_on, crates/passes/src/look.rt
+ * The register after cells without a gap, where none is open: they have so many half cells with those that it holds.
+ */
+static struct symbols_Reading passes_look_move_on(struct symbols_Reading m, struct slice_u8 units, uint32_t sum) {
+    uint32_t last = sum - 1;
+    struct symbols_Reading reading = m;
+    reading.bits = shifts_fours_last_bits(units, units.len - 16);
+    reading.held = last % 16 + 1;
+    reading.words = core_num_wrapping_add_u32(m.words, last / 16);
+    return reading;
 }
 
 /*
@@ -3021,178 +2682,361 @@ static struct shifts_Pass passes_look_over(struct timing_Profile p, struct slice
     return (struct shifts_Pass){.reading = reading, .used = at.used};
 }
 
-/* The crate report */
+/*
+ * passes::last_place, crates/passes/src/lib.rt
+ * The place of the last of so many intervals; 0 where there is none.
+ */
+static uint32_t passes_last_place(uint64_t used) {
+    if (used == 0) return 0;
+    return (uint32_t)(used - 1);
+}
 
-/* report::check_list, crates/report/src/lib.rt: Whether a list of intervals has a report: 1, 2, 4. */
-static struct refusal_Verdict report_check_list(struct timing_Profile p, struct slice_u16 intervals) {
-    struct refusal_Verdict t4 = timing_rule_check(p);
-    if (t4.tag == refusal_Verdict_Refused) {
-        return (struct refusal_Verdict){.tag = refusal_Verdict_Refused, .u.Refused = t4.u.Refused};
+/* passes::block::Progress::start, crates/passes/src/block.rt: Before the first interval. */
+static struct passes_block_Progress passes_block_Progress_start(struct timing_Profile p) {
+    struct shifts_Pass t3 = {.reading = symbols_Reading_new(), .used = 0};
+    return (struct passes_block_Progress){.pass = t3, .cursor = timing_cursor_Cursor_start(p)};
+}
+
+/*
+ * passes::block::Progress::goes_on, crates/passes/src/block.rt
+ * Whether bytes are wanted, and intervals are left to read them from.
+ */
+static bool passes_block_Progress_goes_on(struct passes_block_Progress self, uint32_t most, uint64_t length) {
+    return (self.pass.used < length) & (self.pass.reading.words < most);
+}
+
+/*
+ * passes::block::pass_block, crates/passes/src/block.rt
+ * The intervals of a block, whose units have as many places.
+ */
+static struct passes_block_Progress passes_block_pass_block(struct passes_block_Progress at, struct slice_u16 intervals,
+        struct slice_u8_mut units, uint32_t most, uint64_t to, struct slice_u16_mut out) {
+    struct timing_cursor_Cursor cursor = intervals_units_units_of(at.cursor, intervals, units);
+    return (struct passes_block_Progress){.pass = shifts_shift_shift_units(at.pass.reading,
+            slice_u8(units.at, units.len), at.pass.used, most, to, out), .cursor = cursor};
+}
+
+/*
+ * passes::block::Progress::next_block, crates/passes/src/block.rt
+ * One block more, whose code words are stored from place `to` on.
+ */
+static struct passes_block_Progress passes_block_Progress_next_block(struct passes_block_Progress self,
+        struct slice_u16 intervals, uint32_t most, uint64_t to, struct slice_u16_mut out) {
+    uint64_t from = self.pass.used;
+    uint64_t n = lists_at_most(128, intervals.len - from);
+    struct array_u8_128 units = {0};
+    struct slice_u8_mut t16 = slice_u8_mut(units.a, n);
+    return passes_block_pass_block(self, slice_u16(intervals.at + from, from + n - from), t16, most, to, out);
+}
+
+/*
+ * passes::block::Progress::pass_on, crates/passes/src/block.rt
+ * Until so many bytes are whole, so many intervals more are used, or none is left. The code words are stored from the
+ * front on, where there is room.
+ */
+static struct passes_block_Progress passes_block_Progress_pass_on(struct passes_block_Progress self,
+        struct slice_u16 intervals, uint64_t count, uint32_t most, struct slice_u16_mut out) {
+    uint32_t first = self.pass.reading.words;
+    uint64_t end = self.pass.used + lists_at_most(count, intervals.len - self.pass.used);
+    struct passes_block_Progress at = self;
+    while (passes_block_Progress_goes_on(at, most, end)) {
+        uint32_t done = at.pass.reading.words - first;
+        at = passes_block_Progress_next_block(at, slice_u16(intervals.at, end), most, (uint64_t)done, out);
+    }
+    return at;
+}
+
+/*
+ * passes::pass_over, crates/passes/src/lib.rt
+ * One pass, until so many bytes are whole or no interval is left, each interval taken as a cell. The code words that
+ * have room are stored from the front on.
+ */
+static struct shifts_Pass passes_pass_over(struct timing_Profile p, struct slice_u16 intervals, uint32_t most,
+        struct slice_u16_mut out) {
+    struct passes_block_Progress at =
+            passes_block_Progress_pass_on(passes_block_Progress_start(p), intervals, intervals.len, most, out);
+    return at.pass;
+}
+
+/* The crate codec */
+
+/*
+ * codec::writer::has_room, crates/codec/src/writer.rt
+ * Whether an accepted list's stream has room in an output of so many places. A byte ends eight cells at most and the
+ * closing 0s two: only where there is less room they are counted.
+ */
+static bool codec_writer_has_room(struct slice_u16 items, uint64_t bytes, uint64_t room) {
+    if (8 * bytes + 2 <= room) return true;
+    return images_count_count_cells(items, bytes) <= room;
+}
+
+/*
+ * codec::windows::window_table, crates/codec/src/windows.rt
+ * At 2 × the window the first length, and behind it the last. A name tells whether the cell before is short or longer,
+ * the units of the cell, and whether the cell after is short or longer.
+ */
+static struct array_u16_128 codec_windows_window_table(struct timing_Profile p) {
+    uint16_t s2s = lengths_table_length_between(p, 0, 0, 0).f0;
+    uint16_t s2l = lengths_table_length_between(p, 0, 0, 1).f0;
+    uint16_t s3s = lengths_table_length_between(p, 0, 1, 0).f0;
+    uint16_t s3l = lengths_table_length_between(p, 0, 1, 1).f0;
+    uint16_t s4s = lengths_table_length_between(p, 0, 2, 0).f0;
+    uint16_t s4l = lengths_table_length_between(p, 0, 2, 1).f0;
+    uint16_t l2s = lengths_table_length_between(p, 1, 0, 0).f0;
+    uint16_t l2l = lengths_table_length_between(p, 1, 0, 1).f0;
+    uint16_t l3s = lengths_table_length_between(p, 1, 1, 0).f0;
+    uint16_t l3l = lengths_table_length_between(p, 1, 1, 1).f0;
+    uint16_t l4s = lengths_table_length_between(p, 1, 2, 0).f0;
+    uint16_t l4l = lengths_table_length_between(p, 1, 2, 1).f0;
+    struct array_u16_128 result = {{s2s, s2s, s2s, s2l, s2l, s3l, s2l, s3s, s3l, s3l, s3l, s3l, s3s, l2l, s3s, l2s, l3s,
+            l3s, l3l, l3l, l4l, l4l, l4s, l4s, l2l, l2l, l2l, l2l, l2s, s2l, l2s, s2s, l3s, l2s, l3s, l2l, l3l, l3l,
+            l3l, l3s, l4l, l4l, l4l, l4l, l4s, l2l, l4s, l2s, s3s, s3s, s3l, s3l, s4l, s4l, s4s, s4s, s2l, s2l, s2l,
+            s2l, s2s, s2l, s2s, s2s, l2s, s2s, l2s, s2l, l2l, s3l, l2l, s3s, l3l, l3l, l3l, l3l, l3s, l2l, l3s, l2s,
+            l3s, l3s, l3l, l3l, l4l, l4l, l4s, l4s, l2l, l2l, l2l, l2l, l2s, s2l, l2s, s2s, s3s, l2s, s3s, l2l, s3l,
+            l3l, s3l, l3s, s4l, s4l, s4l, s4l, s4s, l2l, s4s, l2s, s3s, s3s, s3l, s3l, s4l, s4l, s4s, s4s, s2l, s2l,
+            s2l, s2l, s2s, s2l, s2s, s2s}};
+    return result;
+}
+
+/* codec::pen::cells_in, crates/codec/src/pen.rt */
+static uint64_t codec_pen_cells_in(uint64_t window) {
+    return 1 + (13893535373986873551ull >> window) % 2;
+}
+
+/*
+ * codec::pen::lay, crates/codec/src/pen.rt
+ * Stores two lengths. Where one cell ends, the next window's are stored over the second.
+ */
+static uint64_t codec_pen_lay(const struct array_u16_128 *table, uint64_t window, uint64_t at,
+        struct slice_u16_mut out) {
+    uint16_t first = table->a[2 * window];
+    uint16_t last = table->a[2 * window + 1];
+    out.at[at] = first;
+    out.at[at + 1] = last;
+    return at + codec_pen_cells_in(window);
+}
+
+/*
+ * codec::pen::enter, crates/codec/src/pen.rt
+ * At the front of a list the lead 0 ends no cell, but the bit behind it does.
+ */
+static uint64_t codec_pen_enter(const struct array_u16_128 *table, uint64_t window, uint64_t at,
+        struct slice_u16_mut out) {
+    if (at == 0) {
+        out.at[0] = table->a[2 * window + 1];
+        return 1;
+    }
+    return codec_pen_lay(table, window, at, out);
+}
+
+/* codec::pen::begin, crates/codec/src/pen.rt: The last bit of the byte before, and a byte's first three. */
+static uint64_t codec_pen_begin(const struct array_u16_128 *table, struct codec_pen_Pen start, uint64_t byte,
+        struct slice_u16_mut out) {
+    uint64_t previous = start.previous;
+    uint64_t at = codec_pen_enter(table, (previous % 16) * 4 + byte / 64, start.cells, out);
+    return codec_pen_lay(table, (previous % 4) * 16 + byte / 16, at, out);
+}
+
+/*
+ * codec::pen::finish_mark, crates/codec/src/pen.rt
+ * What is left of a mark: behind the missing clock bit the cells are those of other data, and mark A1 leaves the next
+ * byte's as 1001 would.
+ */
+static struct codec_pen_Pen codec_pen_finish_mark(const struct array_u16_128 *table, uint64_t mark, uint64_t at,
+        struct slice_u16_mut out) {
+    if (mark == 417) {
+        uint64_t fifth = codec_pen_lay(table, 41, at, out);
+        return (struct codec_pen_Pen){.previous = 9, .cells = codec_pen_lay(table, 20, fifth, out)};
+    }
+    uint64_t fourth = codec_pen_lay(table, 57, at, out);
+    uint64_t fifth_2 = codec_pen_lay(table, 20, fourth, out);
+    return (struct codec_pen_Pen){.previous = mark, .cells = codec_pen_lay(table, 41, fifth_2, out)};
+}
+
+/* codec::pen::finish, crates/codec/src/pen.rt: What is left of a byte. */
+static struct codec_pen_Pen codec_pen_finish(const struct array_u16_128 *table, uint64_t byte, uint64_t at,
+        struct slice_u16_mut out) {
+    if (255 < byte) return codec_pen_finish_mark(table, byte, at, out);
+    uint64_t third = codec_pen_lay(table, byte / 4, at, out);
+    return (struct codec_pen_Pen){.previous = byte, .cells = codec_pen_lay(table, byte % 64, third, out)};
+}
+
+/* codec::pen::draw_byte, crates/codec/src/pen.rt */
+static struct codec_pen_Pen codec_pen_draw_byte(const struct array_u16_128 *table, struct codec_pen_Pen start,
+        uint16_t byte, struct slice_u16_mut out) {
+    uint64_t w = (uint64_t)byte;
+    uint64_t at = codec_pen_begin(table, start, w % 256, out);
+    return codec_pen_finish(table, w, at, out);
+}
+
+/* codec::pen::draw_bytes, crates/codec/src/pen.rt */
+static struct codec_pen_Pen codec_pen_draw_bytes(const struct array_u16_128 *table, struct codec_pen_Pen start,
+        struct slice_u16 bytes, struct slice_u16_mut out) {
+    struct codec_pen_Pen pen = start;
+    uint64_t k = 0;
+    while (k < bytes.len) {
+        pen = codec_pen_draw_byte(table, pen, bytes.at[k], out);
+        k++;
+    }
+    return pen;
+}
+
+/* codec::writer::write_run, crates/codec/src/writer.rt: A run of bytes, and the check order behind it. */
+static struct codec_writer_Part codec_writer_write_run(const struct array_u16_128 *table,
+        struct codec_writer_Part start, struct slice_u16 run, struct slice_u16_mut out) {
+    struct items_Check check = items_Check_after_bytes(start.check, run);
+    struct codec_pen_Pen pen = codec_pen_draw_bytes(table, start.pen, run, out);
+    uint16_t t12 = items_Check_high(check);
+    struct array_u16_2 bytes = {{t12, items_Check_low(check)}};
+    struct codec_pen_Pen t14 = codec_pen_draw_bytes(table, pen, slice_u16(bytes.a, 2), out);
+    return (struct codec_writer_Part){.pen = t14, .check = items_Check_after_check(check)};
+}
+
+/*
+ * codec::writer::write_items, crates/codec/src/writer.rt
+ * Run by run, so that a check order finds the register as it is then. Behind the last no register is asked for.
+ */
+static struct codec_pen_Pen codec_writer_write_items(const struct array_u16_128 *table, struct slice_u16 items,
+        struct slice_u16_mut out) {
+    struct codec_writer_Part part = {.pen = {.previous = 0, .cells = 0}, .check = items_Check_fresh()};
+    uint64_t from = 0;
+    uint64_t run = items_list_find_check(items);
+    while (run < items.len - from) {
+        uint64_t end = from + run;
+        part = codec_writer_write_run(table, part, slice_u16(items.at + from, end - from), out);
+        from = end + 1;
+        run = items_list_find_check(slice_u16(items.at + from, items.len - from));
+    }
+    return codec_pen_draw_bytes(table, part.pen, slice_u16(items.at + from, items.len - from), out);
+}
+
+/*
+ * codec::pen::draw_closing, crates/codec/src/pen.rt
+ * The two closing 0s behind the last bit. Answers the number of cells.
+ */
+static uint64_t codec_pen_draw_closing(const struct array_u16_128 *table, struct codec_pen_Pen pen,
+        struct slice_u16_mut out) {
+    uint64_t at = codec_pen_enter(table, (pen.previous % 16) * 4, pen.cells, out);
+    out.at[at] = table->a[(pen.previous % 4) * 32];
+    return at + 1;
+}
+
+/*
+ * codec::writer::write_stream, crates/codec/src/writer.rt
+ * The stream of a list, where it has room. Answers its length.
+ */
+static uint64_t codec_writer_write_stream(struct timing_Profile p, struct slice_u16 items, struct slice_u16_mut out) {
+    struct array_u16_128 table = codec_windows_window_table(p);
+    struct codec_pen_Pen pen = codec_writer_write_items(&table, items, out);
+    return codec_pen_draw_closing(&table, pen, out);
+}
+
+/*
+ * codec::writer::write_list, crates/codec/src/writer.rt
+ * An accepted list under an accepted profile: 9, or its stream.
+ */
+static struct refusal_Counted codec_writer_write_list(struct timing_Profile p, struct slice_u16 items,
+        struct slice_u16_mut out) {
+    uint64_t bytes = items_list_written_bytes(items);
+    if (codec_writer_has_room(items, bytes, out.len)) {
+        uint64_t count = codec_writer_write_stream(p, items, out);
+        return (struct refusal_Counted){.tag = refusal_Counted_Count, .u.Count = count};
+    }
+    return (struct refusal_Counted){.tag = refusal_Counted_Refused,
+            .u.Refused = {.tag = refusal_Refusal_OutputTooShort}};
+}
+
+/*
+ * codec::writer::write, crates/codec/src/writer.rt
+ * A list of items as intervals: 1, 2, 4, 3, 9, or the number of intervals stored.
+ */
+static struct refusal_Counted codec_writer_write(struct timing_Profile p, struct slice_u16 items,
+        struct slice_u16_mut out) {
+    struct refusal_Verdict t6 = timing_rule_check(p);
+    if (t6.tag == refusal_Verdict_Refused) {
+        return (struct refusal_Counted){.tag = refusal_Counted_Refused, .u.Refused = t6.u.Refused};
+    }
+    struct refusal_Verdict t8 = items_list_check_list(items);
+    if (t8.tag == refusal_Verdict_Refused) {
+        return (struct refusal_Counted){.tag = refusal_Counted_Refused, .u.Refused = t8.u.Refused};
+    }
+    return codec_writer_write_list(p, items, out);
+}
+
+/*
+ * codec::reader::conclude, crates/codec/src/reader.rt
+ * What the whole strip reads as, given the place of its last interval: 7, 4, 8, or the number of items. A strip of 8n
+ * + 2 bits ends one bit into a byte, and that bit is 0: with the data bit before it, four half cells.
+ */
+static struct refusal_Counted codec_reader_conclude(struct symbols_Reading m, uint32_t last) {
+    if (m.held != 4) {
+        return (struct refusal_Counted){.tag = refusal_Counted_Refused,
+                .u.Refused = {.tag = refusal_Refusal_NotWholeBytes}};
+    }
+    if (6400 < m.words) {
+        return (struct refusal_Counted){.tag = refusal_Counted_Refused, .u.Refused = {.tag = refusal_Refusal_TooLong}};
+    }
+    if (symbols_Reading_is_stray(m)) {
+        return (struct refusal_Counted){.tag = refusal_Counted_Refused,
+                .u.Refused = {.tag = refusal_Refusal_MisplacedMark,
+                .u.MisplacedMark = symbols_Reading_stray_place(m, last)}};
+    }
+    return (struct refusal_Counted){.tag = refusal_Counted_Count, .u.Count = (uint64_t)m.words};
+}
+
+/*
+ * codec::reader::read_cells, crates/codec/src/reader.rt
+ * A strip in which every interval is a cell: 7, 4, 8, 9, or all of its items. Code words are stored first, and turned
+ * into items where they stand.
+ */
+static struct refusal_Counted codec_reader_read_cells(struct timing_Profile p, struct slice_u16 intervals,
+        struct slice_u16_mut out) {
+    struct shifts_Pass pass = passes_look_over(p, intervals, (uint32_t)51202);
+    struct symbols_Reading reading = pass.reading;
+    struct refusal_Counted t9 = codec_reader_conclude(reading, passes_last_place(pass.used));
+    if (t9.tag == refusal_Counted_Refused) {
+        return (struct refusal_Counted){.tag = refusal_Counted_Refused, .u.Refused = t9.u.Refused};
+    }
+    uint64_t n = t9.u.Count;
+    if (out.len < n) {
+        return (struct refusal_Counted){.tag = refusal_Counted_Refused,
+                .u.Refused = {.tag = refusal_Refusal_OutputTooShort}};
+    }
+    passes_pass_over(p, intervals, (uint32_t)51202, out);
+    half_cells_words_to_bytes(slice_u16_mut(out.at, n));
+    return (struct refusal_Counted){.tag = refusal_Counted_Count, .u.Count = n};
+}
+
+/*
+ * codec::reader::read_strip, crates/codec/src/reader.rt
+ * A strip of at most 51,202 intervals under an accepted profile: the first of 5 or 6, 7, 4, 8, 9, or all of its items.
+ */
+static struct refusal_Counted codec_reader_read_strip(struct timing_Profile p, struct slice_u16 intervals,
+        struct slice_u16_mut out) {
+    struct refusal_Verdict t5 = intervals_edges_check_edges(p, intervals);
+    if (t5.tag == refusal_Verdict_Refused) {
+        return (struct refusal_Counted){.tag = refusal_Counted_Refused, .u.Refused = t5.u.Refused};
+    }
+    return codec_reader_read_cells(p, intervals, out);
+}
+
+/*
+ * codec::reader::read, crates/codec/src/reader.rt
+ * A strip of intervals as items: 1, 2, 4, the first of 5 or 6, 7, 4, 8, 9, or the number of items stored.
+ */
+static struct refusal_Counted codec_reader_read(struct timing_Profile p, struct slice_u16 intervals,
+        struct slice_u16_mut out) {
+    struct refusal_Verdict t5 = timing_rule_check(p);
+    if (t5.tag == refusal_Verdict_Refused) {
+        return (struct refusal_Counted){.tag = refusal_Counted_Refused, .u.Refused = t5.u.Refused};
     }
     if (51202 < intervals.len) {
-        return (struct refusal_Verdict){.tag = refusal_Verdict_Refused, .u.Refused = {.tag = refusal_Refusal_TooLong}};
+        return (struct refusal_Counted){.tag = refusal_Counted_Refused, .u.Refused = {.tag = refusal_Refusal_TooLong}};
     }
-    return (struct refusal_Verdict){.tag = refusal_Verdict_Accepted};
-}
-
-/*
- * report::row::exceed, crates/report/src/row.rt
- * Whether the sum of two numbers would not fit. (A number itself does, which the caller learns.)
- */
-static bool report_row_exceed(uint64_t a, uint64_t b) {
-    return 18446744073709551615ull - b < a;
-}
-
-/* report::row::greater, crates/report/src/row.rt */
-static uint64_t report_row_greater(uint64_t a, uint64_t b) {
-    if (a < b) return b;
-    return a;
-}
-
-/* report::row::lesser, crates/report/src/row.rt */
-static uint64_t report_row_lesser(uint64_t a, uint64_t b) {
-    if (b < a) return b;
-    return a;
-}
-
-/* report::row::add, crates/report/src/row.rt: Two rows added. One whose count is zero is passed over. */
-static struct array_u64_4 report_row_add(struct array_u64_4 a, struct array_u64_4 b) {
-    if (a.a[0] == 0) {
-        if (b.a[0] == 0) return (struct array_u64_4){0};
-        return b;
-    }
-    if (b.a[0] == 0) return a;
-    uint64_t t20 = a.a[0] + b.a[0];
-    uint64_t t21 = report_row_lesser(a.a[1], b.a[1]);
-    uint64_t t28 = report_row_greater(a.a[2], b.a[2]);
-    return (struct array_u64_4){{t20, t21, t28, a.a[3] + b.a[3]}};
-}
-
-/* report::add_rows, crates/report/src/lib.rt: The rows of two reports that can be added, added. */
-static struct array_u64_4_5 report_add_rows(struct array_u64_4_5 a, struct array_u64_4_5 b) {
-    struct array_u64_4_5 rows = {0};
-    uint64_t k = 0;
-    while (k < 5) {
-        rows.a[k] = report_row_add(a.a[k], b.a[k]);
-        k++;
-    }
-    return rows;
-}
-
-/* report::row::overflows, crates/report/src/row.rt: Whether a count or a sum of two rows added would not fit. */
-static bool report_row_overflows(struct array_u64_4 a, struct array_u64_4 b) {
-    bool counts = report_row_exceed(a.a[0], b.a[0]);
-    bool sums = report_row_exceed(a.a[3], b.a[3]);
-    if (a.a[0] == 0) return false;
-    if (b.a[0] == 0) return false;
-    return counts | sums;
-}
-
-/* report::check_sum, crates/report/src/lib.rt: Whether two reports can be added: 4. */
-static struct refusal_Verdict report_check_sum(struct array_u64_4_5 a, struct array_u64_4_5 b) {
-    uint64_t k = 0;
-    while (k < 5) {
-        if (report_row_overflows(a.a[k], b.a[k])) {
-            return (struct refusal_Verdict){.tag = refusal_Verdict_Refused,
-                    .u.Refused = {.tag = refusal_Refusal_TooLong}};
-        }
-        k++;
-    }
-    return (struct refusal_Verdict){.tag = refusal_Verdict_Accepted};
-}
-
-/* report::add, crates/report/src/lib.rt: Two reports added; zeros where they cannot be. */
-static struct array_u64_4_5 report_add(struct array_u64_4_5 a, struct array_u64_4_5 b) {
-    if (report_check_sum(a, b).tag == refusal_Verdict_Refused) return (struct array_u64_4_5){0};
-    return report_add_rows(a, b);
-}
-
-/*
- * report::list::renew, crates/report/src/list.rt
- * A report with an interval of this class more. Each arm renews a row at a place that the compiler knows, so that the
- * rows stay in registers.
- */
-static struct array_u64_4_5 report_list_renew(struct array_u64_4_5 rows, struct timing_Class class, uint16_t interval) {
-    uint64_t d = (uint64_t)interval;
-    struct array_u64_4 one = {{1, d, d, d}};
-    switch (class.tag) {
-    case timing_Class_Narrow: {
-        struct array_u64_4 t8 = report_row_add(rows.a[0], one);
-        return (struct array_u64_4_5){{t8, rows.a[1], rows.a[2], rows.a[3], rows.a[4]}};
-    }
-    case timing_Class_Two: {
-        struct array_u64_4 t26 = rows.a[0];
-        struct array_u64_4 t27 = report_row_add(rows.a[1], one);
-        return (struct array_u64_4_5){{t26, t27, rows.a[2], rows.a[3], rows.a[4]}};
-    }
-    case timing_Class_Three: {
-        struct array_u64_4 t42 = rows.a[0];
-        struct array_u64_4 t45 = rows.a[1];
-        struct array_u64_4 t46 = report_row_add(rows.a[2], one);
-        return (struct array_u64_4_5){{t42, t45, t46, rows.a[3], rows.a[4]}};
-    }
-    case timing_Class_Four: {
-        struct array_u64_4 t58 = rows.a[0];
-        struct array_u64_4 t61 = rows.a[1];
-        struct array_u64_4 t64 = rows.a[2];
-        struct array_u64_4 t65 = report_row_add(rows.a[3], one);
-        return (struct array_u64_4_5){{t58, t61, t64, t65, rows.a[4]}};
-    }
-    default: { /* timing_Class_Wide */
-        struct array_u64_4 t74 = rows.a[0];
-        struct array_u64_4 t77 = rows.a[1];
-        struct array_u64_4 t80 = rows.a[2];
-        struct array_u64_4 t83 = rows.a[3];
-        return (struct array_u64_4_5){{t74, t77, t80, t83, report_row_add(rows.a[4], one)}};
-    }
-    }
-}
-
-/*
- * report::list::gather, crates/report/src/list.rt
- * The report of a list that is not overlong, from where the classing stands on.
- */
-static struct array_u64_4_5 report_list_gather(struct timing_cursor_Cursor start, struct slice_u16 intervals) {
-    struct timing_cursor_Cursor cursor = start;
-    struct array_u64_4_5 rows = {0};
-    uint64_t k = 0;
-    while (k < intervals.len) {
-        uint16_t interval = intervals.at[k];
-        struct timing_cursor_Classed classed = timing_cursor_Cursor_step(cursor, interval);
-        struct timing_Class class = classed.class;
-        struct array_u64_4_5 next = report_list_renew(rows, class, interval);
-        rows = next;
-        cursor = classed.next;
-        k++;
-    }
-    return rows;
-}
-
-/* report::report_list, crates/report/src/lib.rt: The report of a list; zeros where it has none. */
-static struct array_u64_4_5 report_report_list(struct timing_Profile p, struct slice_u16 intervals) {
-    if (report_check_list(p, intervals).tag == refusal_Verdict_Refused) {
-        return (struct array_u64_4_5){0};
-    }
-    return report_list_gather(timing_cursor_Cursor_start(p), intervals);
+    return codec_reader_read_strip(p, intervals, out);
 }
 
 /* The crate runs */
-
-/*
- * runs::all_follow, crates/runs/src/lib.rt
- * Whether each interval of a stretch is of class 2 if the one before it is: with no jump for any, so that it is told
- * in vector instructions.
- */
-static bool runs_all_follow(struct timing_cursor_Cursor short_, struct slice_u16 intervals, uint64_t from) {
-    uint64_t end = from + 32;
-    bool all = true;
-    uint64_t k = from;
-    while (k < end) {
-        all = all & timing_cursor_Cursor_meets_two(short_, intervals.at[k]);
-        k++;
-    }
-    return all;
-}
 
 /*
  * runs::last_sure, crates/runs/src/lib.rt
@@ -3243,6 +3087,22 @@ static uint64_t runs_next_two(struct timing_Profile p, struct slice_u16 interval
     return i;
 }
 
+/*
+ * runs::all_follow, crates/runs/src/lib.rt
+ * Whether each interval of a stretch is of class 2 if the one before it is: with no jump for any, so that it is told
+ * in vector instructions.
+ */
+static bool runs_all_follow(struct timing_cursor_Cursor short_, struct slice_u16 intervals, uint64_t from) {
+    uint64_t end = from + 32;
+    bool all = true;
+    uint64_t k = from;
+    while (k < end) {
+        all = all & timing_cursor_Cursor_meets_two(short_, intervals.at[k]);
+        k++;
+    }
+    return all;
+}
+
 /* runs::pass_stretches, crates/runs/src/lib.rt: Passes over whole stretches of a run. */
 static uint64_t runs_pass_stretches(struct timing_cursor_Cursor short_, struct slice_u16 intervals, uint64_t from) {
     uint64_t k = from;
@@ -3271,6 +3131,12 @@ static uint64_t runs_pass_run(struct timing_cursor_Cursor short_, struct slice_u
 
 /* The crate locks */
 
+/* locks::finder::later, crates/locks/src/finder.rt: The later of two places. */
+static uint64_t locks_finder_later(uint64_t a, uint64_t b) {
+    if (a < b) return b;
+    return a;
+}
+
 /*
  * locks::finder::begins_with, crates/locks/src/finder.rt
  * Whether the intervals from a place on have the classes of a pattern at their front.
@@ -3292,12 +3158,6 @@ static bool locks_finder_begins_with(struct timing_cursor_Cursor start, struct s
         }
     }
     return true;
-}
-
-/* locks::finder::later, crates/locks/src/finder.rt: The later of two places. */
-static uint64_t locks_finder_later(uint64_t a, uint64_t b) {
-    if (a < b) return b;
-    return a;
 }
 
 /* locks::finder::mark_ahead, crates/locks/src/finder.rt: Whether a lock's mark stands at a place. */
@@ -3395,6 +3255,36 @@ static bool locks_finder_three_marks_ahead(struct timing_Profile p, struct slice
 /* The crate fields */
 
 /*
+ * fields::gather::sum_up, crates/fields/src/gather.rt
+ * The code words of a part, turned into items: through the register, and to their places.
+ */
+static struct items_Check fields_gather_sum_up(struct items_Check check, struct slice_u16_mut words, uint64_t at,
+        struct slice_u16_mut out) {
+    half_cells_words_to_bytes(words);
+    lists_store(slice_u16(words.at, words.len), at, out);
+    return items_Check_after_bytes(check, slice_u16(words.at, words.len));
+}
+
+/*
+ * fields::gather::pass_items, crates/fields/src/gather.rt
+ * One pass over the intervals of n bytes, each taken as a cell.
+ */
+static struct fields_gather_Summed fields_gather_pass_items(struct timing_Profile p, struct slice_u16 intervals,
+        uint32_t n, struct slice_u16_mut out) {
+    struct array_u16_65 words = {0};
+    struct passes_block_Progress at = passes_block_Progress_start(p);
+    struct items_Check check = items_Check_fresh();
+    while (passes_block_Progress_goes_on(at, n, intervals.len)) {
+        uint32_t done = at.pass.reading.words;
+        at = passes_block_Progress_pass_on(at, intervals, 256, n, slice_u16_mut(words.a, 65));
+        uint64_t count = (uint64_t)(at.pass.reading.words - done);
+        check = fields_gather_sum_up(check, slice_u16_mut(words.a, count), (uint64_t)done, out);
+    }
+    struct shifts_Pass pass = at.pass;
+    return (struct fields_gather_Summed){.pass = pass, .check = check};
+}
+
+/*
  * fields::gather::conclude, crates/fields/src/gather.rt
  * How the pass over a field ends, with so many intervals used: 11, 8, or how many they are.
  */
@@ -3412,6 +3302,24 @@ static struct refusal_Counted fields_gather_conclude(struct symbols_Reading m, u
 }
 
 /*
+ * fields::gather::gather, crates/fields/src/gather.rt
+ * A field of n bytes. An interval among the used ones that is no cell comes before all else.
+ */
+static struct fields_gather_Gathered fields_gather_gather(struct timing_Profile p, struct slice_u16 intervals,
+        uint32_t n, struct slice_u16_mut out) {
+    struct fields_gather_Summed read = fields_gather_pass_items(p, intervals, n, out);
+    struct shifts_Pass pass = read.pass;
+    uint64_t used = pass.used;
+    bool holds = read.check.register_ == 0;
+    struct refusal_Verdict t12 = intervals_edges_check_edges(p, slice_u16(intervals.at, used));
+    if (t12.tag == refusal_Verdict_Refused) {
+        return (struct fields_gather_Gathered){.end = {.tag = refusal_Counted_Refused, .u.Refused = t12.u.Refused},
+                .holds = holds};
+    }
+    return (struct fields_gather_Gathered){.end = fields_gather_conclude(pass.reading, used, n), .holds = holds};
+}
+
+/*
  * fields::reader::deliver, crates/fields/src/reader.rt
  * What was gathered, handed over where the output has room for it.
  */
@@ -3424,6 +3332,67 @@ static struct fields_reader_FieldRead fields_reader_deliver(struct slice_u16 ite
     lists_store(items, 0, out);
     return (struct fields_reader_FieldRead){.tag = fields_reader_FieldRead_Field,
             .u.Field = {.count = items.len, .used = used, .holds = holds}};
+}
+
+/*
+ * fields::reader::read_into, crates/fields/src/reader.rt
+ * The items wait in a buffer, as a refusal changes nothing that was lent.
+ */
+static struct fields_reader_FieldRead fields_reader_read_into(struct timing_Profile p, struct slice_u16 intervals,
+        uint64_t n, struct slice_u16_mut buffer, struct slice_u16_mut out) {
+    struct fields_gather_Gathered gathered = fields_gather_gather(p, intervals, (uint32_t)n, buffer);
+    struct refusal_Counted end = gathered.end;
+    if (end.tag == refusal_Counted_Refused) {
+        return (struct fields_reader_FieldRead){.tag = fields_reader_FieldRead_Refused, .u.Refused = end.u.Refused};
+    }
+    return fields_reader_deliver(slice_u16(buffer.at, n), end.u.Count, gathered.holds, out);
+}
+
+/*
+ * fields::reader::read_checked, crates/fields/src/reader.rt
+ * A short field has a short buffer: to clear the long one costs more than to read ten bytes.
+ */
+static struct fields_reader_FieldRead fields_reader_read_checked(struct timing_Profile p, struct slice_u16 intervals,
+        uint64_t n, struct slice_u16_mut out) {
+    if (n <= 16) {
+        struct array_u16_16 buffer = {0};
+        return fields_reader_read_into(p, intervals, n, slice_u16_mut(buffer.a, 16), out);
+    }
+    struct array_u16_1030 buffer_2 = {0};
+    return fields_reader_read_into(p, intervals, n, slice_u16_mut(buffer_2.a, 1030), out);
+}
+
+/*
+ * fields::reader::read_field, crates/fields/src/reader.rt
+ * 1, 2, 12, then 5, 6 or 11 as first met, 8, 9. On acceptance the items fill the front of the output.
+ */
+static struct fields_reader_FieldRead fields_reader_read_field(struct timing_Profile p, struct slice_u16 intervals,
+        uint64_t n, struct slice_u16_mut out) {
+    struct refusal_Verdict t6 = timing_rule_check(p);
+    if (t6.tag == refusal_Verdict_Refused) {
+        return (struct fields_reader_FieldRead){.tag = fields_reader_FieldRead_Refused, .u.Refused = t6.u.Refused};
+    }
+    if ((n < 1) | (1030 < n)) {
+        return (struct fields_reader_FieldRead){.tag = fields_reader_FieldRead_Refused,
+                .u.Refused = {.tag = refusal_Refusal_CountOutOfRange}};
+    }
+    return fields_reader_read_checked(p, intervals, n, out);
+}
+
+/*
+ * fields::reader::read_in_place, crates/fields/src/reader.rt
+ * Reads alike, and stores as many items as there is room for, without a buffer between: after a refusal other numbers
+ * may stand there. Who reads field after field has checked the profile once.
+ */
+static struct fields_reader_FieldRead fields_reader_read_in_place(struct timing_Profile p, struct slice_u16 intervals,
+        uint64_t n, struct slice_u16_mut items) {
+    struct fields_gather_Gathered gathered = fields_gather_gather(p, intervals, (uint32_t)n, items);
+    struct refusal_Counted end = gathered.end;
+    if (end.tag == refusal_Counted_Refused) {
+        return (struct fields_reader_FieldRead){.tag = fields_reader_FieldRead_Refused, .u.Refused = end.u.Refused};
+    }
+    return (struct fields_reader_FieldRead){.tag = fields_reader_FieldRead_Field,
+            .u.Field = {.count = n, .used = end.u.Count, .holds = gathered.holds}};
 }
 
 /*
@@ -3480,139 +3449,574 @@ static void fields_data_read_bytes(struct timing_Profile p, struct slice_u16 int
     fields_data_pass_bytes(p, intervals, (uint32_t)n, skip, out);
 }
 
-/*
- * fields::gather::sum_up, crates/fields/src/gather.rt
- * The code words of a part, turned into items: through the register, and to their places.
- */
-static struct items_Check fields_gather_sum_up(struct items_Check check, struct slice_u16_mut words, uint64_t at,
-        struct slice_u16_mut out) {
-    half_cells_words_to_bytes(words);
-    lists_store(slice_u16(words.at, words.len), at, out);
-    return items_Check_after_bytes(check, slice_u16(words.at, words.len));
+/* The crate sectors */
+
+/* sectors::sector_size, crates/sectors/src/lib.rt: The bytes of data in a sector of a length code, 0 to 3. */
+static uint64_t sectors_sector_size(uint8_t code) {
+    switch (code) {
+    case 0: return 128;
+    case 1: return 256;
+    case 2: return 512;
+    default: return 1024;
+    }
+}
+
+/* sectors::repeat, crates/sectors/src/lib.rt */
+static uint64_t sectors_repeat(struct slice_u16_mut out, uint64_t at, uint64_t count, uint16_t item) {
+    uint64_t k = 0;
+    while (k < count) {
+        out.at[at + k] = item;
+        k++;
+    }
+    return at + count;
 }
 
 /*
- * fields::gather::pass_items, crates/fields/src/gather.rt
- * One pass over the intervals of n bytes, each taken as a cell.
+ * sectors::open_field, crates/sectors/src/lib.rt
+ * 12 of 00, three marks A1, and the byte that tells an ID field from a data field.
  */
-static struct fields_gather_Summed fields_gather_pass_items(struct timing_Profile p, struct slice_u16 intervals,
-        uint32_t n, struct slice_u16_mut out) {
-    struct array_u16_65 words = {0};
-    struct passes_block_Progress at = passes_block_Progress_start(p);
-    struct items_Check check = items_Check_fresh();
-    while (passes_block_Progress_goes_on(at, n, intervals.len)) {
-        uint32_t done = at.pass.reading.words;
-        at = passes_block_Progress_pass_on(at, intervals, 256, n, slice_u16_mut(words.a, 65));
-        uint64_t count = (uint64_t)(at.pass.reading.words - done);
-        check = fields_gather_sum_up(check, slice_u16_mut(words.a, count), (uint64_t)done, out);
+static uint64_t sectors_open_field(struct slice_u16_mut out, uint64_t at, uint16_t kind) {
+    uint64_t marks = sectors_repeat(out, at, 12, 0);
+    uint64_t end = sectors_repeat(out, marks, 3, 417);
+    out.at[end] = kind;
+    return end + 1;
+}
+
+/* sectors::put_identity, crates/sectors/src/lib.rt */
+static uint64_t sectors_put_identity(struct slice_u16_mut out, uint64_t at, uint8_t track, uint8_t side, uint8_t sector,
+        uint8_t code) {
+    out.at[at] = (uint16_t)track;
+    out.at[at + 1] = (uint16_t)side;
+    out.at[at + 2] = (uint16_t)sector;
+    out.at[at + 3] = (uint16_t)code;
+    out.at[at + 4] = 512;
+    return at + 5;
+}
+
+/* sectors::put_data, crates/sectors/src/lib.rt */
+static uint64_t sectors_put_data(struct slice_u16_mut out, uint64_t at, struct slice_u8 bytes) {
+    uint64_t k = 0;
+    while (k < bytes.len) {
+        out.at[at + k] = (uint16_t)bytes.at[k];
+        k++;
     }
-    struct shifts_Pass pass = at.pass;
-    return (struct fields_gather_Summed){.pass = pass, .check = check};
+    out.at[at + k] = 512;
+    return at + k + 1;
+}
+
+/* sectors::put_sector, crates/sectors/src/lib.rt: The whole sector at the front of the output. */
+static void sectors_put_sector(struct slice_u16_mut out, uint8_t track, uint8_t side, uint8_t sector, uint8_t code,
+        struct slice_u8 bytes) {
+    uint64_t id = sectors_open_field(out, 0, 254);
+    uint64_t gap = sectors_put_identity(out, id, track, side, sector, code);
+    uint64_t second = sectors_repeat(out, gap, 22, 78);
+    uint64_t first = sectors_open_field(out, second, 251);
+    uint64_t end = sectors_put_data(out, first, bytes);
+    sectors_repeat(out, end, 54, 78);
 }
 
 /*
- * fields::gather::gather, crates/fields/src/gather.rt
- * A field of n bytes. An interval among the used ones that is no cell comes before all else.
+ * sectors::make_sector, crates/sectors/src/lib.rt
+ * 13, for length code 0 too, then 9; on acceptance the items fill the front of the output and their number is
+ * answered.
  */
-static struct fields_gather_Gathered fields_gather_gather(struct timing_Profile p, struct slice_u16 intervals,
-        uint32_t n, struct slice_u16_mut out) {
-    struct fields_gather_Summed read = fields_gather_pass_items(p, intervals, n, out);
-    struct shifts_Pass pass = read.pass;
-    uint64_t used = pass.used;
-    bool holds = read.check.register_ == 0;
-    struct refusal_Verdict t12 = intervals_edges_check_edges(p, slice_u16(intervals.at, used));
-    if (t12.tag == refusal_Verdict_Refused) {
-        return (struct fields_gather_Gathered){.end = {.tag = refusal_Counted_Refused, .u.Refused = t12.u.Refused},
-                .holds = holds};
+static struct refusal_Counted sectors_make_sector(uint8_t track, uint8_t side, uint8_t sector, uint8_t code,
+        struct slice_u8 bytes, struct slice_u16_mut out) {
+    if (code < 1) {
+        return (struct refusal_Counted){.tag = refusal_Counted_Refused,
+                .u.Refused = {.tag = refusal_Refusal_SectorSizeMismatch}};
     }
-    return (struct fields_gather_Gathered){.end = fields_gather_conclude(pass.reading, used, n), .holds = holds};
+    if (3 < code) {
+        return (struct refusal_Counted){.tag = refusal_Counted_Refused,
+                .u.Refused = {.tag = refusal_Refusal_SectorSizeMismatch}};
+    }
+    if (bytes.len != sectors_sector_size(code)) {
+        return (struct refusal_Counted){.tag = refusal_Counted_Refused,
+                .u.Refused = {.tag = refusal_Refusal_SectorSizeMismatch}};
+    }
+    uint64_t count = bytes.len + 114;
+    if (out.len < count) {
+        return (struct refusal_Counted){.tag = refusal_Counted_Refused,
+                .u.Refused = {.tag = refusal_Refusal_OutputTooShort}};
+    }
+    sectors_put_sector(out, track, side, sector, code, bytes);
+    return (struct refusal_Counted){.tag = refusal_Counted_Count, .u.Count = count};
+}
+
+/* The crate sets */
+
+/* sets::index::sector_end, crates/sets/src/index.rt: The place after the sector that begins at a place. */
+static struct refusal_Counted sets_index_sector_end(struct slice_u8 set, uint64_t start) {
+    uint64_t left = set.len - start;
+    if (left < 3) {
+        return (struct refusal_Counted){.tag = refusal_Counted_Refused,
+                .u.Refused = {.tag = refusal_Refusal_SectorSizeMismatch}};
+    }
+    uint8_t code = set.at[start + 1];
+    if (3 < code) {
+        return (struct refusal_Counted){.tag = refusal_Counted_Refused,
+                .u.Refused = {.tag = refusal_Refusal_SectorSizeMismatch}};
+    }
+    uint64_t size = sectors_sector_size(code);
+    if (left - 3 < size) {
+        return (struct refusal_Counted){.tag = refusal_Counted_Refused,
+                .u.Refused = {.tag = refusal_Refusal_SectorSizeMismatch}};
+    }
+    return (struct refusal_Counted){.tag = refusal_Counted_Count, .u.Count = start + 3 + size};
 }
 
 /*
- * fields::reader::read_in_place, crates/fields/src/reader.rt
- * Reads alike, and stores as many items as there is room for, without a buffer between: after a refusal other numbers
- * may stand there. Who reads field after field has checked the profile once.
+ * sets::index::count_sectors, crates/sets/src/index.rt
+ * 13, looked for to the end of the set, or how many sectors it has.
  */
-static struct fields_reader_FieldRead fields_reader_read_in_place(struct timing_Profile p, struct slice_u16 intervals,
-        uint64_t n, struct slice_u16_mut items) {
-    struct fields_gather_Gathered gathered = fields_gather_gather(p, intervals, (uint32_t)n, items);
-    struct refusal_Counted end = gathered.end;
-    if (end.tag == refusal_Counted_Refused) {
-        return (struct fields_reader_FieldRead){.tag = fields_reader_FieldRead_Refused, .u.Refused = end.u.Refused};
+static struct refusal_Counted sets_index_count_sectors(struct slice_u8 set) {
+    uint64_t count = 0;
+    uint64_t start = 0;
+    while (start < set.len) {
+        struct refusal_Counted t8 = sets_index_sector_end(set, start);
+        if (t8.tag == refusal_Counted_Refused) {
+            return (struct refusal_Counted){.tag = refusal_Counted_Refused, .u.Refused = t8.u.Refused};
+        }
+        count++;
+        start = t8.u.Count;
     }
-    return (struct fields_reader_FieldRead){.tag = fields_reader_FieldRead_Field,
-            .u.Field = {.count = n, .used = end.u.Count, .holds = gathered.holds}};
+    return (struct refusal_Counted){.tag = refusal_Counted_Count, .u.Count = count};
+}
+
+/* sets::index::entry, crates/sets/src/index.rt */
+static uint16_t sets_index_entry(uint16_t old, uint16_t place) {
+    if (old == 0) return place;
+    return 65535;
+}
+
+/* sets::span::at_least, crates/sets/src/span.rt */
+static uint64_t sets_span_at_least(uint64_t least, uint64_t number) {
+    if (least < number) return number;
+    return least;
+}
+
+/* sets::span::join, crates/sets/src/span.rt: The span of the numbers of either. */
+static struct sets_span_Span sets_span_join(struct sets_span_Span a, struct sets_span_Span b) {
+    uint64_t t3 = lists_at_most(a.low, b.low);
+    return (struct sets_span_Span){.low = t3, .high = sets_span_at_least(a.high, b.high)};
 }
 
 /*
- * fields::reader::read_into, crates/fields/src/reader.rt
- * The items wait in a buffer, as a refusal changes nothing that was lent.
+ * sets::index::index_set, crates/sets/src/index.rt
+ * Answers the span of the numbers. 32 sectors have at most 32,864 bytes, so a place fits 16 bits and is not 65,535.
  */
-static struct fields_reader_FieldRead fields_reader_read_into(struct timing_Profile p, struct slice_u16 intervals,
-        uint64_t n, struct slice_u16_mut buffer, struct slice_u16_mut out) {
-    struct fields_gather_Gathered gathered = fields_gather_gather(p, intervals, (uint32_t)n, buffer);
-    struct refusal_Counted end = gathered.end;
-    if (end.tag == refusal_Counted_Refused) {
-        return (struct fields_reader_FieldRead){.tag = fields_reader_FieldRead_Refused, .u.Refused = end.u.Refused};
+static struct sets_span_Span sets_index_index_set(struct slice_u8 set, struct array_u16_256 *index) {
+    struct sets_span_Span span = {.low = 256, .high = 0};
+    uint64_t start = 0;
+    while (start < set.len) {
+        uint64_t code = start + 1;
+        uint64_t number = (uint64_t)set.at[start];
+        index->a[number] = sets_index_entry(index->a[number], (uint16_t)code);
+        struct sets_span_Span here = {.low = number, .high = number + 1};
+        span = sets_span_join(span, here);
+        start = code + 2 + sectors_sector_size(set.at[code]);
     }
-    return fields_reader_deliver(slice_u16(buffer.at, n), end.u.Count, gathered.holds, out);
+    return span;
+}
+
+/* The crate merge */
+
+/* merge::check_counts, crates/merge/src/lib.rt */
+static struct refusal_Verdict merge_check_counts(uint64_t first, uint64_t second) {
+    if (32 < first) {
+        return (struct refusal_Verdict){.tag = refusal_Verdict_Refused,
+                .u.Refused = {.tag = refusal_Refusal_TooManySectors}};
+    }
+    if (32 < second) {
+        return (struct refusal_Verdict){.tag = refusal_Verdict_Refused,
+                .u.Refused = {.tag = refusal_Refusal_TooManySectors}};
+    }
+    return (struct refusal_Verdict){.tag = refusal_Verdict_Accepted};
+}
+
+/* merge::check_sets, crates/merge/src/lib.rt: 13, then 15 for a set of more than 32 sectors. */
+static struct refusal_Verdict merge_check_sets(struct slice_u8 first, struct slice_u8 second) {
+    struct refusal_Counted t7 = sets_index_count_sectors(first);
+    if (t7.tag == refusal_Counted_Refused) {
+        return (struct refusal_Verdict){.tag = refusal_Verdict_Refused, .u.Refused = t7.u.Refused};
+    }
+    uint64_t a = t7.u.Count;
+    struct refusal_Counted t9 = sets_index_count_sectors(second);
+    if (t9.tag == refusal_Counted_Refused) {
+        return (struct refusal_Verdict){.tag = refusal_Verdict_Refused, .u.Refused = t9.u.Refused};
+    }
+    return merge_check_counts(a, t9.u.Count);
+}
+
+/* merge::numbers::in_either, crates/merge/src/numbers.rt */
+static bool merge_numbers_in_either(uint16_t a, uint16_t b) {
+    if (a != 0) return true;
+    return b != 0;
+}
+
+/* merge::numbers::count_numbers, crates/merge/src/numbers.rt: How many different numbers two sets have. */
+static uint64_t merge_numbers_count_numbers(const struct array_u16_256 *a, const struct array_u16_256 *b,
+        struct sets_span_Span span) {
+    uint64_t count = 0;
+    uint64_t n = span.low;
+    while (n < span.high) {
+        if (merge_numbers_in_either(a->a[n], b->a[n])) count++;
+        n++;
+    }
+    return count;
 }
 
 /*
- * fields::reader::read_checked, crates/fields/src/reader.rt
- * A short field has a short buffer: to clear the long one costs more than to read ten bytes.
+ * merge::choice::same_bytes, crates/merge/src/choice.rt
+ * Looks at every byte: a loop that could end early would go byte by byte.
  */
-static struct fields_reader_FieldRead fields_reader_read_checked(struct timing_Profile p, struct slice_u16 intervals,
-        uint64_t n, struct slice_u16_mut out) {
-    if (n <= 16) {
-        struct array_u16_16 buffer = {0};
-        return fields_reader_read_into(p, intervals, n, slice_u16_mut(buffer.a, 16), out);
+static bool merge_choice_same_bytes(struct slice_u8 a, struct slice_u8 b) {
+    if (a.len != b.len) return false;
+    bool same = true;
+    uint64_t k = 0;
+    while (k < a.len) {
+        same = same & (a.at[k] == b.at[k]);
+        k++;
     }
-    struct array_u16_1030 buffer_2 = {0};
-    return fields_reader_read_into(p, intervals, n, slice_u16_mut(buffer_2.a, 1030), out);
+    return same;
+}
+
+/* merge::choice::copies_disagree, crates/merge/src/choice.rt: Both sums good and unlike bytes. */
+static bool merge_choice_copies_disagree(struct slice_u8 first, uint64_t a, struct slice_u8 second, uint64_t b) {
+    if (first.at[a + 1] == 0) return false;
+    if (second.at[b + 1] == 0) return false;
+    uint8_t code = first.at[a];
+    if (code != second.at[b]) return true;
+    uint64_t size = sectors_sector_size(code);
+    uint64_t a_data = a + 2;
+    uint64_t a_end = a_data + size;
+    uint64_t b_data = b + 2;
+    uint64_t b_end = b_data + size;
+    struct slice_u8 t24 = slice_u8(second.at + b_data, b_end - b_data);
+    return !merge_choice_same_bytes(slice_u8(first.at + a_data, a_end - a_data), t24);
+}
+
+/* merge::choice::at_odds, crates/merge/src/choice.rt */
+static bool merge_choice_at_odds(struct slice_u8 first, uint16_t a, struct slice_u8 second, uint16_t b) {
+    if (a == 65535) return true;
+    if (b == 65535) return true;
+    if (a == 0) return false;
+    if (b == 0) return false;
+    return merge_choice_copies_disagree(first, (uint64_t)a, second, (uint64_t)b);
 }
 
 /*
- * fields::reader::read_field, crates/fields/src/reader.rt
- * 1, 2, 12, then 5, 6 or 11 as first met, 8, 9. On acceptance the items fill the front of the output.
+ * merge::choice::lowest_at_odds, crates/merge/src/choice.rt
+ * The lowest number at which the sets are at odds; 256 where there is none.
  */
-static struct fields_reader_FieldRead fields_reader_read_field(struct timing_Profile p, struct slice_u16 intervals,
-        uint64_t n, struct slice_u16_mut out) {
-    struct refusal_Verdict t6 = timing_rule_check(p);
-    if (t6.tag == refusal_Verdict_Refused) {
-        return (struct fields_reader_FieldRead){.tag = fields_reader_FieldRead_Refused, .u.Refused = t6.u.Refused};
+static uint64_t merge_choice_lowest_at_odds(struct slice_u8 first, const struct array_u16_256 *a,
+        struct slice_u8 second, const struct array_u16_256 *b, struct sets_span_Span span) {
+    uint64_t n = span.low;
+    while (n < span.high) {
+        if (merge_choice_at_odds(first, a->a[n], second, b->a[n])) return n;
+        n++;
     }
-    if ((n < 1) | (1030 < n)) {
-        return (struct fields_reader_FieldRead){.tag = fields_reader_FieldRead_Refused,
-                .u.Refused = {.tag = refusal_Refusal_CountOutOfRange}};
+    return 256;
+}
+
+/*
+ * merge::check_numbers, crates/merge/src/lib.rt
+ * 15 for more than 32 different numbers, then 17; else how many there are.
+ */
+static struct refusal_Counted merge_check_numbers(struct slice_u8 first, const struct array_u16_256 *a,
+        struct slice_u8 second, const struct array_u16_256 *b, struct sets_span_Span span) {
+    uint64_t count = merge_numbers_count_numbers(a, b, span);
+    if (32 < count) {
+        return (struct refusal_Counted){.tag = refusal_Counted_Refused,
+                .u.Refused = {.tag = refusal_Refusal_TooManySectors}};
     }
-    return fields_reader_read_checked(p, intervals, n, out);
+    uint64_t lowest = merge_choice_lowest_at_odds(first, a, second, b, span);
+    if (lowest < 256) {
+        return (struct refusal_Counted){.tag = refusal_Counted_Refused,
+                .u.Refused = {.tag = refusal_Refusal_SectorsAtOdds, .u.SectorsAtOdds = (uint32_t)lowest}};
+    }
+    return (struct refusal_Counted){.tag = refusal_Counted_Count, .u.Count = count};
+}
+
+/* merge::choice::takes_second, crates/merge/src/choice.rt: Whether it is the second set's copy that is taken. */
+static bool merge_choice_takes_second(struct slice_u8 first, uint16_t a, struct slice_u8 second, uint16_t b) {
+    if (a == 0) return true;
+    if (b == 0) return false;
+    uint64_t a_sum = (uint64_t)a + 1;
+    if (first.at[a_sum] != 0) return false;
+    uint64_t b_sum = (uint64_t)b + 1;
+    return second.at[b_sum] != 0;
+}
+
+/* merge::output::entry_size, crates/merge/src/output.rt */
+static uint64_t merge_output_entry_size(struct slice_u8 set, uint16_t entry) {
+    if (entry == 0) return 0;
+    uint64_t code = (uint64_t)entry;
+    return 3 + sectors_sector_size(set.at[code]);
+}
+
+/*
+ * merge::output::taken_size, crates/merge/src/output.rt
+ * The bytes that the copy taken has; none where neither set has the number.
+ */
+static uint64_t merge_output_taken_size(struct slice_u8 first, uint16_t a, struct slice_u8 second, uint16_t b) {
+    if (merge_choice_takes_second(first, a, second, b)) return merge_output_entry_size(second, b);
+    return merge_output_entry_size(first, a);
+}
+
+/* merge::ascending::merged_size, crates/merge/src/ascending.rt */
+static uint64_t merge_ascending_merged_size(struct slice_u8 first, const struct array_u16_256 *a,
+        struct slice_u8 second, const struct array_u16_256 *b, struct sets_span_Span span) {
+    uint64_t size = 0;
+    uint64_t n = span.low;
+    while (n < span.high) {
+        size += merge_output_taken_size(first, a->a[n], second, b->a[n]);
+        n++;
+    }
+    return size;
+}
+
+/* merge::output::sum_byte, crates/merge/src/output.rt */
+static uint8_t merge_output_sum_byte(uint8_t sum) {
+    if (sum == 0) return 0;
+    return 1;
+}
+
+/* merge::output::put_sector, crates/merge/src/output.rt: The sector whose length code stands at a place. */
+static uint64_t merge_output_put_sector(struct slice_u8 set, uint64_t code, struct slice_u8_mut out, uint64_t start) {
+    uint64_t size = sectors_sector_size(set.at[code]);
+    out.at[start] = set.at[code - 1];
+    out.at[start + 1] = set.at[code];
+    out.at[start + 2] = merge_output_sum_byte(set.at[code + 1]);
+    uint64_t data = code + 2;
+    uint64_t end = data + size;
+    lists_copy(slice_u8(set.at + data, end - data), start + 3, out);
+    return start + 3 + size;
+}
+
+/* merge::output::put_entry, crates/merge/src/output.rt */
+static uint64_t merge_output_put_entry(struct slice_u8 set, uint16_t entry, struct slice_u8_mut out, uint64_t start) {
+    if (entry == 0) return start;
+    return merge_output_put_sector(set, (uint64_t)entry, out, start);
+}
+
+/* merge::output::put_taken, crates/merge/src/output.rt: The copy taken, if one of the sets has the number. */
+static uint64_t merge_output_put_taken(struct slice_u8 first, uint16_t a, struct slice_u8 second, uint16_t b,
+        struct slice_u8_mut out, uint64_t start) {
+    if (merge_choice_takes_second(first, a, second, b)) {
+        return merge_output_put_entry(second, b, out, start);
+    }
+    return merge_output_put_entry(first, a, out, start);
+}
+
+/* merge::ascending::write_merged, crates/merge/src/ascending.rt */
+static void merge_ascending_write_merged(struct slice_u8 first, const struct array_u16_256 *a, struct slice_u8 second,
+        const struct array_u16_256 *b, struct sets_span_Span span, struct slice_u8_mut out) {
+    uint64_t start = 0;
+    uint64_t n = span.low;
+    while (n < span.high) {
+        start = merge_output_put_taken(first, a->a[n], second, b->a[n], out, start);
+        n++;
+    }
+}
+
+/* merge::deliver, crates/merge/src/lib.rt: 9, or the merged set at the front of the output. */
+static struct merge_Merged merge_deliver(struct slice_u8 first, const struct array_u16_256 *a, struct slice_u8 second,
+        const struct array_u16_256 *b, struct sets_span_Span span, uint64_t count, struct slice_u8_mut out) {
+    uint64_t bytes = merge_ascending_merged_size(first, a, second, b, span);
+    if (out.len < bytes) {
+        return (struct merge_Merged){.tag = merge_Merged_Refused, .u.Refused = {.tag = refusal_Refusal_OutputTooShort}};
+    }
+    merge_ascending_write_merged(first, a, second, b, span, out);
+    return (struct merge_Merged){.tag = merge_Merged_Set, .u.Set = {.count = count, .bytes = bytes}};
+}
+
+/* merge::merge_checked, crates/merge/src/lib.rt: Two sets of at most 32 sectors each. */
+static struct merge_Merged merge_merge_checked(struct slice_u8 first, struct slice_u8 second, struct slice_u8_mut out) {
+    struct array_u16_256 a = {0};
+    struct array_u16_256 b = {0};
+    struct sets_span_Span one = sets_index_index_set(first, &a);
+    struct sets_span_Span other = sets_index_index_set(second, &b);
+    struct sets_span_Span span = sets_span_join(one, other);
+    struct refusal_Counted t13 = merge_check_numbers(first, &a, second, &b, span);
+    if (t13.tag == refusal_Counted_Refused) {
+        return (struct merge_Merged){.tag = merge_Merged_Refused, .u.Refused = t13.u.Refused};
+    }
+    return merge_deliver(first, &a, second, &b, span, t13.u.Count, out);
+}
+
+/*
+ * merge::merge_sets, crates/merge/src/lib.rt
+ * 13, 15, 17, 9. On acceptance the merged set fills the front of the output, by ascending sector number.
+ */
+static struct merge_Merged merge_merge_sets(struct slice_u8 first, struct slice_u8 second, struct slice_u8_mut out) {
+    struct refusal_Verdict t5 = merge_check_sets(first, second);
+    if (t5.tag == refusal_Verdict_Refused) {
+        return (struct merge_Merged){.tag = merge_Merged_Refused, .u.Refused = t5.u.Refused};
+    }
+    return merge_merge_checked(first, second, out);
+}
+
+/* The crate report */
+
+/* report::check_list, crates/report/src/lib.rt: Whether a list of intervals has a report: 1, 2, 4. */
+static struct refusal_Verdict report_check_list(struct timing_Profile p, struct slice_u16 intervals) {
+    struct refusal_Verdict t4 = timing_rule_check(p);
+    if (t4.tag == refusal_Verdict_Refused) {
+        return (struct refusal_Verdict){.tag = refusal_Verdict_Refused, .u.Refused = t4.u.Refused};
+    }
+    if (51202 < intervals.len) {
+        return (struct refusal_Verdict){.tag = refusal_Verdict_Refused, .u.Refused = {.tag = refusal_Refusal_TooLong}};
+    }
+    return (struct refusal_Verdict){.tag = refusal_Verdict_Accepted};
+}
+
+/* report::row::lesser, crates/report/src/row.rt */
+static uint64_t report_row_lesser(uint64_t a, uint64_t b) {
+    if (b < a) return b;
+    return a;
+}
+
+/* report::row::greater, crates/report/src/row.rt */
+static uint64_t report_row_greater(uint64_t a, uint64_t b) {
+    if (a < b) return b;
+    return a;
+}
+
+/* report::row::add, crates/report/src/row.rt: Two rows added. One whose count is zero is passed over. */
+static struct array_u64_4 report_row_add(struct array_u64_4 a, struct array_u64_4 b) {
+    if (a.a[0] == 0) {
+        if (b.a[0] == 0) return (struct array_u64_4){0};
+        return b;
+    }
+    if (b.a[0] == 0) return a;
+    uint64_t t20 = a.a[0] + b.a[0];
+    uint64_t t21 = report_row_lesser(a.a[1], b.a[1]);
+    uint64_t t28 = report_row_greater(a.a[2], b.a[2]);
+    return (struct array_u64_4){{t20, t21, t28, a.a[3] + b.a[3]}};
+}
+
+/*
+ * report::list::renew, crates/report/src/list.rt
+ * A report with an interval of this class more. Each arm renews a row at a place that the compiler knows, so that the
+ * rows stay in registers.
+ */
+static struct array_u64_4_5 report_list_renew(struct array_u64_4_5 rows, struct timing_Class class, uint16_t interval) {
+    uint64_t d = (uint64_t)interval;
+    struct array_u64_4 one = {{1, d, d, d}};
+    switch (class.tag) {
+    case timing_Class_Narrow: {
+        struct array_u64_4 t8 = report_row_add(rows.a[0], one);
+        return (struct array_u64_4_5){{t8, rows.a[1], rows.a[2], rows.a[3], rows.a[4]}};
+    }
+    case timing_Class_Two: {
+        struct array_u64_4 t26 = rows.a[0];
+        struct array_u64_4 t27 = report_row_add(rows.a[1], one);
+        return (struct array_u64_4_5){{t26, t27, rows.a[2], rows.a[3], rows.a[4]}};
+    }
+    case timing_Class_Three: {
+        struct array_u64_4 t42 = rows.a[0];
+        struct array_u64_4 t45 = rows.a[1];
+        struct array_u64_4 t46 = report_row_add(rows.a[2], one);
+        return (struct array_u64_4_5){{t42, t45, t46, rows.a[3], rows.a[4]}};
+    }
+    case timing_Class_Four: {
+        struct array_u64_4 t58 = rows.a[0];
+        struct array_u64_4 t61 = rows.a[1];
+        struct array_u64_4 t64 = rows.a[2];
+        struct array_u64_4 t65 = report_row_add(rows.a[3], one);
+        return (struct array_u64_4_5){{t58, t61, t64, t65, rows.a[4]}};
+    }
+    default: { /* timing_Class_Wide */
+        struct array_u64_4 t74 = rows.a[0];
+        struct array_u64_4 t77 = rows.a[1];
+        struct array_u64_4 t80 = rows.a[2];
+        struct array_u64_4 t83 = rows.a[3];
+        return (struct array_u64_4_5){{t74, t77, t80, t83, report_row_add(rows.a[4], one)}};
+    }
+    }
+}
+
+/*
+ * report::list::gather, crates/report/src/list.rt
+ * The report of a list that is not overlong, from where the classing stands on.
+ */
+static struct array_u64_4_5 report_list_gather(struct timing_cursor_Cursor start, struct slice_u16 intervals) {
+    struct timing_cursor_Cursor cursor = start;
+    struct array_u64_4_5 rows = {0};
+    uint64_t k = 0;
+    while (k < intervals.len) {
+        uint16_t interval = intervals.at[k];
+        struct timing_cursor_Classed classed = timing_cursor_Cursor_step(cursor, interval);
+        struct timing_Class class = classed.class;
+        struct array_u64_4_5 next = report_list_renew(rows, class, interval);
+        rows = next;
+        cursor = classed.next;
+        k++;
+    }
+    return rows;
+}
+
+/* report::report_list, crates/report/src/lib.rt: The report of a list; zeros where it has none. */
+static struct array_u64_4_5 report_report_list(struct timing_Profile p, struct slice_u16 intervals) {
+    if (report_check_list(p, intervals).tag == refusal_Verdict_Refused) {
+        return (struct array_u64_4_5){0};
+    }
+    return report_list_gather(timing_cursor_Cursor_start(p), intervals);
+}
+
+/*
+ * report::row::exceed, crates/report/src/row.rt
+ * Whether the sum of two numbers would not fit. (A number itself does, which the caller learns.)
+ */
+static bool report_row_exceed(uint64_t a, uint64_t b) {
+    return 18446744073709551615ull - b < a;
+}
+
+/* report::row::overflows, crates/report/src/row.rt: Whether a count or a sum of two rows added would not fit. */
+static bool report_row_overflows(struct array_u64_4 a, struct array_u64_4 b) {
+    bool counts = report_row_exceed(a.a[0], b.a[0]);
+    bool sums = report_row_exceed(a.a[3], b.a[3]);
+    if (a.a[0] == 0) return false;
+    if (b.a[0] == 0) return false;
+    return counts | sums;
+}
+
+/* report::check_sum, crates/report/src/lib.rt: Whether two reports can be added: 4. */
+static struct refusal_Verdict report_check_sum(struct array_u64_4_5 a, struct array_u64_4_5 b) {
+    uint64_t k = 0;
+    while (k < 5) {
+        if (report_row_overflows(a.a[k], b.a[k])) {
+            return (struct refusal_Verdict){.tag = refusal_Verdict_Refused,
+                    .u.Refused = {.tag = refusal_Refusal_TooLong}};
+        }
+        k++;
+    }
+    return (struct refusal_Verdict){.tag = refusal_Verdict_Accepted};
+}
+
+/* report::add_rows, crates/report/src/lib.rt: The rows of two reports that can be added, added. */
+static struct array_u64_4_5 report_add_rows(struct array_u64_4_5 a, struct array_u64_4_5 b) {
+    struct array_u64_4_5 rows = {0};
+    uint64_t k = 0;
+    while (k < 5) {
+        rows.a[k] = report_row_add(a.a[k], b.a[k]);
+        k++;
+    }
+    return rows;
+}
+
+/* report::add, crates/report/src/lib.rt: Two reports added; zeros where they cannot be. */
+static struct array_u64_4_5 report_add(struct array_u64_4_5 a, struct array_u64_4_5 b) {
+    if (report_check_sum(a, b).tag == refusal_Verdict_Refused) return (struct array_u64_4_5){0};
+    return report_add_rows(a, b);
 }
 
 /* The crate entries */
 
-/* entries::id::four_bytes, crates/entries/src/id.rt: The four bytes fit a byte each, since they are data bytes. */
-static struct entries_id_IdRead entries_id_four_bytes(struct slice_u16 items, uint64_t used) {
-    return (struct entries_id_IdRead){.tag = entries_id_IdRead_Id,
-            .u.Id = {.track = (uint8_t)items.at[4], .side = (uint8_t)items.at[5], .sector = (uint8_t)items.at[6],
-            .code = (uint8_t)items.at[7], .used = used}};
-}
-
 /* entries::opening::opens_with, crates/entries/src/opening.rt */
 static bool entries_opening_opens_with(struct slice_u16 items, uint16_t kind) {
     return (items.at[0] == 417) & (items.at[1] == 417) & (items.at[2] == 417) & (items.at[3] == kind);
-}
-
-/* entries::id::is_identity, crates/entries/src/id.rt: FE and four data bytes, the last a length code. */
-static bool entries_id_is_identity(struct slice_u16 items) {
-    bool t2 = entries_opening_opens_with(items, 254);
-    return t2 & (items.at[4] < 256) & (items.at[5] < 256) & (items.at[6] < 256) & (items.at[7] <= 3);
-}
-
-/* entries::id::identify, crates/entries/src/id.rt */
-static struct entries_id_IdRead entries_id_identify(struct slice_u16 items, uint64_t used) {
-    if (entries_id_is_identity(items)) return entries_id_four_bytes(items, used);
-    return (struct entries_id_IdRead){.tag = entries_id_IdRead_NoId};
 }
 
 /*
@@ -3660,6 +4064,37 @@ static struct entries_opening_Opened entries_opening_read_opened(struct timing_P
     return (struct entries_opening_Opened){.tag = entries_opening_Opened_NoField};
 }
 
+/* entries::id::is_identity, crates/entries/src/id.rt: FE and four data bytes, the last a length code. */
+static bool entries_id_is_identity(struct slice_u16 items) {
+    bool t2 = entries_opening_opens_with(items, 254);
+    return t2 & (items.at[4] < 256) & (items.at[5] < 256) & (items.at[6] < 256) & (items.at[7] <= 3);
+}
+
+/* entries::id::four_bytes, crates/entries/src/id.rt: The four bytes fit a byte each, since they are data bytes. */
+static struct entries_id_IdRead entries_id_four_bytes(struct slice_u16 items, uint64_t used) {
+    return (struct entries_id_IdRead){.tag = entries_id_IdRead_Id,
+            .u.Id = {.track = (uint8_t)items.at[4], .side = (uint8_t)items.at[5], .sector = (uint8_t)items.at[6],
+            .code = (uint8_t)items.at[7], .used = used}};
+}
+
+/* entries::id::identify, crates/entries/src/id.rt */
+static struct entries_id_IdRead entries_id_identify(struct slice_u16 items, uint64_t used) {
+    if (entries_id_is_identity(items)) return entries_id_four_bytes(items, used);
+    return (struct entries_id_IdRead){.tag = entries_id_IdRead_NoId};
+}
+
+/* entries::id::read_id, crates/entries/src/id.rt: The intervals begin at a lock. */
+static struct entries_id_IdRead entries_id_read_id(struct timing_Profile p, struct slice_u16 intervals) {
+    struct array_u16_10 items = {0};
+    struct entries_opening_Opened t6 = entries_opening_read_opened(p, intervals, 10, 254, slice_u16_mut(items.a, 10));
+    if (t6.tag == entries_opening_Opened_NoField) {
+        return (struct entries_id_IdRead){.tag = entries_id_IdRead_NoId};
+    }
+    uint64_t used = t6.u.Field.used;
+    if (t6.u.Field.holds) return entries_id_identify(slice_u16(items.a, 10), used);
+    return (struct entries_id_IdRead){.tag = entries_id_IdRead_NoId};
+}
+
 /*
  * entries::content::read_data, crates/entries/src/content.rt
  * As many bytes as three marks, FB, the data of the code and two check bytes are. The first four tell what it is.
@@ -3689,18 +4124,6 @@ static struct entries_content_Sought entries_content_find_data(struct timing_Pro
     }
     return (struct entries_content_Sought){.field = {.tag = entries_DataField_Found,
             .u.Found = {.place = k, .holds = t11.u.Field.holds}}, .end = k + t11.u.Field.used};
-}
-
-/* entries::id::read_id, crates/entries/src/id.rt: The intervals begin at a lock. */
-static struct entries_id_IdRead entries_id_read_id(struct timing_Profile p, struct slice_u16 intervals) {
-    struct array_u16_10 items = {0};
-    struct entries_opening_Opened t6 = entries_opening_read_opened(p, intervals, 10, 254, slice_u16_mut(items.a, 10));
-    if (t6.tag == entries_opening_Opened_NoField) {
-        return (struct entries_id_IdRead){.tag = entries_id_IdRead_NoId};
-    }
-    uint64_t used = t6.u.Field.used;
-    if (t6.u.Field.holds) return entries_id_identify(slice_u16(items.a, 10), used);
-    return (struct entries_id_IdRead){.tag = entries_id_IdRead_NoId};
 }
 
 /*
@@ -3841,8 +4264,8 @@ static void track_set_store_entry(struct timing_Profile p, struct slice_u16 inte
     out.at[at] = entry.sector;
     out.at[at + 1] = code;
     out.at[at + 2] = entry.holds;
-    struct slice_u8_mut t25 = slice_u8_mut(out.at + data, end - data);
-    fields_data_read_bytes(p, slice_u16(intervals.at + place, intervals.len - place), size + 6, 4, t25);
+    struct slice_u8_mut t27 = slice_u8_mut(out.at + data, end - data);
+    fields_data_read_bytes(p, slice_u16(intervals.at + place, intervals.len - place), size + 6, 4, t27);
 }
 
 /*
@@ -3881,694 +4304,7 @@ static struct track_set_TrackSet track_set_read_track(struct timing_Profile p, s
     return (struct track_set_TrackSet){.number = 0, .place = 0, .count = count, .bytes = bytes};
 }
 
-/* The crate words */
-
-/*
- * words::table::code_words, crates/words/src/table.rt
- * The constant would be copied wherever it is named: a loop binds it before its first turn, and lends it.
- */
-static struct array_u16_512 words_table_code_words(void) {
-    return (struct array_u16_512){{43690, 43689, 43684, 43685, 43666, 43665, 43668, 43669, 43594, 43593, 43588, 43589,
-            43602, 43601, 43604, 43605, 43306, 43305, 43300, 43301, 43282, 43281, 43284, 43285, 43338, 43337, 43332,
-            43333, 43346, 43345, 43348, 43349, 42154, 42153, 42148, 42149, 42130, 42129, 42132, 42133, 42058, 42057,
-            42052, 42053, 42066, 42065, 42068, 42069, 42282, 42281, 42276, 42277, 42258, 42257, 42260, 42261, 42314,
-            42313, 42308, 42309, 42322, 42321, 42324, 42325, 37546, 37545, 37540, 37541, 37522, 37521, 37524, 37525,
-            37450, 37449, 37444, 37445, 37458, 37457, 37460, 37461, 37162, 37161, 37156, 37157, 37138, 37137, 37140,
-            37141, 37194, 37193, 37188, 37189, 37202, 37201, 37204, 37205, 38058, 38057, 38052, 38053, 38034, 38033,
-            38036, 38037, 37962, 37961, 37956, 37957, 37970, 37969, 37972, 37973, 38186, 38185, 38180, 38181, 38162,
-            38161, 38164, 38165, 38218, 38217, 38212, 38213, 38226, 38225, 38228, 38229, 19114, 19113, 19108, 19109,
-            19090, 19089, 19092, 19093, 19018, 19017, 19012, 19013, 19026, 19025, 19028, 19029, 18730, 18729, 18724,
-            18725, 18706, 18705, 18708, 18709, 18762, 18761, 18756, 18757, 18770, 18769, 18772, 18773, 17578, 17577,
-            17572, 17573, 17554, 17553, 17556, 17557, 17482, 17481, 17476, 17477, 17490, 17489, 17492, 17493, 17706,
-            17705, 17700, 17701, 17682, 17681, 17684, 17685, 17738, 17737, 17732, 17733, 17746, 17745, 17748, 17749,
-            21162, 21161, 21156, 21157, 21138, 21137, 21140, 21141, 21066, 21065, 21060, 21061, 21074, 21073, 21076,
-            21077, 20778, 20777, 20772, 20773, 20754, 20753, 20756, 20757, 20810, 20809, 20804, 20805, 20818, 20817,
-            20820, 20821, 21674, 21673, 21668, 21669, 21650, 21649, 21652, 21653, 21578, 21577, 21572, 21573, 21586,
-            21585, 21588, 21589, 21802, 21801, 21796, 21797, 21778, 21777, 21780, 21781, 21834, 21833, 21828, 21829,
-            21842, 21841, 21844, 21845, 10922, 10921, 10916, 10917, 10898, 10897, 10900, 10901, 10826, 10825, 10820,
-            10821, 10834, 10833, 10836, 10837, 10538, 10537, 10532, 10533, 10514, 10513, 10516, 10517, 10570, 10569,
-            10564, 10565, 10578, 10577, 10580, 10581, 9386, 9385, 9380, 9381, 9362, 9361, 9364, 9365, 9290, 9289, 9284,
-            9285, 9298, 9297, 9300, 9301, 9514, 9513, 9508, 9509, 9490, 9489, 9492, 9493, 9546, 9545, 9540, 9541, 9554,
-            9553, 9556, 9557, 4778, 4777, 4772, 4773, 4754, 4753, 4756, 4757, 4682, 4681, 4676, 4677, 4690, 4689, 4692,
-            4693, 4394, 4393, 4388, 4389, 4370, 4369, 4372, 4373, 4426, 4425, 4420, 4421, 4434, 4433, 4436, 4437, 5290,
-            5289, 5284, 5285, 5266, 5265, 5268, 5269, 5194, 5193, 5188, 5189, 5202, 5201, 5204, 5205, 5418, 5417, 5412,
-            5413, 5394, 5393, 5396, 5397, 5450, 5449, 5444, 5445, 5458, 5457, 5460, 5461, 19114, 19113, 19108, 19109,
-            19090, 19089, 19092, 19093, 19018, 19017, 19012, 19013, 19026, 19025, 19028, 19029, 18730, 18729, 18724,
-            18725, 18706, 18705, 18708, 18709, 18762, 18761, 18756, 18757, 18770, 18769, 18772, 18773, 17578, 17577,
-            17572, 17573, 17554, 17553, 17556, 17557, 17482, 17481, 17476, 17477, 17490, 17489, 17492, 17493, 17706,
-            17705, 17700, 17701, 17682, 17681, 17684, 17685, 17738, 17737, 17732, 17733, 17746, 17745, 17748, 17749,
-            21162, 21161, 21156, 21157, 21138, 21137, 21140, 21141, 21066, 21065, 21060, 21061, 21074, 21073, 21076,
-            21077, 20778, 20777, 20772, 20773, 20754, 20753, 20756, 20757, 20810, 20809, 20804, 20805, 20818, 20817,
-            20820, 20821, 21674, 21673, 21668, 21669, 21650, 21649, 21652, 21653, 21578, 21577, 21572, 21573, 21586,
-            21585, 21588, 21589, 21802, 21801, 21796, 21797, 21778, 21777, 21780, 21781, 21834, 21833, 21828, 21829,
-            21842, 21841, 21844, 21845}};
-}
-
-/* words::either, crates/words/src/lib.rt */
-static uint16_t words_either(bool test, uint16_t yes, uint16_t no) {
-    if (test) return yes;
-    return no;
-}
-
-/*
- * words::spread_word, crates/words/src/lib.rt
- * The bits of a data byte at every second place, and a clock bit between each two that are 0.
- */
-static uint16_t words_spread_word(uint16_t previous, uint16_t byte) {
-    uint16_t fours = (byte | (uint16_t)((uint32_t)byte << 4)) & 0xF0F;
-    uint16_t pairs = (fours | (uint16_t)((uint32_t)fours << 2)) & 0x3333;
-    uint16_t data = (pairs | (uint16_t)((uint32_t)pairs << 1)) & 0x5555;
-    uint16_t clocks = ((data | (data >> 2) | (uint16_t)((uint32_t)previous << 14)) & 0x5555) ^ 0x5555;
-    return data | (uint16_t)((uint32_t)clocks << 1);
-}
-
-/*
- * words::made_word, crates/words/src/lib.rt
- * The same without the table, which is slow to copy where few words are asked for and large where all are. A mark's
- * word is chosen after the other is made: with no jump, so that the words of many bytes are made in vector
- * instructions.
- */
-static uint16_t words_made_word(uint16_t previous, uint16_t w) {
-    uint16_t word = words_spread_word(previous % 2, w % 256);
-    return words_either(w == 417, 17545, words_either(w == 450, 21028, word));
-}
-
-/*
- * words::word_of, crates/words/src/lib.rt
- * The word of a written byte after the byte before, whose last bit is the previous bit.
- */
-static uint16_t words_word_of(const struct array_u16_512 *table, uint16_t previous, uint16_t byte) {
-    if (byte == 417) return 17545;
-    if (byte == 450) return 21028;
-    return table->a[(uint64_t)((previous % 2) * 256 + byte % 256)];
-}
-
-/* The crate images */
-
-/* images::count::count_byte, crates/images/src/count.rt */
-static struct images_count_Tally images_count_count_byte(struct images_count_Tally tally, uint16_t byte) {
-    uint16_t ones = (uint16_t)count_ones(words_made_word(tally.previous, byte));
-    return (struct images_count_Tally){.cells = tally.cells + ones, .previous = byte};
-}
-
-/* images::count::count_bytes, crates/images/src/count.rt */
-static struct images_count_Tally images_count_count_bytes(struct images_count_Tally start, struct slice_u16 bytes) {
-    struct images_count_Tally tally = start;
-    uint64_t k = 0;
-    while (k < bytes.len) {
-        tally = images_count_count_byte(tally, bytes.at[k]);
-        k++;
-    }
-    return tally;
-}
-
-/*
- * images::count::count_blocks, crates/images/src/count.rt
- * Block by block, as the bytes that they write: one loop then counts the bytes of many runs.
- */
-static struct images_count_Tally images_count_count_blocks(struct slice_u16 items) {
-    struct images_count_Tally tally = {.cells = 0, .previous = 0};
-    struct items_Check check = items_Check_fresh();
-    struct array_u16_128 bytes = {0};
-    uint64_t from = 0;
-    while (from < items.len) {
-        uint64_t end = from + lists_at_most(64, items.len - from);
-        struct items_bytes_Stored stored =
-                items_bytes_write_bytes(check, slice_u16(items.at + from, end - from), slice_u16_mut(bytes.a, 128));
-        uint64_t count = stored.count;
-        tally = images_count_count_bytes(tally, slice_u16(bytes.a, count));
-        check = stored.check;
-        from = end;
-    }
-    return tally;
-}
-
-/*
- * images::count::count_items, crates/images/src/count.rt
- * A list with no check order is its own bytes, and needs no register.
- */
-static struct images_count_Tally images_count_count_items(struct slice_u16 items, uint64_t bytes) {
-    if (bytes == items.len) {
-        struct images_count_Tally none = {.cells = 0, .previous = 0};
-        return images_count_count_bytes(none, items);
-    }
-    return images_count_count_blocks(items);
-}
-
-/*
- * images::count::count_cells, crates/images/src/count.rt
- * The cells of an accepted list that writes so many bytes. The two closing 0s end two cells after a 0, and one after a
- * 1.
- */
-static uint64_t images_count_count_cells(struct slice_u16 items, uint64_t bytes) {
-    struct images_count_Tally tally = images_count_count_items(items, bytes);
-    uint64_t cells = (uint64_t)tally.cells;
-    if (tally.previous % 2 == 1) return cells + 1;
-    return cells + 2;
-}
-
-/*
- * images::read::find_unruly, crates/images/src/read.rt
- * The place of the lowest word that its candidate does not have after the byte before; the length where there is none.
- */
-static uint64_t images_read_find_unruly(struct slice_u16 words) {
-    struct array_u16_512 table = words_table_code_words();
-    uint16_t previous = 0;
-    uint64_t k = 0;
-    while (k < words.len) {
-        uint16_t word = words.at[k];
-        uint16_t byte = half_cells_byte_of(word);
-        if (words_word_of(&table, previous, byte) == word) {
-            previous = byte;
-            k++;
-        } else {
-            return k;
-        }
-    }
-    return k;
-}
-
-/*
- * images::read::is_ruly, crates/images/src/read.rt
- * Whether its candidate has a word: a mark's is told first, so that no test of a mark is left for the others.
- */
-static bool images_read_is_ruly(uint16_t previous, uint16_t word) {
-    if (word == 17545) return true;
-    if (word == 21028) return true;
-    return words_made_word(previous, half_cells_byte_of(word)) == word;
-}
-
-/*
- * images::read::all_ruly, crates/images/src/read.rt
- * Whether no word is unruly; a word's last bit is its byte's. Looks at every word: a loop that could end early would
- * go word by word.
- */
-static bool images_read_all_ruly(struct slice_u16 words) {
-    bool all = true;
-    uint16_t previous = 0;
-    uint64_t k = 0;
-    while (k < words.len) {
-        uint16_t word = words.at[k];
-        all = all & images_read_is_ruly(previous, word);
-        previous = word;
-        k++;
-    }
-    return all;
-}
-
-/* images::read::check_words, crates/images/src/read.rt: Whether the words are an image: 4, then 16. */
-static struct refusal_Verdict images_read_check_words(struct slice_u16 words) {
-    if (6400 < words.len) {
-        return (struct refusal_Verdict){.tag = refusal_Verdict_Refused, .u.Refused = {.tag = refusal_Refusal_TooLong}};
-    }
-    if (images_read_all_ruly(words)) return (struct refusal_Verdict){.tag = refusal_Verdict_Accepted};
-    uint64_t k = images_read_find_unruly(words);
-    return (struct refusal_Verdict){.tag = refusal_Verdict_Refused,
-            .u.Refused = {.tag = refusal_Refusal_UnrulyWord, .u.UnrulyWord = (uint32_t)k}};
-}
-
-/*
- * images::read::store_bytes, crates/images/src/read.rt
- * The candidates of words, from the front of the output on.
- */
-static void images_read_store_bytes(struct slice_u16 words, struct slice_u16_mut out) {
-    lists_store(words, 0, out);
-    uint64_t n = words.len;
-    half_cells_words_to_bytes(slice_u16_mut(out.at, n));
-}
-
-/* images::read::read_words, crates/images/src/read.rt: An image: 9, or its items. */
-static struct refusal_Counted images_read_read_words(struct slice_u16 words, struct slice_u16_mut out) {
-    if (out.len < words.len) {
-        return (struct refusal_Counted){.tag = refusal_Counted_Refused,
-                .u.Refused = {.tag = refusal_Refusal_OutputTooShort}};
-    }
-    images_read_store_bytes(words, out);
-    return (struct refusal_Counted){.tag = refusal_Counted_Count, .u.Count = words.len};
-}
-
-/*
- * images::read::read_image, crates/images/src/read.rt
- * An image as items: 4, 16, 9, or the number of items stored.
- */
-static struct refusal_Counted images_read_read_image(struct slice_u16 words, struct slice_u16_mut out) {
-    struct refusal_Verdict t4 = images_read_check_words(words);
-    if (t4.tag == refusal_Verdict_Refused) {
-        return (struct refusal_Counted){.tag = refusal_Counted_Refused, .u.Refused = t4.u.Refused};
-    }
-    return images_read_read_words(words, out);
-}
-
-/*
- * images::make::store_written, crates/images/src/make.rt
- * A list with no check order is its own bytes, and needs no register.
- */
-static void images_make_store_written(struct slice_u16 items, uint64_t bytes, struct slice_u16_mut out) {
-    if (bytes == items.len) {
-        lists_store(items, 0, out);
-        return;
-    }
-    items_bytes_write_bytes(items_Check_fresh(), items, out);
-}
-
-/*
- * images::make::turn_few, crates/images/src/make.rt
- * Written bytes become their words where they stand, by the rule.
- */
-static void images_make_turn_few(struct slice_u16_mut bytes) {
-    uint16_t previous = 0;
-    uint64_t k = 0;
-    while (k < bytes.len) {
-        uint16_t byte = bytes.at[k];
-        bytes.at[k] = words_made_word(previous, byte);
-        previous = byte;
-        k++;
-    }
-}
-
-/* images::make::turn_many, crates/images/src/make.rt: The same by the table. */
-static void images_make_turn_many(struct slice_u16_mut bytes) {
-    struct array_u16_512 table = words_table_code_words();
-    uint16_t previous = 0;
-    uint64_t k = 0;
-    while (k < bytes.len) {
-        uint16_t byte = bytes.at[k];
-        bytes.at[k] = words_word_of(&table, previous, byte);
-        previous = byte;
-        k++;
-    }
-}
-
-/* images::make::turn_into_words, crates/images/src/make.rt */
-static void images_make_turn_into_words(struct slice_u16_mut bytes) {
-    if (bytes.len < 12) {
-        images_make_turn_few(bytes);
-        return;
-    }
-    images_make_turn_many(bytes);
-}
-
-/* images::make::make_words, crates/images/src/make.rt: An accepted list: 9, or its image. */
-static struct refusal_Counted images_make_make_words(struct slice_u16 items, struct slice_u16_mut out) {
-    uint64_t n = items_list_written_bytes(items);
-    if (out.len < n) {
-        return (struct refusal_Counted){.tag = refusal_Counted_Refused,
-                .u.Refused = {.tag = refusal_Refusal_OutputTooShort}};
-    }
-    images_make_store_written(items, n, out);
-    images_make_turn_into_words(slice_u16_mut(out.at, n));
-    return (struct refusal_Counted){.tag = refusal_Counted_Count, .u.Count = n};
-}
-
-/*
- * images::make::make_image, crates/images/src/make.rt
- * A list of items as an image: 4, 3, 9, or the number of words stored.
- */
-static struct refusal_Counted images_make_make_image(struct slice_u16 items, struct slice_u16_mut out) {
-    struct refusal_Verdict t4 = items_list_check_list(items);
-    if (t4.tag == refusal_Verdict_Refused) {
-        return (struct refusal_Counted){.tag = refusal_Counted_Refused, .u.Refused = t4.u.Refused};
-    }
-    return images_make_make_words(items, out);
-}
-
-/* The crate codec */
-
-/* codec::pen::cells_in, crates/codec/src/pen.rt */
-static uint64_t codec_pen_cells_in(uint64_t window) {
-    return 1 + (13893535373986873551ull >> window) % 2;
-}
-
-/*
- * codec::reader::conclude, crates/codec/src/reader.rt
- * What the whole strip reads as, given the place of its last interval: 7, 4, 8, or the number of items. A strip of 8n
- * + 2 bits ends one bit into a byte, and that bit is 0: with the data bit before it, four half cells.
- */
-static struct refusal_Counted codec_reader_conclude(struct symbols_Reading m, uint32_t last) {
-    if (m.held != 4) {
-        return (struct refusal_Counted){.tag = refusal_Counted_Refused,
-                .u.Refused = {.tag = refusal_Refusal_NotWholeBytes}};
-    }
-    if (6400 < m.words) {
-        return (struct refusal_Counted){.tag = refusal_Counted_Refused, .u.Refused = {.tag = refusal_Refusal_TooLong}};
-    }
-    if (symbols_Reading_is_stray(m)) {
-        return (struct refusal_Counted){.tag = refusal_Counted_Refused,
-                .u.Refused = {.tag = refusal_Refusal_MisplacedMark,
-                .u.MisplacedMark = symbols_Reading_stray_place(m, last)}};
-    }
-    return (struct refusal_Counted){.tag = refusal_Counted_Count, .u.Count = (uint64_t)m.words};
-}
-
-/*
- * codec::writer::has_room, crates/codec/src/writer.rt
- * Whether an accepted list's stream has room in an output of so many places. A byte ends eight cells at most and the
- * closing 0s two: only where there is less room they are counted.
- */
-static bool codec_writer_has_room(struct slice_u16 items, uint64_t bytes, uint64_t room) {
-    if (8 * bytes + 2 <= room) return true;
-    return images_count_count_cells(items, bytes) <= room;
-}
-
-/*
- * codec::pen::lay, crates/codec/src/pen.rt
- * Stores two lengths. Where one cell ends, the next window's are stored over the second.
- */
-static uint64_t codec_pen_lay(const struct array_u16_128 *table, uint64_t window, uint64_t at,
-        struct slice_u16_mut out) {
-    uint16_t first = table->a[2 * window];
-    uint16_t last = table->a[2 * window + 1];
-    out.at[at] = first;
-    out.at[at + 1] = last;
-    return at + codec_pen_cells_in(window);
-}
-
-/*
- * codec::pen::enter, crates/codec/src/pen.rt
- * At the front of a list the lead 0 ends no cell, but the bit behind it does.
- */
-static uint64_t codec_pen_enter(const struct array_u16_128 *table, uint64_t window, uint64_t at,
-        struct slice_u16_mut out) {
-    if (at == 0) {
-        out.at[0] = table->a[2 * window + 1];
-        return 1;
-    }
-    return codec_pen_lay(table, window, at, out);
-}
-
-/* codec::pen::begin, crates/codec/src/pen.rt: The last bit of the byte before, and a byte's first three. */
-static uint64_t codec_pen_begin(const struct array_u16_128 *table, struct codec_pen_Pen start, uint64_t byte,
-        struct slice_u16_mut out) {
-    uint64_t previous = start.previous;
-    uint64_t at = codec_pen_enter(table, (previous % 16) * 4 + byte / 64, start.cells, out);
-    return codec_pen_lay(table, (previous % 4) * 16 + byte / 16, at, out);
-}
-
-/*
- * codec::pen::draw_closing, crates/codec/src/pen.rt
- * The two closing 0s behind the last bit. Answers the number of cells.
- */
-static uint64_t codec_pen_draw_closing(const struct array_u16_128 *table, struct codec_pen_Pen pen,
-        struct slice_u16_mut out) {
-    uint64_t at = codec_pen_enter(table, (pen.previous % 16) * 4, pen.cells, out);
-    out.at[at] = table->a[(pen.previous % 4) * 32];
-    return at + 1;
-}
-
-/*
- * codec::pen::finish_mark, crates/codec/src/pen.rt
- * What is left of a mark: behind the missing clock bit the cells are those of other data, and mark A1 leaves the next
- * byte's as 1001 would.
- */
-static struct codec_pen_Pen codec_pen_finish_mark(const struct array_u16_128 *table, uint64_t mark, uint64_t at,
-        struct slice_u16_mut out) {
-    if (mark == 417) {
-        uint64_t fifth = codec_pen_lay(table, 41, at, out);
-        return (struct codec_pen_Pen){.previous = 9, .cells = codec_pen_lay(table, 20, fifth, out)};
-    }
-    uint64_t fourth = codec_pen_lay(table, 57, at, out);
-    uint64_t fifth_2 = codec_pen_lay(table, 20, fourth, out);
-    return (struct codec_pen_Pen){.previous = mark, .cells = codec_pen_lay(table, 41, fifth_2, out)};
-}
-
-/* codec::pen::finish, crates/codec/src/pen.rt: What is left of a byte. */
-static struct codec_pen_Pen codec_pen_finish(const struct array_u16_128 *table, uint64_t byte, uint64_t at,
-        struct slice_u16_mut out) {
-    if (255 < byte) return codec_pen_finish_mark(table, byte, at, out);
-    uint64_t third = codec_pen_lay(table, byte / 4, at, out);
-    return (struct codec_pen_Pen){.previous = byte, .cells = codec_pen_lay(table, byte % 64, third, out)};
-}
-
-/* codec::pen::draw_byte, crates/codec/src/pen.rt */
-static struct codec_pen_Pen codec_pen_draw_byte(const struct array_u16_128 *table, struct codec_pen_Pen start,
-        uint16_t byte, struct slice_u16_mut out) {
-    uint64_t w = (uint64_t)byte;
-    uint64_t at = codec_pen_begin(table, start, w % 256, out);
-    return codec_pen_finish(table, w, at, out);
-}
-
-/* codec::pen::draw_bytes, crates/codec/src/pen.rt */
-static struct codec_pen_Pen codec_pen_draw_bytes(const struct array_u16_128 *table, struct codec_pen_Pen start,
-        struct slice_u16 bytes, struct slice_u16_mut out) {
-    struct codec_pen_Pen pen = start;
-    uint64_t k = 0;
-    while (k < bytes.len) {
-        pen = codec_pen_draw_byte(table, pen, bytes.at[k], out);
-        k++;
-    }
-    return pen;
-}
-
-/*
- * codec::reader::read_cells, crates/codec/src/reader.rt
- * A strip in which every interval is a cell: 7, 4, 8, 9, or all of its items. Code words are stored first, and turned
- * into items where they stand.
- */
-static struct refusal_Counted codec_reader_read_cells(struct timing_Profile p, struct slice_u16 intervals,
-        struct slice_u16_mut out) {
-    struct shifts_Pass pass = passes_look_over(p, intervals, (uint32_t)51202);
-    struct symbols_Reading reading = pass.reading;
-    struct refusal_Counted t9 = codec_reader_conclude(reading, passes_last_place(pass.used));
-    if (t9.tag == refusal_Counted_Refused) {
-        return (struct refusal_Counted){.tag = refusal_Counted_Refused, .u.Refused = t9.u.Refused};
-    }
-    uint64_t n = t9.u.Count;
-    if (out.len < n) {
-        return (struct refusal_Counted){.tag = refusal_Counted_Refused,
-                .u.Refused = {.tag = refusal_Refusal_OutputTooShort}};
-    }
-    passes_pass_over(p, intervals, (uint32_t)51202, out);
-    half_cells_words_to_bytes(slice_u16_mut(out.at, n));
-    return (struct refusal_Counted){.tag = refusal_Counted_Count, .u.Count = n};
-}
-
-/*
- * codec::reader::read_strip, crates/codec/src/reader.rt
- * A strip of at most 51,202 intervals under an accepted profile: the first of 5 or 6, 7, 4, 8, 9, or all of its items.
- */
-static struct refusal_Counted codec_reader_read_strip(struct timing_Profile p, struct slice_u16 intervals,
-        struct slice_u16_mut out) {
-    struct refusal_Verdict t5 = intervals_edges_check_edges(p, intervals);
-    if (t5.tag == refusal_Verdict_Refused) {
-        return (struct refusal_Counted){.tag = refusal_Counted_Refused, .u.Refused = t5.u.Refused};
-    }
-    return codec_reader_read_cells(p, intervals, out);
-}
-
-/*
- * codec::reader::read, crates/codec/src/reader.rt
- * A strip of intervals as items: 1, 2, 4, the first of 5 or 6, 7, 4, 8, 9, or the number of items stored.
- */
-static struct refusal_Counted codec_reader_read(struct timing_Profile p, struct slice_u16 intervals,
-        struct slice_u16_mut out) {
-    struct refusal_Verdict t5 = timing_rule_check(p);
-    if (t5.tag == refusal_Verdict_Refused) {
-        return (struct refusal_Counted){.tag = refusal_Counted_Refused, .u.Refused = t5.u.Refused};
-    }
-    if (51202 < intervals.len) {
-        return (struct refusal_Counted){.tag = refusal_Counted_Refused, .u.Refused = {.tag = refusal_Refusal_TooLong}};
-    }
-    return codec_reader_read_strip(p, intervals, out);
-}
-
-/*
- * codec::windows::window_table, crates/codec/src/windows.rt
- * At 2 × the window the first length, and behind it the last. A name tells whether the cell before is short or longer,
- * the units of the cell, and whether the cell after is short or longer.
- */
-static struct array_u16_128 codec_windows_window_table(struct timing_Profile p) {
-    uint16_t s2s = lengths_table_length_between(p, 0, 0, 0).f0;
-    uint16_t s2l = lengths_table_length_between(p, 0, 0, 1).f0;
-    uint16_t s3s = lengths_table_length_between(p, 0, 1, 0).f0;
-    uint16_t s3l = lengths_table_length_between(p, 0, 1, 1).f0;
-    uint16_t s4s = lengths_table_length_between(p, 0, 2, 0).f0;
-    uint16_t s4l = lengths_table_length_between(p, 0, 2, 1).f0;
-    uint16_t l2s = lengths_table_length_between(p, 1, 0, 0).f0;
-    uint16_t l2l = lengths_table_length_between(p, 1, 0, 1).f0;
-    uint16_t l3s = lengths_table_length_between(p, 1, 1, 0).f0;
-    uint16_t l3l = lengths_table_length_between(p, 1, 1, 1).f0;
-    uint16_t l4s = lengths_table_length_between(p, 1, 2, 0).f0;
-    uint16_t l4l = lengths_table_length_between(p, 1, 2, 1).f0;
-    struct array_u16_128 result = {{s2s, s2s, s2s, s2l, s2l, s3l, s2l, s3s, s3l, s3l, s3l, s3l, s3s, l2l, s3s, l2s, l3s,
-            l3s, l3l, l3l, l4l, l4l, l4s, l4s, l2l, l2l, l2l, l2l, l2s, s2l, l2s, s2s, l3s, l2s, l3s, l2l, l3l, l3l,
-            l3l, l3s, l4l, l4l, l4l, l4l, l4s, l2l, l4s, l2s, s3s, s3s, s3l, s3l, s4l, s4l, s4s, s4s, s2l, s2l, s2l,
-            s2l, s2s, s2l, s2s, s2s, l2s, s2s, l2s, s2l, l2l, s3l, l2l, s3s, l3l, l3l, l3l, l3l, l3s, l2l, l3s, l2s,
-            l3s, l3s, l3l, l3l, l4l, l4l, l4s, l4s, l2l, l2l, l2l, l2l, l2s, s2l, l2s, s2s, s3s, l2s, s3s, l2l, s3l,
-            l3l, s3l, l3s, s4l, s4l, s4l, s4l, s4s, l2l, s4s, l2s, s3s, s3s, s3l, s3l, s4l, s4l, s4s, s4s, s2l, s2l,
-            s2l, s2l, s2s, s2l, s2s, s2s}};
-    return result;
-}
-
-/* codec::writer::write_run, crates/codec/src/writer.rt: A run of bytes, and the check order behind it. */
-static struct codec_writer_Part codec_writer_write_run(const struct array_u16_128 *table,
-        struct codec_writer_Part start, struct slice_u16 run, struct slice_u16_mut out) {
-    struct items_Check check = items_Check_after_bytes(start.check, run);
-    struct codec_pen_Pen pen = codec_pen_draw_bytes(table, start.pen, run, out);
-    uint16_t t10 = items_Check_high(check);
-    struct array_u16_2 bytes = {{t10, items_Check_low(check)}};
-    struct codec_pen_Pen t12 = codec_pen_draw_bytes(table, pen, slice_u16(bytes.a, 2), out);
-    return (struct codec_writer_Part){.pen = t12, .check = items_Check_after_check(check)};
-}
-
-/*
- * codec::writer::write_items, crates/codec/src/writer.rt
- * Run by run, so that a check order finds the register as it is then. Behind the last no register is asked for.
- */
-static struct codec_pen_Pen codec_writer_write_items(const struct array_u16_128 *table, struct slice_u16 items,
-        struct slice_u16_mut out) {
-    struct codec_writer_Part part = {.pen = {.previous = 0, .cells = 0}, .check = items_Check_fresh()};
-    uint64_t from = 0;
-    uint64_t run = items_list_find_check(items);
-    while (run < items.len - from) {
-        uint64_t end = from + run;
-        part = codec_writer_write_run(table, part, slice_u16(items.at + from, end - from), out);
-        from = end + 1;
-        run = items_list_find_check(slice_u16(items.at + from, items.len - from));
-    }
-    return codec_pen_draw_bytes(table, part.pen, slice_u16(items.at + from, items.len - from), out);
-}
-
-/*
- * codec::writer::write_stream, crates/codec/src/writer.rt
- * The stream of a list, where it has room. Answers its length.
- */
-static uint64_t codec_writer_write_stream(struct timing_Profile p, struct slice_u16 items, struct slice_u16_mut out) {
-    struct array_u16_128 table = codec_windows_window_table(p);
-    struct codec_pen_Pen pen = codec_writer_write_items(&table, items, out);
-    return codec_pen_draw_closing(&table, pen, out);
-}
-
-/*
- * codec::writer::write_list, crates/codec/src/writer.rt
- * An accepted list under an accepted profile: 9, or its stream.
- */
-static struct refusal_Counted codec_writer_write_list(struct timing_Profile p, struct slice_u16 items,
-        struct slice_u16_mut out) {
-    uint64_t bytes = items_list_written_bytes(items);
-    if (codec_writer_has_room(items, bytes, out.len)) {
-        uint64_t count = codec_writer_write_stream(p, items, out);
-        return (struct refusal_Counted){.tag = refusal_Counted_Count, .u.Count = count};
-    }
-    return (struct refusal_Counted){.tag = refusal_Counted_Refused,
-            .u.Refused = {.tag = refusal_Refusal_OutputTooShort}};
-}
-
-/*
- * codec::writer::write, crates/codec/src/writer.rt
- * A list of items as intervals: 1, 2, 4, 3, 9, or the number of intervals stored.
- */
-static struct refusal_Counted codec_writer_write(struct timing_Profile p, struct slice_u16 items,
-        struct slice_u16_mut out) {
-    struct refusal_Verdict t6 = timing_rule_check(p);
-    if (t6.tag == refusal_Verdict_Refused) {
-        return (struct refusal_Counted){.tag = refusal_Counted_Refused, .u.Refused = t6.u.Refused};
-    }
-    struct refusal_Verdict t8 = items_list_check_list(items);
-    if (t8.tag == refusal_Verdict_Refused) {
-        return (struct refusal_Counted){.tag = refusal_Counted_Refused, .u.Refused = t8.u.Refused};
-    }
-    return codec_writer_write_list(p, items, out);
-}
-
 /* The crate clearance */
-
-/*
- * clearance::masks::below, crates/clearance/src/masks.rt
- * All ones where a number is below another, by what their difference borrows: a compare becomes a jump in a loop whose
- * next turn waits for it.
- */
-static uint16_t clearance_masks_below(uint16_t a, uint16_t b) {
-    return (uint16_t)(std_num_wrapping_sub_u32((uint32_t)a, (uint32_t)b) >> 16);
-}
-
-/* clearance::masks::chosen, crates/clearance/src/masks.rt */
-static struct timing_HalfClocks clearance_masks_chosen(uint16_t mask, struct timing_HalfClocks short_,
-        struct timing_HalfClocks long_) {
-    uint16_t change = std_num_wrapping_sub_u16(short_.f0, long_.f0);
-    return (struct timing_HalfClocks){.f0 = std_num_wrapping_add_u16(long_.f0, change & mask)};
-}
-
-/*
- * clearance::masks::bounds_by, crates/clearance/src/masks.rt
- * The bounds behind an interval of this mask, each chosen by itself.
- */
-static struct timing_Bounds clearance_masks_bounds_by(uint16_t mask, struct timing_Bounds short_,
-        struct timing_Bounds long_) {
-    struct timing_HalfClocks t4 = clearance_masks_chosen(mask, short_.b23, long_.b23);
-    return (struct timing_Bounds){.b23 = t4, .b34 = clearance_masks_chosen(mask, short_.b34, long_.b34)};
-}
-
-/* clearance::masks::behind_mask, crates/clearance/src/masks.rt */
-static struct timing_cursor_Cursor clearance_masks_behind_mask(struct timing_cursor_Cursor cursor, uint16_t mask) {
-    struct timing_Bounds short_ = cursor.short_;
-    struct timing_Bounds long_ = cursor.long_;
-    struct timing_cursor_Cursor next = cursor;
-    next.bounds = clearance_masks_bounds_by(mask, short_, long_);
-    return next;
-}
-
-/* clearance::extremes::lesser, crates/clearance/src/extremes.rt */
-static uint16_t clearance_extremes_lesser(uint16_t a, uint16_t b) {
-    if (b < a) return b;
-    return a;
-}
-
-/*
- * clearance::extremes::above, crates/clearance/src/extremes.rt
- * How much a number is above another; 0 where it is not.
- */
-static uint16_t clearance_extremes_above(uint16_t a, uint16_t b) {
-    return a - clearance_extremes_lesser(a, b);
-}
-
-/* clearance::masks::mask_in, crates/clearance/src/masks.rt: Of an interval where the classing stands. */
-static uint16_t clearance_masks_mask_in(struct timing_cursor_Cursor cursor, uint16_t interval) {
-    uint16_t past = std_num_wrapping_sub_u16(interval, cursor.min.f0);
-    return clearance_masks_below(past, cursor.bounds.b23.f0 - cursor.min.f0);
-}
-
-/* clearance::masks::fill_in_turn, crates/clearance/src/masks.rt: One after the other. */
-static void clearance_masks_fill_in_turn(struct timing_cursor_Cursor start, struct slice_u16 intervals,
-        struct slice_u16_mut masks) {
-    struct timing_cursor_Cursor cursor = start;
-    uint64_t k = 0;
-    while (k < intervals.len) {
-        uint16_t mask = clearance_masks_mask_in(cursor, intervals.at[k]);
-        masks.at[k] = mask;
-        cursor = clearance_masks_behind_mask(cursor, mask);
-        k++;
-    }
-}
-
-/* clearance::masks::mask_of, crates/clearance/src/masks.rt */
-static uint16_t clearance_masks_mask_of(bool two) {
-    return std_num_wrapping_sub_u16(0, (uint16_t)two);
-}
-
-/* clearance::masks::fill_alike, crates/clearance/src/masks.rt: All where the classing stands the same. */
-static void clearance_masks_fill_alike(struct timing_cursor_Cursor cursor, struct slice_u16 intervals,
-        struct slice_u16_mut masks) {
-    uint64_t k = 0;
-    while (k < intervals.len) {
-        masks.at[k] = clearance_masks_mask_of(timing_cursor_Cursor_meets_two(cursor, intervals.at[k]));
-        k++;
-    }
-}
-
-/*
- * clearance::masks::fill, crates/clearance/src/masks.rt
- * Of a block that has some. Where no interval lies between the two B23, what stands before one does not matter, but
- * for the first, which goes by the cursor.
- */
-static void clearance_masks_fill(struct timing_cursor_Cursor cursor, struct slice_u16 intervals,
-        struct slice_u16_mut masks) {
-    if (intervals_units_all_sure(cursor.short_, cursor.long_, intervals)) {
-        clearance_masks_fill_alike(timing_cursor_Cursor_behind(cursor, true), intervals, masks);
-        masks.at[0] = clearance_masks_mask_in(cursor, intervals.at[0]);
-        return;
-    }
-    clearance_masks_fill_in_turn(cursor, intervals, masks);
-}
 
 /* clearance::extremes::Extremes::none, crates/clearance/src/extremes.rt: Before any interval. */
 static struct clearance_extremes_Extremes clearance_extremes_Extremes_none(void) {
@@ -4582,7 +4318,7 @@ static struct clearance_extremes_Extremes clearance_extremes_Extremes_none(void)
  * it.
  */
 static uint16_t clearance_extremes_turned(uint16_t x) {
-    return std_num_wrapping_add_u16(x, 32768);
+    return core_num_wrapping_add_u16(x, 32768);
 }
 
 /* clearance::extremes::first, crates/clearance/src/extremes.rt */
@@ -4604,7 +4340,7 @@ static uint16_t clearance_extremes_last(uint16_t a, uint16_t b) {
  * How far an interval is past a bound, in that order: first those from the bound up, last the one just below it.
  */
 static uint16_t clearance_extremes_past(uint16_t bound, uint16_t interval) {
-    return std_num_wrapping_sub_u16(interval, clearance_extremes_turned(bound));
+    return core_num_wrapping_sub_u16(interval, clearance_extremes_turned(bound));
 }
 
 /*
@@ -4641,46 +4377,88 @@ static struct clearance_extremes_Extremes clearance_blocks_extremes_alike(struct
     return (struct clearance_extremes_Extremes){.shortest = shortest, .longest = longest, .from = from, .below = below};
 }
 
-/*
- * clearance::blocks::extremes_by, crates/clearance/src/blocks.rt
- * Each between the bounds for the mask of the one before it.
- */
-static struct clearance_extremes_Extremes clearance_blocks_extremes_by(struct clearance_extremes_Extremes start,
-        struct timing_Bounds short_, struct timing_Bounds long_, struct slice_u16 intervals, struct slice_u16 masks) {
-    uint16_t shortest = start.shortest;
-    uint16_t longest = start.longest;
-    uint16_t from = start.from;
-    uint16_t below = start.below;
+/* clearance::masks::mask_of, crates/clearance/src/masks.rt */
+static uint16_t clearance_masks_mask_of(bool two) {
+    return core_num_wrapping_sub_u16(0, (uint16_t)two);
+}
+
+/* clearance::masks::fill_alike, crates/clearance/src/masks.rt: All where the classing stands the same. */
+static void clearance_masks_fill_alike(struct timing_cursor_Cursor cursor, struct slice_u16 intervals,
+        struct slice_u16_mut masks) {
     uint64_t k = 0;
     while (k < intervals.len) {
-        uint16_t interval = intervals.at[k];
-        struct timing_Bounds bounds = clearance_masks_bounds_by(masks.at[k], short_, long_);
-        shortest = clearance_extremes_first(shortest, interval);
-        longest = clearance_extremes_last(longest, interval);
-        from = clearance_extremes_first(from, clearance_extremes_first_past(bounds, interval));
-        below = clearance_extremes_last(below, clearance_extremes_last_past(bounds, interval));
+        masks.at[k] = clearance_masks_mask_of(timing_cursor_Cursor_meets_two(cursor, intervals.at[k]));
         k++;
     }
-    return (struct clearance_extremes_Extremes){.shortest = shortest, .longest = longest, .from = from, .below = below};
 }
 
 /*
- * clearance::extremes::room, crates/clearance/src/extremes.rt
- * How far the places of a first and a last number are inside two others; 0 where one is outside.
+ * clearance::masks::below, crates/clearance/src/masks.rt
+ * All ones where a number is below another, by what their difference borrows: a compare becomes a jump in a loop whose
+ * next turn waits for it.
  */
-static uint16_t clearance_extremes_room(uint16_t from, uint16_t to, uint16_t first, uint16_t last) {
-    uint16_t t5 = clearance_extremes_above(clearance_extremes_turned(first), from);
-    return clearance_extremes_lesser(t5, clearance_extremes_above(to, clearance_extremes_turned(last)));
+static uint16_t clearance_masks_below(uint16_t a, uint16_t b) {
+    return (uint16_t)(core_num_wrapping_sub_u32((uint32_t)a, (uint32_t)b) >> 16);
+}
+
+/* clearance::masks::mask_in, crates/clearance/src/masks.rt: Of an interval where the classing stands. */
+static uint16_t clearance_masks_mask_in(struct timing_cursor_Cursor cursor, uint16_t interval) {
+    uint16_t past = core_num_wrapping_sub_u16(interval, cursor.min.f0);
+    return clearance_masks_below(past, cursor.bounds.b23.f0 - cursor.min.f0);
+}
+
+/* clearance::masks::chosen, crates/clearance/src/masks.rt */
+static struct timing_HalfClocks clearance_masks_chosen(uint16_t mask, struct timing_HalfClocks short_,
+        struct timing_HalfClocks long_) {
+    uint16_t change = core_num_wrapping_sub_u16(short_.f0, long_.f0);
+    return (struct timing_HalfClocks){.f0 = core_num_wrapping_add_u16(long_.f0, change & mask)};
 }
 
 /*
- * clearance::extremes::Extremes::least, crates/clearance/src/extremes.rt
- * The least clearance of the intervals met. Where one is narrow or wide, it is 0 by the shortest or the longest.
+ * clearance::masks::bounds_by, crates/clearance/src/masks.rt
+ * The bounds behind an interval of this mask, each chosen by itself.
  */
-static uint16_t clearance_extremes_Extremes_least(struct clearance_extremes_Extremes self, uint16_t min, uint16_t rpt) {
-    uint16_t t5 = clearance_extremes_turned(min);
-    uint16_t outer = clearance_extremes_room(t5, clearance_extremes_turned(rpt - 1), self.shortest, self.longest);
-    return clearance_extremes_lesser(outer, clearance_extremes_room(0, 65535, self.from, self.below));
+static struct timing_Bounds clearance_masks_bounds_by(uint16_t mask, struct timing_Bounds short_,
+        struct timing_Bounds long_) {
+    struct timing_HalfClocks t4 = clearance_masks_chosen(mask, short_.b23, long_.b23);
+    return (struct timing_Bounds){.b23 = t4, .b34 = clearance_masks_chosen(mask, short_.b34, long_.b34)};
+}
+
+/* clearance::masks::behind_mask, crates/clearance/src/masks.rt */
+static struct timing_cursor_Cursor clearance_masks_behind_mask(struct timing_cursor_Cursor cursor, uint16_t mask) {
+    struct timing_Bounds short_ = cursor.short_;
+    struct timing_Bounds long_ = cursor.long_;
+    struct timing_cursor_Cursor next = cursor;
+    next.bounds = clearance_masks_bounds_by(mask, short_, long_);
+    return next;
+}
+
+/* clearance::masks::fill_in_turn, crates/clearance/src/masks.rt: One after the other. */
+static void clearance_masks_fill_in_turn(struct timing_cursor_Cursor start, struct slice_u16 intervals,
+        struct slice_u16_mut masks) {
+    struct timing_cursor_Cursor cursor = start;
+    uint64_t k = 0;
+    while (k < intervals.len) {
+        uint16_t mask = clearance_masks_mask_in(cursor, intervals.at[k]);
+        masks.at[k] = mask;
+        cursor = clearance_masks_behind_mask(cursor, mask);
+        k++;
+    }
+}
+
+/*
+ * clearance::masks::fill, crates/clearance/src/masks.rt
+ * Of a block that has some. Where no interval lies between the two B23, what stands before one does not matter, but
+ * for the first, which goes by the cursor.
+ */
+static void clearance_masks_fill(struct timing_cursor_Cursor cursor, struct slice_u16 intervals,
+        struct slice_u16_mut masks) {
+    if (intervals_units_all_sure(cursor.short_, cursor.long_, intervals)) {
+        clearance_masks_fill_alike(timing_cursor_Cursor_behind(cursor, true), intervals, masks);
+        masks.at[0] = clearance_masks_mask_in(cursor, intervals.at[0]);
+        return;
+    }
+    clearance_masks_fill_in_turn(cursor, intervals, masks);
 }
 
 /*
@@ -4706,6 +4484,29 @@ static struct clearance_seen_Seen clearance_seen_Seen_past(struct clearance_seen
 }
 
 /*
+ * clearance::blocks::extremes_by, crates/clearance/src/blocks.rt
+ * Each between the bounds for the mask of the one before it.
+ */
+static struct clearance_extremes_Extremes clearance_blocks_extremes_by(struct clearance_extremes_Extremes start,
+        struct timing_Bounds short_, struct timing_Bounds long_, struct slice_u16 intervals, struct slice_u16 masks) {
+    uint16_t shortest = start.shortest;
+    uint16_t longest = start.longest;
+    uint16_t from = start.from;
+    uint16_t below = start.below;
+    uint64_t k = 0;
+    while (k < intervals.len) {
+        uint16_t interval = intervals.at[k];
+        struct timing_Bounds bounds = clearance_masks_bounds_by(masks.at[k], short_, long_);
+        shortest = clearance_extremes_first(shortest, interval);
+        longest = clearance_extremes_last(longest, interval);
+        from = clearance_extremes_first(from, clearance_extremes_first_past(bounds, interval));
+        below = clearance_extremes_last(below, clearance_extremes_last_past(bounds, interval));
+        k++;
+    }
+    return (struct clearance_extremes_Extremes){.shortest = shortest, .longest = longest, .from = from, .below = below};
+}
+
+/*
  * clearance::seen::Seen::by_masks, crates/clearance/src/seen.rt
  * With a block that has some, by its masks: the first interval goes by the cursor, each other by the one before it.
  */
@@ -4715,9 +4516,9 @@ static struct clearance_seen_Seen clearance_seen_Seen_by_masks(struct clearance_
     struct clearance_seen_Seen first = clearance_seen_Seen_past(self, intervals.at[0]);
     struct clearance_extremes_Extremes extremes = first.extremes;
     uint16_t last = masks.at[masks.len - 1];
-    struct slice_u16 t17 = slice_u16(intervals.at + 1, intervals.len - 1);
+    struct slice_u16 t19 = slice_u16(intervals.at + 1, intervals.len - 1);
     struct clearance_extremes_Extremes t14 =
-            clearance_blocks_extremes_by(extremes, cursor.short_, cursor.long_, t17, masks);
+            clearance_blocks_extremes_by(extremes, cursor.short_, cursor.long_, t19, masks);
     return (struct clearance_seen_Seen){.extremes = t14, .cursor = timing_cursor_Cursor_behind(cursor, last == 65535)};
 }
 
@@ -4765,6 +4566,39 @@ static struct clearance_seen_Seen clearance_seen_Seen_with_all(struct clearance_
                 .cursor = cursor};
     }
     return clearance_seen_Seen_all(self, intervals);
+}
+
+/* clearance::extremes::lesser, crates/clearance/src/extremes.rt */
+static uint16_t clearance_extremes_lesser(uint16_t a, uint16_t b) {
+    if (b < a) return b;
+    return a;
+}
+
+/*
+ * clearance::extremes::above, crates/clearance/src/extremes.rt
+ * How much a number is above another; 0 where it is not.
+ */
+static uint16_t clearance_extremes_above(uint16_t a, uint16_t b) {
+    return a - clearance_extremes_lesser(a, b);
+}
+
+/*
+ * clearance::extremes::room, crates/clearance/src/extremes.rt
+ * How far the places of a first and a last number are inside two others; 0 where one is outside.
+ */
+static uint16_t clearance_extremes_room(uint16_t from, uint16_t to, uint16_t first, uint16_t last) {
+    uint16_t t5 = clearance_extremes_above(clearance_extremes_turned(first), from);
+    return clearance_extremes_lesser(t5, clearance_extremes_above(to, clearance_extremes_turned(last)));
+}
+
+/*
+ * clearance::extremes::Extremes::least, crates/clearance/src/extremes.rt
+ * The least clearance of the intervals met. Where one is narrow or wide, it is 0 by the shortest or the longest.
+ */
+static uint16_t clearance_extremes_Extremes_least(struct clearance_extremes_Extremes self, uint16_t min, uint16_t rpt) {
+    uint16_t t5 = clearance_extremes_turned(min);
+    uint16_t outer = clearance_extremes_room(t5, clearance_extremes_turned(rpt - 1), self.shortest, self.longest);
+    return clearance_extremes_lesser(outer, clearance_extremes_room(0, 65535, self.from, self.below));
 }
 
 /*
@@ -4829,16 +4663,264 @@ static struct clearance_ClearFieldRead clearance_read_field(struct timing_Profil
             .clearance = clearance_least_of_list(p, slice_u16(intervals.at, used))};
 }
 
-/* The crate limits */
+/* The crate pace */
 
-/* limits::side::bounds, crates/limits/src/side.rt */
-static struct timing_Bounds limits_side_bounds(struct timing_Profile p, struct limits_side_Kind after) {
-    switch (after.tag) {
-    case limits_side_Kind_Both: return p.short_;
-    case limits_side_Kind_Short: return p.short_;
-    default: return p.long_; /* limits_side_Kind_Long */
+/* pace::Pace::measured, crates/pace/src/lib.rt: Of 64 intervals. */
+static struct pace_Pace pace_Pace_measured(struct timing_HalfClocks t1, struct slice_u16 run) {
+    uint32_t even = 0;
+    uint32_t odd = 0;
+    uint64_t k = 0;
+    while (k < 64) {
+        even += (uint32_t)run.at[k];
+        odd += (uint32_t)run.at[k + 1];
+        k += 2;
+    }
+    return (struct pace_Pace){.nominal = 32 * (uint32_t)t1.f0, .even = even, .odd = odd};
+}
+
+/* pace::off_speed, crates/pace/src/lib.rt: 16 × the difference, sign dropped, exceeds 32 × T1. */
+static bool pace_off_speed(uint32_t nominal, uint32_t sum) {
+    if (sum < nominal) return nominal < 16 * (nominal - sum);
+    return nominal < 16 * (sum - nominal);
+}
+
+/* pace::Pace::check, crates/pace/src/lib.rt: 18, off speed: the even ones, then the odd. */
+static struct refusal_Verdict pace_Pace_check(struct pace_Pace self) {
+    if (pace_off_speed(self.nominal, self.even)) {
+        return (struct refusal_Verdict){.tag = refusal_Verdict_Refused,
+                .u.Refused = {.tag = refusal_Refusal_OffSpeed, .u.OffSpeed = 0}};
+    }
+    if (pace_off_speed(self.nominal, self.odd)) {
+        return (struct refusal_Verdict){.tag = refusal_Verdict_Refused,
+                .u.Refused = {.tag = refusal_Refusal_OffSpeed, .u.OffSpeed = 1}};
+    }
+    return (struct refusal_Verdict){.tag = refusal_Verdict_Accepted};
+}
+
+/* pace::corrected, crates/pace/src/lib.rt: An interval at the pace of a sum, cut off. */
+static uint16_t pace_corrected(uint32_t nominal, uint32_t sum, uint16_t interval) {
+    uint32_t number = ((uint32_t)interval * nominal) / sum;
+    if (65535 < number) return 65535;
+    return (uint16_t)number;
+}
+
+/* pace::Pace::correct, crates/pace/src/lib.rt: Intervals of which the first is even: the two sums take turns. */
+static void pace_Pace_correct(struct pace_Pace self, struct slice_u16 intervals, struct slice_u16_mut out) {
+    uint32_t nominal = self.nominal;
+    uint32_t own = self.even;
+    uint32_t other = self.odd;
+    uint64_t k = 0;
+    while (k < intervals.len) {
+        out.at[k] = pace_corrected(nominal, own, intervals.at[k]);
+        uint32_t next = other;
+        other = own;
+        own = next;
+        k++;
     }
 }
+
+/* pace::difference, crates/pace/src/lib.rt: The signed difference of a sum to 32 × T1. */
+static uint32_t pace_difference(uint32_t nominal, uint32_t sum) {
+    return (uint32_t)((uint32_t)sum - (uint32_t)nominal);
+}
+
+/* The crate speed */
+
+/* speed::reader::turn_away, crates/speed/src/reader.rt */
+static struct speed_reader_Corrected speed_reader_turn_away(struct refusal_Refusal refusal) {
+    return (struct speed_reader_Corrected){.read = {.tag = fields_reader_FieldRead_Refused, .u.Refused = refusal},
+            .clearance = 0, .lock = 0, .even = 0, .odd = 0};
+}
+
+/*
+ * speed::reader::with_clearance, crates/speed/src/reader.rt
+ * A field comes with its clearance, a refusal without.
+ */
+static struct clearance_ClearFieldRead speed_reader_with_clearance(struct fields_reader_FieldRead read,
+        uint16_t clearance) {
+    if (read.tag == fields_reader_FieldRead_Refused) {
+        return (struct clearance_ClearFieldRead){.read = {.tag = fields_reader_FieldRead_Refused,
+                .u.Refused = read.u.Refused}, .clearance = 0};
+    }
+    return (struct clearance_ClearFieldRead){.read = {.tag = fields_reader_FieldRead_Field,
+            .u.Field = {.count = read.u.Field.count, .used = read.u.Field.used, .holds = read.u.Field.holds}},
+            .clearance = clearance};
+}
+
+/* speed::gather::Along::start, crates/speed/src/gather.rt: Before the first interval. */
+static struct speed_gather_Along speed_gather_Along_start(struct timing_Profile p) {
+    struct passes_block_Progress t2 = passes_block_Progress_start(p);
+    struct items_Check t3 = items_Check_fresh();
+    struct clearance_extremes_Extremes t5 = clearance_extremes_Extremes_none();
+    return (struct speed_gather_Along){.at = t2, .check = t3, .edges = {.tag = refusal_Verdict_Accepted},
+            .seen = {.extremes = t5, .cursor = timing_cursor_Cursor_start(p)}};
+}
+
+/*
+ * speed::gather::read_block, crates/speed/src/gather.rt
+ * The intervals of a block, read: their items through the register, and to their places.
+ */
+static struct speed_gather_BlockRead speed_gather_read_block(struct passes_block_Progress start,
+        struct items_Check check, struct slice_u16 block, uint32_t n, struct slice_u16_mut out) {
+    struct array_u8_64 units = {0};
+    struct array_u16_17 words = {0};
+    uint32_t done = start.pass.reading.words;
+    uint64_t length = block.len;
+    struct passes_block_Progress at =
+            passes_block_pass_block(start, block, slice_u8_mut(units.a, length), n, 0, slice_u16_mut(words.a, 17));
+    uint64_t count = (uint64_t)(at.pass.reading.words - done);
+    struct items_Check check_2 = fields_gather_sum_up(check, slice_u16_mut(words.a, count), (uint64_t)done, out);
+    return (struct speed_gather_BlockRead){.at = at, .check = check_2};
+}
+
+/*
+ * speed::gather::edges_after, crates/speed/src/gather.rt
+ * The first interval that is no cell, in all before or in these.
+ */
+static struct refusal_Verdict speed_gather_edges_after(struct refusal_Verdict before, struct timing_cursor_Cursor start,
+        uint64_t from, struct slice_u16 intervals) {
+    if (before.tag == refusal_Verdict_Refused) {
+        return (struct refusal_Verdict){.tag = refusal_Verdict_Refused, .u.Refused = before.u.Refused};
+    }
+    return intervals_edges_check_edges_from(start, from, intervals);
+}
+
+/* speed::gather::Along::next, crates/speed/src/gather.rt: With a block more. */
+static struct speed_gather_Along speed_gather_Along_next(struct speed_gather_Along self, struct slice_u16 block,
+        uint32_t n, struct slice_u16_mut out) {
+    struct passes_block_Progress start = self.at;
+    struct refusal_Verdict edges = self.edges;
+    struct clearance_seen_Seen seen = self.seen;
+    struct timing_cursor_Cursor cursor = start.cursor;
+    uint64_t from = start.pass.used;
+    struct speed_gather_BlockRead read = speed_gather_read_block(start, self.check, block, n, out);
+    struct passes_block_Progress at = read.at;
+    struct items_Check check = read.check;
+    uint64_t used = at.pass.used - from;
+    struct refusal_Verdict t17 = speed_gather_edges_after(edges, cursor, from, slice_u16(block.at, used));
+    return (struct speed_gather_Along){.at = at, .check = check, .edges = t17,
+            .seen = clearance_seen_Seen_with_all(seen, slice_u16(block.at, used))};
+}
+
+/* speed::gather::Along::advance, crates/speed/src/gather.rt: With the next block of a list, corrected. */
+static struct speed_gather_Along speed_gather_Along_advance(struct speed_gather_Along self, struct pace_Pace pace,
+        struct slice_u16 intervals, uint32_t n, struct slice_u16_mut out) {
+    struct array_u16_64 block = {0};
+    uint64_t from = self.at.pass.used;
+    uint64_t count = lists_at_most(64, intervals.len - from);
+    pace_Pace_correct(pace, slice_u16(intervals.at + from, from + count - from), slice_u16_mut(block.a, count));
+    return speed_gather_Along_next(self, slice_u16(block.a, count), n, out);
+}
+
+/*
+ * speed::gather::pass_over, crates/speed/src/gather.rt
+ * One pass over the corrected intervals of n bytes, each taken as a cell.
+ */
+static struct speed_gather_Along speed_gather_pass_over(struct timing_Profile p, struct pace_Pace pace,
+        struct slice_u16 intervals, uint32_t n, struct slice_u16_mut out) {
+    struct speed_gather_Along along = speed_gather_Along_start(p);
+    while (passes_block_Progress_goes_on(along.at, n, intervals.len)) {
+        along = speed_gather_Along_advance(along, pace, intervals, n, out);
+    }
+    return along;
+}
+
+/*
+ * speed::gather::gather, crates/speed/src/gather.rt
+ * A field of n bytes. An interval among the used ones that is no cell comes before all else.
+ */
+static struct speed_gather_Gathered speed_gather_gather(struct timing_Profile p, struct pace_Pace pace,
+        struct slice_u16 intervals, uint32_t n, struct slice_u16_mut out) {
+    struct speed_gather_Along along = speed_gather_pass_over(p, pace, intervals, n, out);
+    struct shifts_Pass pass = along.at.pass;
+    bool holds = along.check.register_ == 0;
+    struct refusal_Verdict edges = along.edges;
+    if (edges.tag == refusal_Verdict_Refused) {
+        return (struct speed_gather_Gathered){.end = {.tag = refusal_Counted_Refused, .u.Refused = edges.u.Refused},
+                .holds = holds, .clearance = 0};
+    }
+    struct refusal_Counted t15 = fields_gather_conclude(pass.reading, pass.used, n);
+    return (struct speed_gather_Gathered){.end = t15, .holds = holds,
+            .clearance = clearance_extremes_Extremes_least(along.seen.extremes, p.min.f0, p.rpt.f0)};
+}
+
+/*
+ * speed::reader::read_into, crates/speed/src/reader.rt
+ * The items wait in a buffer, as a refusal changes nothing that was lent.
+ */
+static struct clearance_ClearFieldRead speed_reader_read_into(struct timing_Profile p, struct pace_Pace pace,
+        struct slice_u16 intervals, uint64_t n, struct slice_u16_mut buffer, struct slice_u16_mut out) {
+    struct speed_gather_Gathered gathered = speed_gather_gather(p, pace, intervals, (uint32_t)n, buffer);
+    struct refusal_Counted end = gathered.end;
+    if (end.tag == refusal_Counted_Refused) {
+        struct fields_reader_FieldRead t16 = {.tag = fields_reader_FieldRead_Refused, .u.Refused = end.u.Refused};
+        return speed_reader_with_clearance(t16, 0);
+    }
+    struct fields_reader_FieldRead read =
+            fields_reader_deliver(slice_u16(buffer.at, n), end.u.Count, gathered.holds, out);
+    return speed_reader_with_clearance(read, gathered.clearance);
+}
+
+/* speed::reader::read_checked, crates/speed/src/reader.rt: A short field has a short buffer. */
+static struct clearance_ClearFieldRead speed_reader_read_checked(struct timing_Profile p, struct pace_Pace pace,
+        struct slice_u16 intervals, uint64_t n, struct slice_u16_mut out) {
+    if (n <= 16) {
+        struct array_u16_16 buffer = {0};
+        return speed_reader_read_into(p, pace, intervals, n, slice_u16_mut(buffer.a, 16), out);
+    }
+    struct array_u16_1030 buffer_2 = {0};
+    return speed_reader_read_into(p, pace, intervals, n, slice_u16_mut(buffer_2.a, 1030), out);
+}
+
+/*
+ * speed::reader::read_slowed, crates/speed/src/reader.rt
+ * 12, then as the field reader over the corrected intervals.
+ */
+static struct clearance_ClearFieldRead speed_reader_read_slowed(struct timing_Profile p, struct pace_Pace pace,
+        struct slice_u16 intervals, uint64_t n, struct slice_u16_mut out) {
+    if ((n < 1) | (1030 < n)) {
+        struct fields_reader_FieldRead t10 =
+                {.tag = fields_reader_FieldRead_Refused, .u.Refused = {.tag = refusal_Refusal_CountOutOfRange}};
+        return speed_reader_with_clearance(t10, 0);
+    }
+    return speed_reader_read_checked(p, pace, intervals, n, out);
+}
+
+/* speed::reader::told, crates/speed/src/reader.rt: A field with the lock's place and the differences. */
+static struct speed_reader_Corrected speed_reader_told(struct pace_Pace pace, uint64_t lock,
+        struct clearance_ClearFieldRead field) {
+    struct fields_reader_FieldRead read = field.read;
+    if (read.tag == fields_reader_FieldRead_Refused) return speed_reader_turn_away(read.u.Refused);
+    uint32_t t11 = pace_difference(pace.nominal, pace.even);
+    return (struct speed_reader_Corrected){.read = {.tag = fields_reader_FieldRead_Field,
+            .u.Field = {.count = read.u.Field.count, .used = read.u.Field.used, .holds = read.u.Field.holds}},
+            .clearance = field.clearance, .lock = lock, .even = t11, .odd = pace_difference(pace.nominal, pace.odd)};
+}
+
+/* speed::reader::read_at, crates/speed/src/reader.rt: At a lock: 18, then as the field reader. */
+static struct speed_reader_Corrected speed_reader_read_at(struct timing_Profile p, struct slice_u16 intervals,
+        uint64_t lock, uint64_t n, struct slice_u16_mut out) {
+    uint64_t t10 = lock - 64;
+    struct pace_Pace pace = pace_Pace_measured(p.t1, slice_u16(intervals.at + t10, lock - t10));
+    struct refusal_Verdict t16 = pace_Pace_check(pace);
+    if (t16.tag == refusal_Verdict_Refused) return speed_reader_turn_away(t16.u.Refused);
+    struct clearance_ClearFieldRead field =
+            speed_reader_read_slowed(p, pace, slice_u16(intervals.at + lock, intervals.len - lock), n, out);
+    return speed_reader_told(pace, lock, field);
+}
+
+/*
+ * speed::reader::read_corrected, crates/speed/src/reader.rt
+ * 1, 2, 10, 18, 12, then 5, 6 or 11 as first met, 8, 9; places of 5, 6 and 8 count from the lock.
+ */
+static struct speed_reader_Corrected speed_reader_read_corrected(struct timing_Profile p, struct slice_u16 intervals,
+        uint64_t start, uint64_t n, struct slice_u16_mut out) {
+    struct refusal_Counted t8 = locks_finder_find_lock(p, intervals, start);
+    if (t8.tag == refusal_Counted_Refused) return speed_reader_turn_away(t8.u.Refused);
+    return speed_reader_read_at(p, intervals, t8.u.Count, n, out);
+}
+
+/* The crate limits */
 
 /*
  * limits::side::counts, crates/limits/src/side.rt
@@ -4852,6 +4934,15 @@ static bool limits_side_counts(struct limits_side_Kind after, bool two) {
     }
 }
 
+/* limits::side::bounds, crates/limits/src/side.rt */
+static struct timing_Bounds limits_side_bounds(struct timing_Profile p, struct limits_side_Kind after) {
+    switch (after.tag) {
+    case limits_side_Kind_Both: return p.short_;
+    case limits_side_Kind_Short: return p.short_;
+    default: return p.long_; /* limits_side_Kind_Long */
+    }
+}
+
 /* limits::side::edge_of, crates/limits/src/side.rt */
 static uint16_t limits_side_edge_of(struct timing_Profile p, struct limits_side_Edge edge,
         struct limits_side_Kind after) {
@@ -4862,24 +4953,6 @@ static uint16_t limits_side_edge_of(struct timing_Profile p, struct limits_side_
     case limits_side_Edge_B34: return pair.b34.f0;
     default: return p.rpt.f0; /* limits_side_Edge_Rpt */
     }
-}
-
-/* limits::side::beyond, crates/limits/src/side.rt: The first length on the other side of the edge. */
-static uint16_t limits_side_beyond(struct timing_Profile p, struct limits_side_Side s) {
-    struct limits_side_Edge edge = s.edge;
-    struct limits_side_Kind after = s.after;
-    uint16_t there = limits_side_edge_of(p, edge, after);
-    if (s.above) {
-        if (there < 1) return 0;
-        return there - 1;
-    }
-    return there;
-}
-
-/* limits::side::is_two, crates/limits/src/side.rt: Whether the next interval is of class 2. */
-static bool limits_side_is_two(struct timing_Profile p, bool two, uint16_t length) {
-    struct timing_Class class = timing_cursor_Cursor_step(timing_cursor_Cursor_after(p, two), length).class;
-    return timing_Class_number(class) == 2;
 }
 
 /*
@@ -4901,6 +4974,12 @@ static bool limits_side_crosses(struct timing_Profile p, struct limits_side_Side
     struct limits_side_Kind after = s.after;
     bool t8 = limits_side_counts(after, two);
     return t8 & limits_side_reaches(s.above, limits_side_edge_of(p, edge, after), n, length);
+}
+
+/* limits::side::is_two, crates/limits/src/side.rt: Whether the next interval is of class 2. */
+static bool limits_side_is_two(struct timing_Profile p, bool two, uint16_t length) {
+    struct timing_Class class = timing_cursor_Cursor_step(timing_cursor_Cursor_after(p, two), length).class;
+    return timing_Class_number(class) == 2;
 }
 
 /* limits::search::first_seen, crates/limits/src/search.rt: The first of some intervals that crosses. */
@@ -4944,6 +5023,18 @@ static struct limits_search_Seen limits_search_search(struct timing_Profile p, s
         item++;
     }
     return (struct limits_search_Seen){.tag = limits_search_Seen_Nowhere};
+}
+
+/* limits::side::beyond, crates/limits/src/side.rt: The first length on the other side of the edge. */
+static uint16_t limits_side_beyond(struct timing_Profile p, struct limits_side_Side s) {
+    struct limits_side_Edge edge = s.edge;
+    struct limits_side_Kind after = s.after;
+    uint16_t there = limits_side_edge_of(p, edge, after);
+    if (s.above) {
+        if (there < 1) return 0;
+        return there - 1;
+    }
+    return there;
 }
 
 /* limits::push, crates/limits/src/lib.rt: One side more: named with its evidence where some list shows it. */
@@ -5020,203 +5111,119 @@ static struct limits_Held limits_margin_limits(struct timing_Profile p) {
     return (struct limits_Held){.answer = {.tag = refusal_Counted_Count, .u.Count = found.count}, .limits = limits};
 }
 
-/* The crate speed */
+/* The crate best */
 
 /*
- * speed::gather::edges_after, crates/speed/src/gather.rt
- * The first interval that is no cell, in all before or in these.
+ * best::trial::trial, crates/best/src/trial.rt
+ * The five numbers with windows that are in range, so that `timing` can be asked about the five.
  */
-static struct refusal_Verdict speed_gather_edges_after(struct refusal_Verdict before, struct timing_cursor_Cursor start,
-        uint64_t from, struct slice_u16 intervals) {
-    if (before.tag == refusal_Verdict_Refused) {
-        return (struct refusal_Verdict){.tag = refusal_Verdict_Refused, .u.Refused = before.u.Refused};
+static struct timing_Profile best_trial_trial(struct best_Writing w) {
+    return (struct timing_Profile){.t1 = {.f0 = w.t1.f0}, .t0 = {.f0 = w.t0.f0}, .early = {.f0 = w.early.f0},
+            .normal = {.f0 = w.normal.f0}, .late = {.f0 = w.late.f0}, .min = {.f0 = 1},
+            .short_ = {.b23 = {.f0 = 1}, .b34 = {.f0 = 1}}, .long_ = {.b23 = {.f0 = 1}, .b34 = {.f0 = 1}},
+            .rpt = {.f0 = 1}};
+}
+
+/*
+ * best::trial::lowest_unset, crates/best/src/trial.rt
+ * Which of the five is the first out of range, from 1; 0 for none.
+ */
+static uint32_t best_trial_lowest_unset(struct best_Writing w) {
+    struct refusal_Verdict t3 = timing_rule_check(best_trial_trial(w));
+    if (t3.tag == refusal_Verdict_Accepted) return 0;
+    struct refusal_Refusal refusal = t3.u.Refused;
+    if (refusal_Refusal_number(refusal) == 1) return refusal_Refusal_place(refusal);
+    return 0;
+}
+
+/* best::windows::shifts_of, crates/best/src/windows.rt */
+static struct best_windows_Shifts best_windows_shifts_of(struct best_Writing w) {
+    struct timing_Profile p = best_trial_trial(w);
+    struct timing_HalfClocks t3 = timing_rule_swing(p);
+    struct timing_HalfClocks t4 = timing_rule_advance(p);
+    return (struct best_windows_Shifts){.d = t3.f0, .e = t4.f0, .l = timing_rule_delay(p).f0};
+}
+
+/* best::windows::has_windows, crates/best/src/windows.rt: Whether any windows are true. */
+static bool best_windows_has_windows(struct best_Writing w) {
+    struct best_windows_Shifts s = best_windows_shifts_of(w);
+    return (w.early.f0 <= w.normal.f0) & (w.normal.f0 <= w.late.f0) & (s.d < w.t1.f0) & (s.l < w.t0.f0);
+}
+
+/* best::windows::least, crates/best/src/windows.rt */
+static uint16_t best_windows_least(uint16_t a, uint16_t b) {
+    if (a < b) return a;
+    return b;
+}
+
+/* best::windows::best_margin, crates/best/src/windows.rt: The largest margin that any windows have. */
+static uint16_t best_windows_best_margin(struct best_Writing w) {
+    struct best_windows_Shifts s = best_windows_shifts_of(w);
+    return best_windows_least(w.t1.f0 - s.d - 1, (w.t0.f0 - s.l - 1) / 2);
+}
+
+/*
+ * best::windows::middle, crates/best/src/windows.rt
+ * The bound in the middle between the nearest lengths on its two sides; the lower of two.
+ */
+static uint16_t best_windows_middle(uint16_t below, uint16_t above) {
+    return (below + above + 1) / 2;
+}
+
+/*
+ * best::windows::centred, crates/best/src/windows.rt
+ * Each bound in the middle, Min and Rpt as far out as the margin needs.
+ */
+static struct timing_Profile best_windows_centred(struct best_Writing w, uint16_t margin) {
+    struct best_windows_Shifts s = best_windows_shifts_of(w);
+    uint16_t two = w.t1.f0;
+    uint16_t three = w.t1.f0 + w.t0.f0;
+    uint16_t four = w.t1.f0 + 2 * w.t0.f0;
+    uint16_t b23_short = best_windows_middle(two, three + s.e);
+    uint16_t b23_long = best_windows_middle(two - s.l, three);
+    uint16_t b34_short = best_windows_middle(three + s.d, four + s.e);
+    uint16_t b34_long = best_windows_middle(three + s.l, four);
+    struct timing_Bounds t24 = {.b23 = {.f0 = b23_long}, .b34 = {.f0 = b34_long}};
+    return (struct timing_Profile){.t1 = {.f0 = w.t1.f0}, .t0 = {.f0 = w.t0.f0}, .early = {.f0 = w.early.f0},
+            .normal = {.f0 = w.normal.f0}, .late = {.f0 = w.late.f0}, .min = {.f0 = two - s.d - margin},
+            .short_ = {.b23 = {.f0 = b23_short}, .b34 = {.f0 = b34_short}}, .long_ = t24,
+            .rpt = {.f0 = four + s.d + margin + 1}};
+}
+
+/* best::best_windows, crates/best/src/lib.rt: 1, 2; else the profile with the largest margin. */
+static struct best_Best best_best_windows(struct best_Writing w) {
+    uint32_t which = best_trial_lowest_unset(w);
+    struct best_Best result;
+    if (which != 0) {
+        result = (struct best_Best){.answer = {.tag = refusal_Counted_Refused,
+                .u.Refused = {.tag = refusal_Refusal_ProfileOutOfRange, .u.ProfileOutOfRange = which}},
+                .profile = {.t1 = {.f0 = 0}, .t0 = {.f0 = 0}, .early = {.f0 = 0}, .normal = {.f0 = 0},
+                .late = {.f0 = 0}, .min = {.f0 = 0}, .short_ = {.b23 = {.f0 = 0}, .b34 = {.f0 = 0}},
+                .long_ = {.b23 = {.f0 = 0}, .b34 = {.f0 = 0}}, .rpt = {.f0 = 0}}};
+        return result;
     }
-    return intervals_edges_check_edges_from(start, from, intervals);
-}
-
-/*
- * speed::gather::read_block, crates/speed/src/gather.rt
- * The intervals of a block, read: their items through the register, and to their places.
- */
-static struct speed_gather_BlockRead speed_gather_read_block(struct passes_block_Progress start,
-        struct items_Check check, struct slice_u16 block, uint32_t n, struct slice_u16_mut out) {
-    struct array_u8_64 units = {0};
-    struct array_u16_17 words = {0};
-    uint32_t done = start.pass.reading.words;
-    uint64_t length = block.len;
-    struct passes_block_Progress at =
-            passes_block_pass_block(start, block, slice_u8_mut(units.a, length), n, 0, slice_u16_mut(words.a, 17));
-    uint64_t count = (uint64_t)(at.pass.reading.words - done);
-    struct items_Check check_2 = fields_gather_sum_up(check, slice_u16_mut(words.a, count), (uint64_t)done, out);
-    return (struct speed_gather_BlockRead){.at = at, .check = check_2};
-}
-
-/* speed::gather::Along::next, crates/speed/src/gather.rt: With a block more. */
-static struct speed_gather_Along speed_gather_Along_next(struct speed_gather_Along self, struct slice_u16 block,
-        uint32_t n, struct slice_u16_mut out) {
-    struct passes_block_Progress start = self.at;
-    struct refusal_Verdict edges = self.edges;
-    struct clearance_seen_Seen seen = self.seen;
-    struct timing_cursor_Cursor cursor = start.cursor;
-    uint64_t from = start.pass.used;
-    struct speed_gather_BlockRead read = speed_gather_read_block(start, self.check, block, n, out);
-    struct passes_block_Progress at = read.at;
-    struct items_Check check = read.check;
-    uint64_t used = at.pass.used - from;
-    struct refusal_Verdict t16 = speed_gather_edges_after(edges, cursor, from, slice_u16(block.at, used));
-    return (struct speed_gather_Along){.at = at, .check = check, .edges = t16,
-            .seen = clearance_seen_Seen_with_all(seen, slice_u16(block.at, used))};
-}
-
-/* speed::gather::Along::advance, crates/speed/src/gather.rt: With the next block of a list, corrected. */
-static struct speed_gather_Along speed_gather_Along_advance(struct speed_gather_Along self, struct pace_Pace pace,
-        struct slice_u16 intervals, uint32_t n, struct slice_u16_mut out) {
-    struct array_u16_64 block = {0};
-    uint64_t from = self.at.pass.used;
-    uint64_t count = lists_at_most(64, intervals.len - from);
-    pace_Pace_correct(pace, slice_u16(intervals.at + from, from + count - from), slice_u16_mut(block.a, count));
-    return speed_gather_Along_next(self, slice_u16(block.a, count), n, out);
-}
-
-/* speed::gather::Along::start, crates/speed/src/gather.rt: Before the first interval. */
-static struct speed_gather_Along speed_gather_Along_start(struct timing_Profile p) {
-    struct passes_block_Progress t2 = passes_block_Progress_start(p);
-    struct items_Check t3 = items_Check_fresh();
-    struct clearance_extremes_Extremes t5 = clearance_extremes_Extremes_none();
-    return (struct speed_gather_Along){.at = t2, .check = t3, .edges = {.tag = refusal_Verdict_Accepted},
-            .seen = {.extremes = t5, .cursor = timing_cursor_Cursor_start(p)}};
-}
-
-/*
- * speed::gather::pass_over, crates/speed/src/gather.rt
- * One pass over the corrected intervals of n bytes, each taken as a cell.
- */
-static struct speed_gather_Along speed_gather_pass_over(struct timing_Profile p, struct pace_Pace pace,
-        struct slice_u16 intervals, uint32_t n, struct slice_u16_mut out) {
-    struct speed_gather_Along along = speed_gather_Along_start(p);
-    while (passes_block_Progress_goes_on(along.at, n, intervals.len)) {
-        along = speed_gather_Along_advance(along, pace, intervals, n, out);
+    if (best_windows_has_windows(w)) {
+        uint16_t margin = best_windows_best_margin(w);
+        struct timing_Profile profile = best_windows_centred(w, margin);
+        return (struct best_Best){.answer = {.tag = refusal_Counted_Count, .u.Count = (uint64_t)margin},
+                .profile = profile};
     }
-    return along;
-}
-
-/*
- * speed::gather::gather, crates/speed/src/gather.rt
- * A field of n bytes. An interval among the used ones that is no cell comes before all else.
- */
-static struct speed_gather_Gathered speed_gather_gather(struct timing_Profile p, struct pace_Pace pace,
-        struct slice_u16 intervals, uint32_t n, struct slice_u16_mut out) {
-    struct speed_gather_Along along = speed_gather_pass_over(p, pace, intervals, n, out);
-    struct shifts_Pass pass = along.at.pass;
-    bool holds = along.check.register_ == 0;
-    struct refusal_Verdict edges = along.edges;
-    if (edges.tag == refusal_Verdict_Refused) {
-        return (struct speed_gather_Gathered){.end = {.tag = refusal_Counted_Refused, .u.Refused = edges.u.Refused},
-                .holds = holds, .clearance = 0};
-    }
-    struct refusal_Counted t15 = fields_gather_conclude(pass.reading, pass.used, n);
-    return (struct speed_gather_Gathered){.end = t15, .holds = holds,
-            .clearance = clearance_extremes_Extremes_least(along.seen.extremes, p.min.f0, p.rpt.f0)};
-}
-
-/* speed::reader::turn_away, crates/speed/src/reader.rt */
-static struct speed_reader_Corrected speed_reader_turn_away(struct refusal_Refusal refusal) {
-    return (struct speed_reader_Corrected){.read = {.tag = fields_reader_FieldRead_Refused, .u.Refused = refusal},
-            .clearance = 0, .lock = 0, .even = 0, .odd = 0};
-}
-
-/* speed::reader::told, crates/speed/src/reader.rt: A field with the lock's place and the differences. */
-static struct speed_reader_Corrected speed_reader_told(struct pace_Pace pace, uint64_t lock,
-        struct clearance_ClearFieldRead field) {
-    struct fields_reader_FieldRead read = field.read;
-    if (read.tag == fields_reader_FieldRead_Refused) return speed_reader_turn_away(read.u.Refused);
-    uint32_t t11 = pace_difference(pace.nominal, pace.even);
-    return (struct speed_reader_Corrected){.read = {.tag = fields_reader_FieldRead_Field,
-            .u.Field = {.count = read.u.Field.count, .used = read.u.Field.used, .holds = read.u.Field.holds}},
-            .clearance = field.clearance, .lock = lock, .even = t11, .odd = pace_difference(pace.nominal, pace.odd)};
-}
-
-/*
- * speed::reader::with_clearance, crates/speed/src/reader.rt
- * A field comes with its clearance, a refusal without.
- */
-static struct clearance_ClearFieldRead speed_reader_with_clearance(struct fields_reader_FieldRead read,
-        uint16_t clearance) {
-    if (read.tag == fields_reader_FieldRead_Refused) {
-        return (struct clearance_ClearFieldRead){.read = {.tag = fields_reader_FieldRead_Refused,
-                .u.Refused = read.u.Refused}, .clearance = 0};
-    }
-    return (struct clearance_ClearFieldRead){.read = {.tag = fields_reader_FieldRead_Field,
-            .u.Field = {.count = read.u.Field.count, .used = read.u.Field.used, .holds = read.u.Field.holds}},
-            .clearance = clearance};
-}
-
-/*
- * speed::reader::read_into, crates/speed/src/reader.rt
- * The items wait in a buffer, as a refusal changes nothing that was lent.
- */
-static struct clearance_ClearFieldRead speed_reader_read_into(struct timing_Profile p, struct pace_Pace pace,
-        struct slice_u16 intervals, uint64_t n, struct slice_u16_mut buffer, struct slice_u16_mut out) {
-    struct speed_gather_Gathered gathered = speed_gather_gather(p, pace, intervals, (uint32_t)n, buffer);
-    struct refusal_Counted end = gathered.end;
-    if (end.tag == refusal_Counted_Refused) {
-        struct fields_reader_FieldRead t16 = {.tag = fields_reader_FieldRead_Refused, .u.Refused = end.u.Refused};
-        return speed_reader_with_clearance(t16, 0);
-    }
-    struct fields_reader_FieldRead read =
-            fields_reader_deliver(slice_u16(buffer.at, n), end.u.Count, gathered.holds, out);
-    return speed_reader_with_clearance(read, gathered.clearance);
-}
-
-/* speed::reader::read_checked, crates/speed/src/reader.rt: A short field has a short buffer. */
-static struct clearance_ClearFieldRead speed_reader_read_checked(struct timing_Profile p, struct pace_Pace pace,
-        struct slice_u16 intervals, uint64_t n, struct slice_u16_mut out) {
-    if (n <= 16) {
-        struct array_u16_16 buffer = {0};
-        return speed_reader_read_into(p, pace, intervals, n, slice_u16_mut(buffer.a, 16), out);
-    }
-    struct array_u16_1030 buffer_2 = {0};
-    return speed_reader_read_into(p, pace, intervals, n, slice_u16_mut(buffer_2.a, 1030), out);
-}
-
-/*
- * speed::reader::read_slowed, crates/speed/src/reader.rt
- * 12, then as the field reader over the corrected intervals.
- */
-static struct clearance_ClearFieldRead speed_reader_read_slowed(struct timing_Profile p, struct pace_Pace pace,
-        struct slice_u16 intervals, uint64_t n, struct slice_u16_mut out) {
-    if ((n < 1) | (1030 < n)) {
-        struct fields_reader_FieldRead t10 =
-                {.tag = fields_reader_FieldRead_Refused, .u.Refused = {.tag = refusal_Refusal_CountOutOfRange}};
-        return speed_reader_with_clearance(t10, 0);
-    }
-    return speed_reader_read_checked(p, pace, intervals, n, out);
-}
-
-/* speed::reader::read_at, crates/speed/src/reader.rt: At a lock: 18, then as the field reader. */
-static struct speed_reader_Corrected speed_reader_read_at(struct timing_Profile p, struct slice_u16 intervals,
-        uint64_t lock, uint64_t n, struct slice_u16_mut out) {
-    uint64_t t9 = lock - 64;
-    struct pace_Pace pace = pace_Pace_measured(p.t1, slice_u16(intervals.at + t9, lock - t9));
-    struct refusal_Verdict t15 = pace_Pace_check(pace);
-    if (t15.tag == refusal_Verdict_Refused) return speed_reader_turn_away(t15.u.Refused);
-    struct clearance_ClearFieldRead field =
-            speed_reader_read_slowed(p, pace, slice_u16(intervals.at + lock, intervals.len - lock), n, out);
-    return speed_reader_told(pace, lock, field);
-}
-
-/*
- * speed::reader::read_corrected, crates/speed/src/reader.rt
- * 1, 2, 10, 18, 12, then 5, 6 or 11 as first met, 8, 9; places of 5, 6 and 8 count from the lock.
- */
-static struct speed_reader_Corrected speed_reader_read_corrected(struct timing_Profile p, struct slice_u16 intervals,
-        uint64_t start, uint64_t n, struct slice_u16_mut out) {
-    struct refusal_Counted t8 = locks_finder_find_lock(p, intervals, start);
-    if (t8.tag == refusal_Counted_Refused) return speed_reader_turn_away(t8.u.Refused);
-    return speed_reader_read_at(p, intervals, t8.u.Count, n, out);
+    result = (struct best_Best){.answer = {.tag = refusal_Counted_Refused,
+            .u.Refused = {.tag = refusal_Refusal_ProfileInconsistent}},
+            .profile = {.t1 = {.f0 = 0}, .t0 = {.f0 = 0}, .early = {.f0 = 0}, .normal = {.f0 = 0}, .late = {.f0 = 0},
+            .min = {.f0 = 0}, .short_ = {.b23 = {.f0 = 0}, .b34 = {.f0 = 0}},
+            .long_ = {.b23 = {.f0 = 0}, .b34 = {.f0 = 0}}, .rpt = {.f0 = 0}}};
+    return result;
 }
 
 /* The crate answers */
+
+/* answers::profile, crates/answers/src/lib.rt */
+static struct timing_Profile answers_profile(ism_profile p) {
+    struct array_u16_11 numbers =
+            {{p.t1, p.t0, p.early, p.normal, p.late, p.min, p.b23_short, p.b23_long, p.b34_short, p.b34_long, p.rpt}};
+    return timing_Profile_from_numbers(&numbers);
+}
 
 /* answers::answer, crates/answers/src/lib.rt */
 static ism_answer answers_answer(struct refusal_Counted counted) {
@@ -5224,31 +5231,6 @@ static ism_answer answers_answer(struct refusal_Counted counted) {
     uint32_t t3 = refusal_Counted_place(counted);
     return (ism_answer){.number = t2, .place = t3, .count = refusal_Counted_count(counted), .used = 0, .holds = 0,
             .clearance = 0};
-}
-
-/* answers::clear_answer, crates/answers/src/lib.rt: A class or a strip, with its clearance. */
-static ism_answer answers_clear_answer(struct clearance_ClearCount given) {
-    struct refusal_Counted counted = given.counted;
-    uint32_t t3 = refusal_Counted_number(counted);
-    uint32_t t4 = refusal_Counted_place(counted);
-    return (ism_answer){.number = t3, .place = t4, .count = refusal_Counted_count(counted), .used = 0, .holds = 0,
-            .clearance = (uint32_t)given.clearance};
-}
-
-/* answers::slow::corrected_answer, crates/answers/src/slow.rt */
-static ism_corrected answers_slow_corrected_answer(struct speed_reader_Corrected corrected) {
-    struct fields_reader_FieldRead read = corrected.read;
-    if (read.tag == fields_reader_FieldRead_Field) {
-        return (ism_corrected){.number = 0, .place = 0, .lock = corrected.lock, .count = read.u.Field.count,
-                .used = read.u.Field.used, .holds = (uint32_t)read.u.Field.holds,
-                .clearance = (uint32_t)corrected.clearance, .even = as_int32(corrected.even),
-                .odd = as_int32(corrected.odd)};
-    }
-    struct refusal_Refusal refusal = read.u.Refused;
-    uint32_t t13 = refusal_Refusal_number(refusal);
-    return (ism_corrected){.number = t13, .place = refusal_Refusal_place(refusal), .lock = corrected.lock, .count = 0,
-            .used = 0, .holds = 0, .clearance = (uint32_t)corrected.clearance, .even = as_int32(corrected.even),
-            .odd = as_int32(corrected.odd)};
 }
 
 /* answers::card::edge_number, crates/answers/src/card.rt */
@@ -5261,19 +5243,6 @@ static uint16_t answers_card_edge_number(struct limits_side_Edge edge) {
     }
 }
 
-/* answers::field_answer, crates/answers/src/lib.rt */
-static ism_answer answers_field_answer(struct clearance_ClearFieldRead field) {
-    struct fields_reader_FieldRead read = field.read;
-    if (read.tag == fields_reader_FieldRead_Field) {
-        return (ism_answer){.number = 0, .place = 0, .count = read.u.Field.count, .used = read.u.Field.used,
-                .holds = (uint32_t)read.u.Field.holds, .clearance = (uint32_t)field.clearance};
-    }
-    struct refusal_Refusal refusal = read.u.Refused;
-    uint32_t t12 = refusal_Refusal_number(refusal);
-    return (ism_answer){.number = t12, .place = refusal_Refusal_place(refusal), .count = 0, .used = 0, .holds = 0,
-            .clearance = (uint32_t)field.clearance};
-}
-
 /* answers::card::kind_number, crates/answers/src/card.rt */
 static uint16_t answers_card_kind_number(struct limits_side_Kind after) {
     switch (after.tag) {
@@ -5281,30 +5250,6 @@ static uint16_t answers_card_kind_number(struct limits_side_Kind after) {
     case limits_side_Kind_Short: return 1;
     default: return 2; /* limits_side_Kind_Long */
     }
-}
-
-/* answers::merged_answer, crates/answers/src/lib.rt */
-static ism_answer answers_merged_answer(struct merge_Merged merged) {
-    if (merged.tag == merge_Merged_Set) {
-        return (ism_answer){.number = 0, .place = 0, .count = merged.u.Set.count, .used = merged.u.Set.bytes,
-                .holds = 0, .clearance = 0};
-    }
-    struct refusal_Refusal refusal = merged.u.Refused;
-    uint32_t t8 = refusal_Refusal_number(refusal);
-    return (ism_answer){.number = t8, .place = refusal_Refusal_place(refusal), .count = 0, .used = 0, .holds = 0,
-            .clearance = 0};
-}
-
-/* answers::drive::numbers, crates/answers/src/drive.rt */
-static struct array_u64_4 answers_drive_numbers(ism_report_row row) {
-    return (struct array_u64_4){{row.count, row.least, row.greatest, row.sum}};
-}
-
-/* answers::windows::numbers, crates/answers/src/windows.rt: A profile as it crosses the interface. */
-static ism_profile answers_windows_numbers(struct timing_Profile p) {
-    return (ism_profile){.t1 = p.t1.f0, .t0 = p.t0.f0, .early = p.early.f0, .normal = p.normal.f0, .late = p.late.f0,
-            .min = p.min.f0, .b23_short = p.short_.b23.f0, .b23_long = p.long_.b23.f0, .b34_short = p.short_.b34.f0,
-            .b34_long = p.long_.b34.f0, .rpt = p.rpt.f0};
 }
 
 /* answers::card::numbers_of, crates/answers/src/card.rt */
@@ -5329,11 +5274,61 @@ static struct array_answers_card_IsmLimit_10 answers_card_converted(struct array
     return made;
 }
 
-/* answers::profile, crates/answers/src/lib.rt */
-static struct timing_Profile answers_profile(ism_profile p) {
-    struct array_u16_11 numbers =
-            {{p.t1, p.t0, p.early, p.normal, p.late, p.min, p.b23_short, p.b23_long, p.b34_short, p.b34_long, p.rpt}};
-    return timing_Profile_from_numbers(&numbers);
+/* answers::windows::numbers, crates/answers/src/windows.rt: A profile as it crosses the interface. */
+static ism_profile answers_windows_numbers(struct timing_Profile p) {
+    return (ism_profile){.t1 = p.t1.f0, .t0 = p.t0.f0, .early = p.early.f0, .normal = p.normal.f0, .late = p.late.f0,
+            .min = p.min.f0, .b23_short = p.short_.b23.f0, .b23_long = p.long_.b23.f0, .b34_short = p.short_.b34.f0,
+            .b34_long = p.long_.b34.f0, .rpt = p.rpt.f0};
+}
+
+/* answers::clear_answer, crates/answers/src/lib.rt: A class or a strip, with its clearance. */
+static ism_answer answers_clear_answer(struct clearance_ClearCount given) {
+    struct refusal_Counted counted = given.counted;
+    uint32_t t3 = refusal_Counted_number(counted);
+    uint32_t t4 = refusal_Counted_place(counted);
+    return (ism_answer){.number = t3, .place = t4, .count = refusal_Counted_count(counted), .used = 0, .holds = 0,
+            .clearance = (uint32_t)given.clearance};
+}
+
+/* answers::field_answer, crates/answers/src/lib.rt */
+static ism_answer answers_field_answer(struct clearance_ClearFieldRead field) {
+    struct fields_reader_FieldRead read = field.read;
+    if (read.tag == fields_reader_FieldRead_Field) {
+        return (ism_answer){.number = 0, .place = 0, .count = read.u.Field.count, .used = read.u.Field.used,
+                .holds = (uint32_t)read.u.Field.holds, .clearance = (uint32_t)field.clearance};
+    }
+    struct refusal_Refusal refusal = read.u.Refused;
+    uint32_t t12 = refusal_Refusal_number(refusal);
+    return (ism_answer){.number = t12, .place = refusal_Refusal_place(refusal), .count = 0, .used = 0, .holds = 0,
+            .clearance = (uint32_t)field.clearance};
+}
+
+/* answers::slow::corrected_answer, crates/answers/src/slow.rt */
+static ism_corrected answers_slow_corrected_answer(struct speed_reader_Corrected corrected) {
+    struct fields_reader_FieldRead read = corrected.read;
+    if (read.tag == fields_reader_FieldRead_Field) {
+        return (ism_corrected){.number = 0, .place = 0, .lock = corrected.lock, .count = read.u.Field.count,
+                .used = read.u.Field.used, .holds = (uint32_t)read.u.Field.holds,
+                .clearance = (uint32_t)corrected.clearance, .even = as_int32(corrected.even),
+                .odd = as_int32(corrected.odd)};
+    }
+    struct refusal_Refusal refusal = read.u.Refused;
+    uint32_t t13 = refusal_Refusal_number(refusal);
+    return (ism_corrected){.number = t13, .place = refusal_Refusal_place(refusal), .lock = corrected.lock, .count = 0,
+            .used = 0, .holds = 0, .clearance = (uint32_t)corrected.clearance, .even = as_int32(corrected.even),
+            .odd = as_int32(corrected.odd)};
+}
+
+/* answers::merged_answer, crates/answers/src/lib.rt */
+static ism_answer answers_merged_answer(struct merge_Merged merged) {
+    if (merged.tag == merge_Merged_Set) {
+        return (ism_answer){.number = 0, .place = 0, .count = merged.u.Set.count, .used = merged.u.Set.bytes,
+                .holds = 0, .clearance = 0};
+    }
+    struct refusal_Refusal refusal = merged.u.Refused;
+    uint32_t t8 = refusal_Refusal_number(refusal);
+    return (ism_answer){.number = t8, .place = refusal_Refusal_place(refusal), .count = 0, .used = 0, .holds = 0,
+            .clearance = 0};
 }
 
 /* answers::drive::row, crates/answers/src/drive.rt */
@@ -5368,6 +5363,11 @@ static ism_report answers_drive_given(struct refusal_Verdict verdict, struct arr
     return t26;
 }
 
+/* answers::drive::numbers, crates/answers/src/drive.rt */
+static struct array_u64_4 answers_drive_numbers(ism_report_row row) {
+    return (struct array_u64_4){{row.count, row.least, row.greatest, row.sum}};
+}
+
 /*
  * answers::drive::rows, crates/answers/src/drive.rt
  * The rows of a report that came in, whatever its number and place.
@@ -5386,83 +5386,9 @@ static struct array_u64_4_5 answers_drive_rows(ism_report report) {
 
 /* The crate ism */
 
-/* ism::drive::ism_add_reports, crates/ism/src/drive.rt */
-static ism_report ism_drive_ism_add_reports(ism_report a, ism_report b) {
-    struct array_u64_4_5 first = answers_drive_rows(a);
-    struct array_u64_4_5 second = answers_drive_rows(b);
-    struct refusal_Verdict verdict = report_check_sum(first, second);
-    return answers_drive_given(verdict, report_add(first, second));
-}
-
-/*
- * ism::windows::ism_best_windows, crates/ism/src/windows.rt
- * 1, 2; else the profile with the largest margin that the five numbers allow, and that margin.
- */
-static ism_best ism_windows_ism_best_windows(uint16_t t1, uint16_t t0, uint16_t early, uint16_t normal, uint16_t late) {
-    struct best_Writing t15 = {.t1 = {.f0 = t1}, .t0 = {.f0 = t0}, .early = {.f0 = early}, .normal = {.f0 = normal},
-            .late = {.f0 = late}};
-    struct best_Best best = best_best_windows(t15);
-    struct refusal_Counted counted = best.answer;
-    struct timing_Profile found = best.profile;
-    ism_answer told = answers_answer(counted);
-    return (ism_best){.number = told.number, .place = told.place, .margin = told.count,
-            .profile = answers_windows_numbers(found)};
-}
-
-/* ism::ism_class, crates/ism/src/lib.rt */
-static ism_answer ism_ism_class(ism_profile p, uint16_t interval, uint32_t two) {
-    return answers_clear_answer(clearance_class_number(answers_profile(p), interval, 0 < two));
-}
-
-/* ism::drive::ism_drive_report, crates/ism/src/drive.rt */
-static ism_report ism_drive_ism_drive_report(ism_profile p, struct slice_u16 intervals) {
-    struct refusal_Verdict verdict = report_check_list(answers_profile(p), intervals);
-    return answers_drive_given(verdict, report_report_list(answers_profile(p), intervals));
-}
-
-/* ism::queue::ism_fifo_chip_put, crates/ism/src/queue.rt */
-static ism_fifo_answer ism_queue_ism_fifo_chip_put(ism_fifo queue, uint16_t item) {
-    return fifo_Fifo_chip_put(queue, item);
-}
-
-/* ism::queue::ism_fifo_chip_take, crates/ism/src/queue.rt */
-static ism_fifo_answer ism_queue_ism_fifo_chip_take(ism_fifo queue) {
-    return fifo_Fifo_chip_take(queue);
-}
-
-/* ism::queue::ism_fifo_new, crates/ism/src/queue.rt */
-static ism_fifo ism_queue_ism_fifo_new(uint16_t mode) {
-    return fifo_Fifo_new(mode);
-}
-
-/* ism::queue::ism_fifo_put, crates/ism/src/queue.rt */
-static ism_fifo_answer ism_queue_ism_fifo_put(ism_fifo queue, uint16_t item) {
-    return fifo_Fifo_put(queue, item);
-}
-
-/* ism::queue::ism_fifo_read_error, crates/ism/src/queue.rt */
-static ism_fifo_answer ism_queue_ism_fifo_read_error(ism_fifo queue) {
-    return fifo_Fifo_read_error(queue);
-}
-
-/* ism::queue::ism_fifo_take_data, crates/ism/src/queue.rt */
-static ism_fifo_answer ism_queue_ism_fifo_take_data(ism_fifo queue) {
-    return fifo_Fifo_take_data(queue);
-}
-
-/* ism::queue::ism_fifo_take_mark, crates/ism/src/queue.rt */
-static ism_fifo_answer ism_queue_ism_fifo_take_mark(ism_fifo queue) {
-    return fifo_Fifo_take_mark(queue);
-}
-
-/* ism::disk::ism_find, crates/ism/src/disk.rt */
-static ism_answer ism_disk_ism_find(ism_profile p, struct slice_u16 intervals, uint64_t start) {
-    return answers_answer(locks_finder_find_lock(answers_profile(p), intervals, start));
-}
-
-/* ism::index::ism_index_track, crates/ism/src/index.rt */
-static ism_index ism_index_ism_index_track(ism_profile p, struct slice_u16 intervals) {
-    return track_index_index_track(answers_profile(p), intervals);
+/* ism::version::ism_version, crates/ism/src/version.rt */
+static uint32_t ism_version_ism_version(void) {
+    return 1501;
 }
 
 /*
@@ -5471,19 +5397,6 @@ static ism_index ism_index_ism_index_track(ism_profile p, struct slice_u16 inter
  */
 static uint32_t ism_version_ism_interface_9(void) {
     return 9;
-}
-
-/* ism::image::ism_make_image, crates/ism/src/image.rt */
-static ism_answer ism_image_ism_make_image(struct slice_u16 items, struct slice_u16_mut out) {
-    struct refusal_Counted counted = images_make_make_image(items, out);
-    return answers_answer(counted);
-}
-
-/* ism::disk::ism_make_sector, crates/ism/src/disk.rt */
-static ism_answer ism_disk_ism_make_sector(uint8_t track, uint8_t side, uint8_t sector, uint8_t code,
-        struct slice_u8 bytes, struct slice_u16_mut out) {
-    struct refusal_Counted counted = sectors_make_sector(track, side, sector, code, bytes, out);
-    return answers_answer(counted);
 }
 
 /* ism::ism_margin, crates/ism/src/lib.rt */
@@ -5508,16 +5421,48 @@ static ism_limits ism_card_ism_margin_limits(ism_profile p) {
     return result;
 }
 
-/* ism::passes::ism_merge, crates/ism/src/passes.rt */
-static ism_answer ism_passes_ism_merge(struct slice_u8 first, struct slice_u8 second, struct slice_u8_mut out) {
-    struct merge_Merged merged = merge_merge_sets(first, second, out);
-    return answers_merged_answer(merged);
+/*
+ * ism::windows::ism_best_windows, crates/ism/src/windows.rt
+ * 1, 2; else the profile with the largest margin that the five numbers allow, and that margin.
+ */
+static ism_best ism_windows_ism_best_windows(uint16_t t1, uint16_t t0, uint16_t early, uint16_t normal, uint16_t late) {
+    struct best_Writing t15 = {.t1 = {.f0 = t1}, .t0 = {.f0 = t0}, .early = {.f0 = early}, .normal = {.f0 = normal},
+            .late = {.f0 = late}};
+    struct best_Best best = best_best_windows(t15);
+    struct refusal_Counted counted = best.answer;
+    struct timing_Profile found = best.profile;
+    ism_answer told = answers_answer(counted);
+    return (ism_best){.number = told.number, .place = told.place, .margin = told.count,
+            .profile = answers_windows_numbers(found)};
+}
+
+/* ism::ism_class, crates/ism/src/lib.rt */
+static ism_answer ism_ism_class(ism_profile p, uint16_t interval, uint32_t two) {
+    return answers_clear_answer(clearance_class_number(answers_profile(p), interval, 0 < two));
+}
+
+/* ism::ism_write, crates/ism/src/lib.rt */
+static ism_answer ism_ism_write(ism_profile p, struct slice_u16 items, struct slice_u16_mut out) {
+    struct refusal_Counted counted = codec_writer_write(answers_profile(p), items, out);
+    return answers_answer(counted);
 }
 
 /* ism::ism_read, crates/ism/src/lib.rt */
 static ism_answer ism_ism_read(ism_profile p, struct slice_u16 intervals, struct slice_u16_mut out) {
     struct clearance_ClearCount strip = clearance_read(answers_profile(p), intervals, out);
     return answers_clear_answer(strip);
+}
+
+/* ism::disk::ism_find, crates/ism/src/disk.rt */
+static ism_answer ism_disk_ism_find(ism_profile p, struct slice_u16 intervals, uint64_t start) {
+    return answers_answer(locks_finder_find_lock(answers_profile(p), intervals, start));
+}
+
+/* ism::disk::ism_read_field, crates/ism/src/disk.rt */
+static ism_answer ism_disk_ism_read_field(ism_profile p, struct slice_u16 intervals, uint64_t bytes,
+        struct slice_u16_mut out) {
+    struct clearance_ClearFieldRead field = clearance_read_field(answers_profile(p), intervals, bytes, out);
+    return answers_field_answer(field);
 }
 
 /* ism::slow::ism_read_corrected, crates/ism/src/slow.rt */
@@ -5528,17 +5473,34 @@ static ism_corrected ism_slow_ism_read_corrected(ism_profile p, struct slice_u16
     return answers_slow_corrected_answer(corrected);
 }
 
-/* ism::disk::ism_read_field, crates/ism/src/disk.rt */
-static ism_answer ism_disk_ism_read_field(ism_profile p, struct slice_u16 intervals, uint64_t bytes,
-        struct slice_u16_mut out) {
-    struct clearance_ClearFieldRead field = clearance_read_field(answers_profile(p), intervals, bytes, out);
-    return answers_field_answer(field);
+/* ism::disk::ism_make_sector, crates/ism/src/disk.rt */
+static ism_answer ism_disk_ism_make_sector(uint8_t track, uint8_t side, uint8_t sector, uint8_t code,
+        struct slice_u8 bytes, struct slice_u16_mut out) {
+    struct refusal_Counted counted = sectors_make_sector(track, side, sector, code, bytes, out);
+    return answers_answer(counted);
+}
+
+/* ism::index::ism_index_track, crates/ism/src/index.rt */
+static ism_index ism_index_ism_index_track(ism_profile p, struct slice_u16 intervals) {
+    return track_index_index_track(answers_profile(p), intervals);
+}
+
+/* ism::image::ism_make_image, crates/ism/src/image.rt */
+static ism_answer ism_image_ism_make_image(struct slice_u16 items, struct slice_u16_mut out) {
+    struct refusal_Counted counted = images_make_make_image(items, out);
+    return answers_answer(counted);
 }
 
 /* ism::image::ism_read_image, crates/ism/src/image.rt */
 static ism_answer ism_image_ism_read_image(struct slice_u16 words, struct slice_u16_mut out) {
     struct refusal_Counted counted = images_read_read_image(words, out);
     return answers_answer(counted);
+}
+
+/* ism::merging::ism_merge, crates/ism/src/merging.rt */
+static ism_answer ism_merging_ism_merge(struct slice_u8 first, struct slice_u8 second, struct slice_u8_mut out) {
+    struct merge_Merged merged = merge_merge_sets(first, second, out);
+    return answers_merged_answer(merged);
 }
 
 /* ism::index::ism_read_track, crates/ism/src/index.rt: The set of a track's sectors, for the merge. */
@@ -5548,15 +5510,53 @@ static ism_answer ism_index_ism_read_track(ism_profile p, struct slice_u16 inter
             .clearance = 0};
 }
 
-/* ism::version::ism_version, crates/ism/src/version.rt */
-static uint32_t ism_version_ism_version(void) {
-    return 1501;
+/* ism::drive::ism_drive_report, crates/ism/src/drive.rt */
+static ism_report ism_drive_ism_drive_report(ism_profile p, struct slice_u16 intervals) {
+    struct refusal_Verdict verdict = report_check_list(answers_profile(p), intervals);
+    return answers_drive_given(verdict, report_report_list(answers_profile(p), intervals));
 }
 
-/* ism::ism_write, crates/ism/src/lib.rt */
-static ism_answer ism_ism_write(ism_profile p, struct slice_u16 items, struct slice_u16_mut out) {
-    struct refusal_Counted counted = codec_writer_write(answers_profile(p), items, out);
-    return answers_answer(counted);
+/* ism::drive::ism_add_reports, crates/ism/src/drive.rt */
+static ism_report ism_drive_ism_add_reports(ism_report a, ism_report b) {
+    struct array_u64_4_5 first = answers_drive_rows(a);
+    struct array_u64_4_5 second = answers_drive_rows(b);
+    struct refusal_Verdict verdict = report_check_sum(first, second);
+    return answers_drive_given(verdict, report_add(first, second));
+}
+
+/* ism::queue::ism_fifo_new, crates/ism/src/queue.rt */
+static ism_fifo ism_queue_ism_fifo_new(uint16_t mode) {
+    return fifo_Fifo_new(mode);
+}
+
+/* ism::queue::ism_fifo_put, crates/ism/src/queue.rt */
+static ism_fifo_answer ism_queue_ism_fifo_put(ism_fifo queue, uint16_t item) {
+    return fifo_Fifo_put(queue, item);
+}
+
+/* ism::queue::ism_fifo_chip_put, crates/ism/src/queue.rt */
+static ism_fifo_answer ism_queue_ism_fifo_chip_put(ism_fifo queue, uint16_t item) {
+    return fifo_Fifo_chip_put(queue, item);
+}
+
+/* ism::queue::ism_fifo_take_data, crates/ism/src/queue.rt */
+static ism_fifo_answer ism_queue_ism_fifo_take_data(ism_fifo queue) {
+    return fifo_Fifo_take_data(queue);
+}
+
+/* ism::queue::ism_fifo_take_mark, crates/ism/src/queue.rt */
+static ism_fifo_answer ism_queue_ism_fifo_take_mark(ism_fifo queue) {
+    return fifo_Fifo_take_mark(queue);
+}
+
+/* ism::queue::ism_fifo_chip_take, crates/ism/src/queue.rt */
+static ism_fifo_answer ism_queue_ism_fifo_chip_take(ism_fifo queue) {
+    return fifo_Fifo_chip_take(queue);
+}
+
+/* ism::queue::ism_fifo_read_error, crates/ism/src/queue.rt */
+static ism_fifo_answer ism_queue_ism_fifo_read_error(ism_fifo queue) {
+    return fifo_Fifo_read_error(queue);
 }
 
 /* The entries that ism.h declares. A slice of no elements points to something, as the caller's may be null. */
@@ -5643,7 +5643,7 @@ ism_answer ism_read_image(const uint16_t *words, size_t n, uint16_t *items, size
 
 ism_answer ism_merge(const uint8_t *first, size_t n, const uint8_t *second, size_t m, uint8_t *out, size_t room) {
     uint8_t none_u8 = 0;
-    return ism_passes_ism_merge(slice_u8(n == 0 ? &none_u8 : first, n), slice_u8(m == 0 ? &none_u8 : second, m),
+    return ism_merging_ism_merge(slice_u8(n == 0 ? &none_u8 : first, n), slice_u8(m == 0 ? &none_u8 : second, m),
             slice_u8_mut(room == 0 ? &none_u8 : out, room));
 }
 

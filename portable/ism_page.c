@@ -1,7 +1,7 @@
 /*
  * The library ism_page as one C file, for any processor.
  *
- * Made by portable/from_mir from what `rt mir ism_page` prints, with rattle-kit-5b-plain logic 097e4c862dff5811: from
+ * Made by portable/from_mir from the libraries that rattle-kit-13f logic dac8208d650f15bf has proved and built: from
  * the MIR of every function, for which the proofs hold on Rattle's abstract machine. The translator and the C compiler
  * are not proved; portable/README.md says how they are tested. Not to be edited: change the Rattle source, prove it,
  * and make this file again.
@@ -100,6 +100,10 @@ struct array_u8_32 {
     uint8_t a[32];
 };
 
+struct array_u32_16 {
+    uint32_t a[16];
+};
+
 /* page::making::Made, crates/page/src/making.rt */
 enum { page_making_Made_Set, page_making_Made_Refused };
 struct page_making_Made {
@@ -111,10 +115,6 @@ struct page_making_Made {
         } Set;
         struct refusal_Refusal Refused;
     } u;
-};
-
-struct array_u32_16 {
-    uint32_t a[16];
 };
 
 static struct slice_u8 slice_u8(const uint8_t *at, uint64_t len) {
@@ -239,16 +239,54 @@ static uint64_t sectors_sector_size(uint8_t code) {
 
 /* The crate sets */
 
-/* sets::span::at_least, crates/sets/src/span.rt */
-static uint64_t sets_span_at_least(uint64_t least, uint64_t number) {
-    if (least < number) return number;
-    return least;
+/* sets::index::sector_end, crates/sets/src/index.rt: The place after the sector that begins at a place. */
+static struct refusal_Counted sets_index_sector_end(struct slice_u8 set, uint64_t start) {
+    uint64_t left = set.len - start;
+    if (left < 3) {
+        return (struct refusal_Counted){.tag = refusal_Counted_Refused,
+                .u.Refused = {.tag = refusal_Refusal_SectorSizeMismatch}};
+    }
+    uint8_t code = set.at[start + 1];
+    if (3 < code) {
+        return (struct refusal_Counted){.tag = refusal_Counted_Refused,
+                .u.Refused = {.tag = refusal_Refusal_SectorSizeMismatch}};
+    }
+    uint64_t size = sectors_sector_size(code);
+    if (left - 3 < size) {
+        return (struct refusal_Counted){.tag = refusal_Counted_Refused,
+                .u.Refused = {.tag = refusal_Refusal_SectorSizeMismatch}};
+    }
+    return (struct refusal_Counted){.tag = refusal_Counted_Count, .u.Count = start + 3 + size};
+}
+
+/*
+ * sets::index::count_sectors, crates/sets/src/index.rt
+ * 13, looked for to the end of the set, or how many sectors it has.
+ */
+static struct refusal_Counted sets_index_count_sectors(struct slice_u8 set) {
+    uint64_t count = 0;
+    uint64_t start = 0;
+    while (start < set.len) {
+        struct refusal_Counted t8 = sets_index_sector_end(set, start);
+        if (t8.tag == refusal_Counted_Refused) {
+            return (struct refusal_Counted){.tag = refusal_Counted_Refused, .u.Refused = t8.u.Refused};
+        }
+        count++;
+        start = t8.u.Count;
+    }
+    return (struct refusal_Counted){.tag = refusal_Counted_Count, .u.Count = count};
 }
 
 /* sets::index::entry, crates/sets/src/index.rt */
 static uint16_t sets_index_entry(uint16_t old, uint16_t place) {
     if (old == 0) return place;
     return 65535;
+}
+
+/* sets::span::at_least, crates/sets/src/span.rt */
+static uint64_t sets_span_at_least(uint64_t least, uint64_t number) {
+    if (least < number) return number;
+    return least;
 }
 
 /* sets::span::join, crates/sets/src/span.rt: The span of the numbers of either. */
@@ -288,44 +326,6 @@ static uint64_t sets_alone_lowest_twice(const struct array_u16_256 *index, struc
     return 256;
 }
 
-/* sets::index::sector_end, crates/sets/src/index.rt: The place after the sector that begins at a place. */
-static struct refusal_Counted sets_index_sector_end(struct slice_u8 set, uint64_t start) {
-    uint64_t left = set.len - start;
-    if (left < 3) {
-        return (struct refusal_Counted){.tag = refusal_Counted_Refused,
-                .u.Refused = {.tag = refusal_Refusal_SectorSizeMismatch}};
-    }
-    uint8_t code = set.at[start + 1];
-    if (3 < code) {
-        return (struct refusal_Counted){.tag = refusal_Counted_Refused,
-                .u.Refused = {.tag = refusal_Refusal_SectorSizeMismatch}};
-    }
-    uint64_t size = sectors_sector_size(code);
-    if (left - 3 < size) {
-        return (struct refusal_Counted){.tag = refusal_Counted_Refused,
-                .u.Refused = {.tag = refusal_Refusal_SectorSizeMismatch}};
-    }
-    return (struct refusal_Counted){.tag = refusal_Counted_Count, .u.Count = start + 3 + size};
-}
-
-/*
- * sets::index::count_sectors, crates/sets/src/index.rt
- * 13, looked for to the end of the set, or how many sectors it has.
- */
-static struct refusal_Counted sets_index_count_sectors(struct slice_u8 set) {
-    uint64_t count = 0;
-    uint64_t start = 0;
-    while (start < set.len) {
-        struct refusal_Counted t8 = sets_index_sector_end(set, start);
-        if (t8.tag == refusal_Counted_Refused) {
-            return (struct refusal_Counted){.tag = refusal_Counted_Refused, .u.Refused = t8.u.Refused};
-        }
-        count++;
-        start = t8.u.Count;
-    }
-    return (struct refusal_Counted){.tag = refusal_Counted_Count, .u.Count = count};
-}
-
 /*
  * sets::alone::index_alone, crates/sets/src/alone.rt
  * 13, 15, 17; else how many sectors there are, and their index.
@@ -351,15 +351,54 @@ static struct refusal_Counted sets_alone_index_alone(struct slice_u8 set, struct
 
 /* The crate page */
 
-/* page::dots::count_line, crates/page/src/dots.rt: The last line by itself. */
-static uint32_t page_dots_count_line(struct slice_u8 line) {
-    uint32_t dots = 0;
+/*
+ * page::search::is_lost, crates/page/src/search.rt
+ * An entry of the index is 0, or the place of the sector's length code; whether its sum holds stands behind it.
+ */
+static bool page_search_is_lost(struct slice_u8 set, uint16_t entry) {
+    if (entry == 0) return true;
+    uint64_t code = (uint64_t)entry;
+    if (set.at[code] != 3) return true;
+    return set.at[code + 1] == 0;
+}
+
+/* page::search::lowest_lost, crates/page/src/search.rt */
+static uint64_t page_search_lowest_lost(struct slice_u8 set, const struct array_u16_256 *index, uint64_t pages) {
     uint64_t k = 0;
-    while (k < 40) {
-        dots += count_ones(line.at[k]);
+    while (k < pages) {
+        if (page_search_is_lost(set, index->a[k + 1])) return k;
         k++;
     }
-    return dots;
+    return k;
+}
+
+/*
+ * page::search::is_soiled, crates/page/src/search.rt
+ * Looks at every byte: a loop that could end early would go byte by byte.
+ */
+static bool page_search_is_soiled(struct slice_u8 fill) {
+    bool soiled = false;
+    uint64_t k = 0;
+    while (k < 24) {
+        soiled = soiled | (fill.at[k] != 0);
+        k++;
+    }
+    return soiled;
+}
+
+/*
+ * page::search::lowest_soiled, crates/page/src/search.rt
+ * None of the pages is lost, so that the index has the place of each.
+ */
+static uint64_t page_search_lowest_soiled(struct slice_u8 set, const struct array_u16_256 *index, uint64_t pages) {
+    uint64_t k = 0;
+    while (k < pages) {
+        uint64_t fill = (uint64_t)index->a[k + 1] + 1002;
+        uint64_t end = fill + 24;
+        if (page_search_is_soiled(slice_u8(set.at + fill, end - fill))) return k;
+        k++;
+    }
+    return k;
 }
 
 /* page::dots::halves, crates/page/src/dots.rt: Ones of pairs of bits, then of four. */
@@ -388,111 +427,6 @@ static void page_dots_add_rows(struct slice_u8 rows, struct array_u8_32 *columns
     }
 }
 
-/*
- * page::search::is_lost, crates/page/src/search.rt
- * An entry of the index is 0, or the place of the sector's length code; whether its sum holds stands behind it.
- */
-static bool page_search_is_lost(struct slice_u8 set, uint16_t entry) {
-    if (entry == 0) return true;
-    uint64_t code = (uint64_t)entry;
-    if (set.at[code] != 3) return true;
-    return set.at[code + 1] == 0;
-}
-
-/*
- * page::search::is_soiled, crates/page/src/search.rt
- * Looks at every byte: a loop that could end early would go byte by byte.
- */
-static bool page_search_is_soiled(struct slice_u8 fill) {
-    bool soiled = false;
-    uint64_t k = 0;
-    while (k < 24) {
-        soiled = soiled | (fill.at[k] != 0);
-        k++;
-    }
-    return soiled;
-}
-
-/* page::search::lowest_lost, crates/page/src/search.rt */
-static uint64_t page_search_lowest_lost(struct slice_u8 set, const struct array_u16_256 *index, uint64_t pages) {
-    uint64_t k = 0;
-    while (k < pages) {
-        if (page_search_is_lost(set, index->a[k + 1])) return k;
-        k++;
-    }
-    return k;
-}
-
-/*
- * page::search::lowest_soiled, crates/page/src/search.rt
- * None of the pages is lost, so that the index has the place of each.
- */
-static uint64_t page_search_lowest_soiled(struct slice_u8 set, const struct array_u16_256 *index, uint64_t pages) {
-    uint64_t k = 0;
-    while (k < pages) {
-        uint64_t fill = (uint64_t)index->a[k + 1] + 1002;
-        uint64_t end = fill + 24;
-        if (page_search_is_soiled(slice_u8(set.at + fill, end - fill))) return k;
-        k++;
-    }
-    return k;
-}
-
-/* page::making::put_fill, crates/page/src/making.rt: 24 bytes of 00. */
-static void page_making_put_fill(struct slice_u8_mut set, uint64_t start) {
-    uint64_t k = 0;
-    while (k < 24) {
-        set.at[start + k] = 0;
-        k++;
-    }
-}
-
-/* page::making::put_sector, crates/page/src/making.rt */
-static void page_making_put_sector(uint8_t number, struct slice_u8 page, struct slice_u8_mut set, uint64_t start) {
-    set.at[start] = number;
-    set.at[start + 1] = 3;
-    set.at[start + 2] = 1;
-    lists_copy(page, start + 3, set);
-    page_making_put_fill(set, start + 1003);
-}
-
-/* page::making::put_sectors, crates/page/src/making.rt */
-static void page_making_put_sectors(struct slice_u8 cells, uint64_t pages, struct slice_u8_mut set) {
-    uint64_t k = 0;
-    while (k < pages) {
-        uint64_t start = 1000 * k;
-        uint64_t end = start + 1000;
-        page_making_put_sector((uint8_t)k + 1, slice_u8(cells.at + start, end - start), set, 1027 * k);
-        k++;
-    }
-}
-
-/*
- * page::making::make_pages, crates/page/src/making.rt
- * 12, 13, 9. On acceptance sectors 1 to p of code 3 fill the front of the output, 1,027 bytes each.
- */
-static struct page_making_Made page_making_make_pages(struct slice_u8 cells, uint64_t pages, struct slice_u8_mut set) {
-    if (pages < 1) {
-        return (struct page_making_Made){.tag = page_making_Made_Refused,
-                .u.Refused = {.tag = refusal_Refusal_CountOutOfRange}};
-    }
-    if (16 < pages) {
-        return (struct page_making_Made){.tag = page_making_Made_Refused,
-                .u.Refused = {.tag = refusal_Refusal_CountOutOfRange}};
-    }
-    if (cells.len != 1000 * pages) {
-        return (struct page_making_Made){.tag = page_making_Made_Refused,
-                .u.Refused = {.tag = refusal_Refusal_SectorSizeMismatch}};
-    }
-    uint64_t bytes = 1027 * pages;
-    if (set.len < bytes) {
-        return (struct page_making_Made){.tag = page_making_Made_Refused,
-                .u.Refused = {.tag = refusal_Refusal_OutputTooShort}};
-    }
-    page_making_put_sectors(cells, pages, set);
-    return (struct page_making_Made){.tag = page_making_Made_Set, .u.Set = {.count = pages, .bytes = bytes}};
-}
-
 /* page::dots::sum_columns, crates/page/src/dots.rt */
 static uint32_t page_dots_sum_columns(const struct array_u8_32 *columns) {
     uint32_t sum = 0;
@@ -502,6 +436,17 @@ static uint32_t page_dots_sum_columns(const struct array_u8_32 *columns) {
         k++;
     }
     return sum;
+}
+
+/* page::dots::count_line, crates/page/src/dots.rt: The last line by itself. */
+static uint32_t page_dots_count_line(struct slice_u8 line) {
+    uint32_t dots = 0;
+    uint64_t k = 0;
+    while (k < 40) {
+        dots += count_ones(line.at[k]);
+        k++;
+    }
+    return dots;
 }
 
 /* page::dots::count_dots, crates/page/src/dots.rt */
@@ -595,7 +540,67 @@ static ism_pages page_reading_read_pages(struct slice_u8 set, uint64_t pages, st
     return result;
 }
 
+/* page::making::put_fill, crates/page/src/making.rt: 24 bytes of 00. */
+static void page_making_put_fill(struct slice_u8_mut set, uint64_t start) {
+    uint64_t k = 0;
+    while (k < 24) {
+        set.at[start + k] = 0;
+        k++;
+    }
+}
+
+/* page::making::put_sector, crates/page/src/making.rt */
+static void page_making_put_sector(uint8_t number, struct slice_u8 page, struct slice_u8_mut set, uint64_t start) {
+    set.at[start] = number;
+    set.at[start + 1] = 3;
+    set.at[start + 2] = 1;
+    lists_copy(page, start + 3, set);
+    page_making_put_fill(set, start + 1003);
+}
+
+/* page::making::put_sectors, crates/page/src/making.rt */
+static void page_making_put_sectors(struct slice_u8 cells, uint64_t pages, struct slice_u8_mut set) {
+    uint64_t k = 0;
+    while (k < pages) {
+        uint64_t start = 1000 * k;
+        uint64_t end = start + 1000;
+        page_making_put_sector((uint8_t)k + 1, slice_u8(cells.at + start, end - start), set, 1027 * k);
+        k++;
+    }
+}
+
+/*
+ * page::making::make_pages, crates/page/src/making.rt
+ * 12, 13, 9. On acceptance sectors 1 to p of code 3 fill the front of the output, 1,027 bytes each.
+ */
+static struct page_making_Made page_making_make_pages(struct slice_u8 cells, uint64_t pages, struct slice_u8_mut set) {
+    if (pages < 1) {
+        return (struct page_making_Made){.tag = page_making_Made_Refused,
+                .u.Refused = {.tag = refusal_Refusal_CountOutOfRange}};
+    }
+    if (16 < pages) {
+        return (struct page_making_Made){.tag = page_making_Made_Refused,
+                .u.Refused = {.tag = refusal_Refusal_CountOutOfRange}};
+    }
+    if (cells.len != 1000 * pages) {
+        return (struct page_making_Made){.tag = page_making_Made_Refused,
+                .u.Refused = {.tag = refusal_Refusal_SectorSizeMismatch}};
+    }
+    uint64_t bytes = 1027 * pages;
+    if (set.len < bytes) {
+        return (struct page_making_Made){.tag = page_making_Made_Refused,
+                .u.Refused = {.tag = refusal_Refusal_OutputTooShort}};
+    }
+    page_making_put_sectors(cells, pages, set);
+    return (struct page_making_Made){.tag = page_making_Made_Set, .u.Set = {.count = pages, .bytes = bytes}};
+}
+
 /* The crate ism_page */
+
+/* ism_page::ism_read_pages, crates/ism_page/src/lib.rt */
+static ism_pages ism_page_ism_read_pages(struct slice_u8 set, uint64_t pages, struct slice_u8_mut cells) {
+    return page_reading_read_pages(set, pages, cells);
+}
 
 /* ism_page::answer, crates/ism_page/src/lib.rt */
 static ism_answer ism_page_answer(struct page_making_Made made) {
@@ -621,11 +626,6 @@ static ism_answer ism_page_ism_make_pages(struct slice_u8 cells, uint64_t pages,
  */
 static uint32_t ism_page_ism_page_interface_9(void) {
     return 9;
-}
-
-/* ism_page::ism_read_pages, crates/ism_page/src/lib.rt */
-static ism_pages ism_page_ism_read_pages(struct slice_u8 set, uint64_t pages, struct slice_u8_mut cells) {
-    return page_reading_read_pages(set, pages, cells);
 }
 
 /* The entries that ism_page.h declares. A slice of no elements points to something, as the caller's may be null. */

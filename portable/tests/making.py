@@ -1,4 +1,4 @@
-"""Short forms of terms, for the tests."""
+"""Short forms of terms, and of MIR as the kit keeps it, for the tests."""
 
 import sys
 from pathlib import Path
@@ -43,3 +43,66 @@ def element(of, index, ty=U16):
 
 def returned(value):
     return Return(value)
+
+
+# MIR as the kit keeps it
+
+
+def kept_int(bits):
+    return {"Int": bits}
+
+
+def kept_ref(mutability, to):
+    return {"Ref": ["Erased", mutability, to]}
+
+
+def kept_slice(mutability, of):
+    return {"Struct": ["&[]", [kept_ref(mutability, of), kept_int(64)]]}
+
+
+def kept_array(of, length):
+    return {"Array": [of, {"Lit": length}]}
+
+
+def kept_named(name, *arguments):
+    return {"Named": [{"name": name, "lifetimes": []}, list(arguments)]}
+
+
+def kept_place(index, *steps):
+    return {"local": index, "steps": list(steps)}
+
+
+def kept_copy(index, *steps):
+    return {"Copy": kept_place(index, *steps)}
+
+
+def kept_number(bits, value):
+    return {"Int": {"width": bits, "value": value}}
+
+
+def kept_assign(index, value):
+    return {"Assign": [kept_place(index), value]}
+
+
+def kept_call(name, arguments, index, types=()):
+    return {"Call": [{"Fn": [name, {"types": list(types), "dicts": []}]}, arguments, kept_place(index)]}
+
+
+def kept_type(name, shape):
+    return {"name": name, "lifetimes": 0, "type_params": 0, "const_params": [], "shape": shape}
+
+
+def kept_function(parameters, locals_, body, types=(), in_memory=()):
+    homes = ["MemorySlot" if i in in_memory else "ValueLocal" for i in range(len(locals_))]
+    return {
+        "params": parameters,
+        "generics": {"types": [], "bounds": []},
+        "types": list(types),
+        "locals": [{"ty": ty, "home": home} for ty, home in zip(locals_, homes)],
+        "body": body,
+    }
+
+
+def in_turn(*statements):
+    """A body of statements one after the other."""
+    return [word for statement in statements[:-1] for word in ("Seq", statement)] + [statements[-1]]

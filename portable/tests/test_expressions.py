@@ -55,6 +55,11 @@ class Operators(unittest.TestCase):
         self.assertEqual(text(binary("shl", local(1, U16), number(5, U16))), "(uint16_t)((uint32_t)a << 5)")
         self.assertEqual(text(binary("shl", number(1, U32), local(2, U32))), "(uint32_t)((uint32_t)1 << b)")
 
+    def test_sums_that_wrap_are_cut(self):
+        for name, sign in (("add", "+"), ("sub", "-")):
+            wrapped = binary(name, local(1, U16), local(2, U16), "wrapping")
+            self.assertEqual(text(wrapped), f"(uint16_t)(a {sign} b)")
+
     def test_signed_sums_are_cut(self):
         sum_ = binary("add", local(1, U32), local(2, U32), "signed")
         self.assertEqual(text(sum_), "(uint32_t)(a + b)")

@@ -1,10 +1,13 @@
+import json
 import os
 import subprocess
 import tempfile
 import unittest
 from pathlib import Path
 
-from . import making  # noqa: F401, for the path
+from .making import (
+    in_turn, kept_assign, kept_call, kept_copy, kept_function, kept_int, kept_named, kept_number, kept_slice, kept_type,
+)
 from translator.terms import Unknown
 from translator.unit import Library
 
@@ -19,6 +22,8 @@ uint16_t c_first(c_pair pair, const uint16_t *list, size_t n);
 """
 
 SOURCE = """
+#![tactic(auto)]
+
 pub struct Pair {
     pub t1: u16,
     pub t0: u16,
@@ -29,8 +34,9 @@ fn sum(pair: Pair) -> u16 {
     pair.t1 + pair.t0
 }
 
-#[no_mangle]
-pub extern "C" fn c_first(pair: Pair, list: &[u16]) -> u16 {
+pub fn c_first(pair: Pair, list: &[u16]) -> u16
+    ensures some { length list.now ≡ 0 }
+{
     let k = list.len();
     if k == 0 {
         return sum(pair);
@@ -39,48 +45,46 @@ pub extern "C" fn c_first(pair: Pair, list: &[u16]) -> u16 {
 }
 """
 
-INT16, INT64, NAMED = "(tyInt 16)", "(tyInt 64)", '(tyNamed (pair "c::Pair" lnil))'
-SLICE = '(tyStruct "&[]" (tcons (tyRef (named 0) imm (tyInt 16)) (tcons (tyInt 64) tnil)))'
+EXPORTS = """
+#[unsafe(no_mangle)]
+pub extern "C" fn c_first(pair: Pair, list: &[u16]) -> u16
+    ensures some { length list.now ≡ 0 }
+{
+    c::c_first(pair, list)
+}
+"""
+
+INT16, INT64, NAMED, SLICE = kept_int(16), kept_int(64), kept_named("c::Pair"), kept_slice("Imm", kept_int(16))
 
 
-def cells(parts, cons="lcons", nil="lnil"):
-    return nil if not parts else f"({cons} {parts[0]} {cells(parts[1:], cons, nil)})"
+def two(op, left, right):
+    return {"Op2": [op, left, right]}
 
 
-def function(name, parameters, locals_, *statements):
-    kept = cells([f"(local {ty} valueLocal)" for ty in locals_])
-    body = statements[-1]
-    for statement in reversed(statements[:-1]):
-        body = f"(seq {statement} {body})"
-    declared = cells([f'(pair "c::Pair" (fields {cells([INT16, INT16], "tcons", "tnil")}))'])
-    return f'(fn-def "{name}" (fnItem 0 lnil {parameters} {kept} {body}) {declared})'
-
-
-def place(index, *steps):
-    return f"(place {index} {cells(list(steps))})"
-
-
-def copy(index, *steps):
-    return f"(copy {place(index, *steps)})"
-
-
-def mir():
-    sum_ = function(
-        "c::sum", 1, [INT16, NAMED],
-        f"(assign {place(0)} (op2 (add unsigned) {copy(1, '(field 0)')} {copy(1, '(field 1)')}))", "return",
+def definitions():
+    """What the built library c has, in another order than that of its calls."""
+    pair = [kept_type("c::Pair", {"Fields": [INT16, INT16]})]
+    sum_ = two({"Add": "Unsigned"}, kept_copy(1, {"Field": 0}), kept_copy(1, {"Field": 1}))
+    first = in_turn(
+        kept_assign(3, {"Opd": kept_copy(2, {"Field": 1})}),
+        kept_assign(4, two("Eq", kept_copy(3), kept_number(64, 0))),
     )
-    first = function(
-        "c::c_first", 2, [INT16, NAMED, SLICE, INT64, "tyBool", INT64, INT64, "tyPtr"],
-        f"(assign {place(3)} (rvOpd {copy(2, '(field 1)')}))",
-        f"(assign {place(4)} (op2 eq {copy(3)} (int 64 0)))",
-        f'(if {copy(4)} (seq (call (direct (fnRef "c::sum")) {cells([copy(1)])} {place(0)}) return) skip)',
-        f"(assign {place(5)} (op2 (sub unsigned) {copy(3)} (int 64 1)))",
-        f"(assign {place(6)} (op2 (mul unsigned) {copy(5)} (int 64 2)))",
-        f"(assign {place(7)} (op2 offset {copy(2, '(field 0)')} {copy(6)}))",
-        f"(assign {place(0)} (rvOpd {copy(7, '(deref (tyInt 16))')}))", "return",
-    )
-    main = function("rt_empty::main", 0, ["tyUnit"], f"(assign {place(0)} (rvOpd unit))", "return")
-    return f"program {cells([sum_, first, main])} (fnRef \"rt_empty::main\")"
+    first = [
+        "Seq", first[1], "Seq", first[2], "Seq", {"If": kept_copy(4)},
+        *in_turn(kept_call("c::sum", [kept_copy(1)], 0), "Return"), "Skip",
+        *in_turn(
+            kept_assign(5, two({"Sub": "Unsigned"}, kept_copy(3), kept_number(64, 1))),
+            kept_assign(6, two({"Mul": "Unsigned"}, kept_copy(5), kept_number(64, 2))),
+            kept_assign(7, two("Offset", kept_copy(2, {"Field": 0}), kept_copy(6))),
+            kept_assign(0, {"Opd": kept_copy(7, {"Deref": INT16})}), "Return",
+        ),
+    ]
+    unused = kept_function(0, [{"Float": 32}], ["Unreachable"])
+    return {
+        "c::c_first": kept_function(2, [INT16, NAMED, SLICE, INT64, "Bool", INT64, INT64, "Ptr"], first, pair),
+        "c::sum": kept_function(1, [INT16, NAMED], in_turn(kept_assign(0, sum_), "Return"), pair),
+        "c::unused": unused,
+    }
 
 
 class Whole(unittest.TestCase):
@@ -89,15 +93,17 @@ class Whole(unittest.TestCase):
         self.addCleanup(folder.cleanup)
         self.root = Path(folder.name)
         (self.root / "include").mkdir()
-        (self.root / "crates" / "c" / "src").mkdir(parents=True)
+        for crate in ("c", "c_c"):
+            (self.root / "crates" / crate / "src").mkdir(parents=True)
         self.write(HEADER, SOURCE)
 
-    def write(self, header, source):
+    def write(self, header, source, exports=EXPORTS):
         (self.root / "include" / "c.h").write_text(header, encoding="utf-8")
-        (self.root / "crates" / "c" / "src" / "lib.rt").write_text(source, encoding="utf-8")
+        for crate, text in (("c", source), ("c_c", exports)):
+            (self.root / "crates" / crate / "src" / "lib.rt").write_text(text, encoding="utf-8")
 
-    def text(self, mir_text=None):
-        return Library("c", mir_text or mir(), self.root, "the kit").text()
+    def text(self, changed=None):
+        return Library("c", changed or definitions(), self.root, "the kit").text()
 
     def test_the_functions(self):
         text = self.text()
@@ -138,39 +144,59 @@ uint16_t c_first(c_pair pair, const uint16_t *list, size_t n) {
                 self.text()
 
     def test_a_source_that_does_not_fit(self):
-        unlike = [
-            ("pub t0: u16,", ""), ("sum(pair: Pair)", "sum()"), ("#[no_mangle]", ""),
-            ("fn sum(", "#[no_mangle] fn sum("),
-        ]
-        for source in (SOURCE.replace(*pair) for pair in unlike):
-            self.write(HEADER, source)
+        for unlike in (("pub t0: u16,", ""), ("sum(pair: Pair)", "sum()")):
+            self.write(HEADER, SOURCE.replace(*unlike))
             with self.assertRaises(Unknown):
                 self.text()
 
-    def test_a_call_of_what_comes_later(self):
+    def test_exports_that_do_not_fit(self):
+        for unlike in (
+            ("#[unsafe(no_mangle)]", ""), ("fn c_first", "fn c_last"),
+            ("c::c_first(pair, list)", "c::c_first(list, pair)"),
+            ("c::c_first(pair, list)", "c::sum(pair)"), ("c::c_first(pair, list)", "1 + c::c_first(pair, list)"),
+            ("c::c_first(pair, list)", "c::c_first(pair, list);"), ("    c::", "    let list = list;\n    c::"),
+        ):
+            self.write(HEADER, SOURCE, EXPORTS.replace(*unlike))
+            with self.assertRaises(Unknown, msg=unlike):
+                self.text()
+
+    def test_a_function_that_calls_itself(self):
         with self.assertRaises(Unknown):
-            self.text(mir().replace('"c::sum"', '"c::c_first"', 1).replace('"c::c_first"', '"c::sum"', 2))
+            self.text({**definitions(), "c::sum": definitions()["c::c_first"]})
 
 
 class Command(unittest.TestCase):
-    def run_with(self, version):
-        """Runs from_mir with a kit that prints a version and no MIR."""
+    def run_with(self, version, library=None):
+        """Runs from_mir with a kit that prints a version, and a library of its own."""
         with tempfile.TemporaryDirectory() as folder:
             rt = Path(folder, "rt")
-            rt.write_text(f"#!/bin/sh\n[ $1 = version ] && echo '{version}' || echo nothing\n", encoding="utf-8")
+            said = f"[ $1 = version ] && echo '{version}' || echo {folder}/page.md"
+            rt.write_text(f"#!/bin/sh\n{said}\n", encoding="utf-8")
             rt.chmod(0o755)
+            if library is not None:
+                kept = Path(folder, "rlibs", "core.rlib", "toolchain")
+                kept.mkdir(parents=True)
+                (kept / "mir.json").write_text(json.dumps(library), encoding="utf-8")
             path = f"{folder}:{os.environ['PATH']}"
             return subprocess.run(
-                [FROM_MIR, "ism"], env={**os.environ, "PATH": path}, capture_output=True, text=True, check=False
+                [FROM_MIR, "none"], env={**os.environ, "PATH": path}, capture_output=True, text=True, check=False
             )
+
+    def known(self):
+        lines = FROM_MIR.read_text(encoding="utf-8").splitlines()
+        return next(line for line in lines if line.startswith("KIT = ")).split('"')[1]
 
     def test_another_kit_says_so(self):
         done = self.run_with("another kit")
         self.assertEqual((done.returncode, done.stdout), (2, ""))
         self.assertIn("the kit is another kit, and this translator was written for", done.stderr)
 
-    def test_text_that_is_no_mir(self):
-        known = next(line for line in FROM_MIR.read_text(encoding="utf-8").splitlines() if line.startswith("KIT = "))
-        done = self.run_with(known.split('"')[1])
+    def test_a_library_that_is_not_built(self):
+        done = self.run_with(self.known())
         self.assertEqual((done.returncode, done.stdout), (2, ""))
-        self.assertIn("no rule for", done.stderr)
+        self.assertIn("the library core is not built", done.stderr)
+
+    def test_two_functions_of_one_name(self):
+        done = self.run_with(self.known(), [["core::f", {}], ["core::f", {}]])
+        self.assertEqual((done.returncode, done.stdout), (2, ""))
+        self.assertIn("two functions core::f", done.stderr)

@@ -1,178 +1,213 @@
 import unittest
 
-from .making import BOOL, TABLE, U16, U32, U64, WORDS
-from translator.reader import Reader, items, read_program, read_type, tree_of
+from .making import (
+    BOOL, TABLE, U16, U32, U64, WORDS, in_turn, kept_array, kept_assign, kept_call, kept_copy, kept_function, kept_int,
+    kept_named, kept_number, kept_place, kept_ref, kept_slice, kept_type,
+)
+from translator.reader import Reader, read_program, read_type
 from translator.terms import (
     Address, Aggregate, Assign, Binary, Block, Call, Case, Cast, Deref, Exit, Field, Fields, If, Int, Local, Loop,
-    Named,
-    Nothing, Number, Offset, Payload, Pointer, Ref, Repeat, Return, Switch, Tag, Truth, Unary, Unknown, Variants,
+    Named, Nothing, Number, Offset, Payload, Pointer, Ref, Repeat, Return, Switch, Tag, Truth, Unary, Unknown, Variants,
 )
 
 DECLARED = {"c::Pair": Fields((U16, U32)), "c::Answer": Variants(((), (U64, BOOL)))}
 PAIR, ANSWER = Named("c::Pair"), Named("c::Answer")
 LOCALS = [U64, U64, BOOL, WORDS, PAIR, ANSWER, TABLE, Pointer(), U32, Ref(False, TABLE), U16]
-
-
-def tree(text):
-    return tree_of(text)[0]
+FIELD_0, FIELD_1, FIELD_2 = {"Field": 0}, {"Field": 1}, {"Field": 2}
 
 
 def reader():
     return Reader(LOCALS, DECLARED, {"c::f": U64})
 
 
-def value(text, ty):
-    return reader().value(tree(text), ty)
+def value(tree, ty):
+    return reader().value(tree, ty)
 
 
-def statement(text):
-    (found,) = reader().statement(tree(text))
+def statement(*words):
+    (found,) = reader().body(list(words))
     return found
 
 
-class Trees(unittest.TestCase):
-    def test_words_and_parentheses(self):
-        self.assertEqual(tree_of('a (b "c d" (e)) f'), ["a", ["b", '"c d"', ["e"]], "f"])
+def operand(tree):
+    return {"Opd": tree}
 
-    def test_a_parenthesis_that_is_not_closed_or_not_opened(self):
-        for text in ("(a", "a)"):
-            with self.assertRaises(Unknown):
-                tree_of(text)
 
-    def test_lists(self):
-        self.assertEqual(items(tree("(lcons a (lcons b lnil))")), ["a", "b"])
-        with self.assertRaises(Unknown):
-            items(tree("(tcons a tnil)"))
+def two(op, left, right):
+    return {"Op2": [op, left, right]}
 
 
 class Types(unittest.TestCase):
     def test_each(self):
-        slice_ = '(tyStruct "&[]" (tcons (tyRef erased imm (tyInt 16)) (tcons (tyInt 64) tnil)))'
-        known = {
-            "(tyInt 16)": U16, "tyBool": BOOL, "tyPtr": Pointer(), slice_: WORDS,
-            "(tyArray (tyInt 16) (lenLit 4))": TABLE, '(tyNamed (pair "c::Pair" lnil))': PAIR,
-            "(tyRef (named 0) imm (tyArray (tyInt 16) (lenLit 4)))": Ref(False, TABLE),
-        }
-        for text, ty in known.items():
-            self.assertEqual(read_type(tree_of(text)[0]), ty)
+        known = [
+            (kept_int(16), U16), ("Bool", BOOL), ("Ptr", Pointer()), (kept_slice("Imm", kept_int(16)), WORDS),
+            (kept_array(kept_int(16), 4), TABLE), (kept_named("c::Pair"), PAIR),
+            (kept_ref("Imm", kept_array(kept_int(16), 4)), Ref(False, TABLE)),
+        ]
+        for tree, ty in known:
+            self.assertEqual(read_type(tree), ty)
 
     def test_others_are_unknown(self):
-        for text in ("(tyFloat binary32)", "(tyInt 128)", '(tyStruct "(,)" tnil)', "(tyInt 16 16)", "tyNever"):
-            with self.assertRaises(Unknown):
-                read_type(tree_of(text)[0])
+        for tree in (
+            {"Float": 32}, kept_int(128), {"Struct": ["&str", []]}, "Never", kept_named("c::Pair", "Bool"),
+            {"Param": 0}, {"Array": [kept_int(16), {"Param": 0}]}, {"Ref": ["Erased", "Imm"]},
+            {"Int": 16, "Bool": 1}, 16,
+        ):
+            with self.assertRaises(Unknown, msg=tree):
+                read_type(tree)
 
 
 class Values(unittest.TestCase):
     def test_operands(self):
-        self.assertEqual(value("(rvOpd (copy (place 1 lnil)))", U64), Local(1, U64))
-        self.assertEqual(value("(rvOpd (int 64 7))", U64), Number(7, U64))
-        self.assertEqual(value("(rvOpd true)", BOOL), Truth(True))
+        self.assertEqual(value(operand(kept_copy(1)), U64), Local(1, U64))
+        self.assertEqual(value(operand(kept_number(64, 7)), U64), Number(7, U64))
+        self.assertEqual(value(operand("True"), BOOL), Truth(True))
 
     def test_places(self):
-        of_pair = "(rvOpd (copy (place 4 (lcons (field 1) lnil))))"
-        self.assertEqual(value(of_pair, U32), Field(Local(4, PAIR), 1, U32))
-        length = "(rvOpd (copy (place 3 (lcons (field 1) lnil))))"
-        self.assertEqual(value(length, U64), Field(Local(3, WORDS), 1, U64))
-        tag = "(rvOpd (copy (place 5 (lcons (variant 0) (lcons (field 0) lnil)))))"
-        self.assertEqual(value(tag, Int(8)), Tag(Local(5, ANSWER)))
-        payload = "(rvOpd (copy (place 5 (lcons (variant 1) (lcons (field 2) lnil)))))"
-        self.assertEqual(value(payload, BOOL), Payload(Local(5, ANSWER), 1, 1, BOOL))
-        behind = "(rvOpd (copy (place 7 (lcons (deref (tyInt 16)) lnil))))"
-        self.assertEqual(value(behind, U16), Deref(Local(7, Pointer()), U16))
+        self.assertEqual(value(operand(kept_copy(4, FIELD_1)), U32), Field(Local(4, PAIR), 1, U32))
+        self.assertEqual(value(operand(kept_copy(3, FIELD_1)), U64), Field(Local(3, WORDS), 1, U64))
+        self.assertEqual(value(operand(kept_copy(5, {"Variant": 0}, FIELD_0)), Int(8)), Tag(Local(5, ANSWER)))
+        payload = value(operand(kept_copy(5, {"Variant": 1}, FIELD_2)), BOOL)
+        self.assertEqual(payload, Payload(Local(5, ANSWER), 1, 1, BOOL))
+        behind = value(operand(kept_copy(7, {"Deref": kept_int(16)})), U16)
+        self.assertEqual(behind, Deref(Local(7, Pointer()), U16))
 
     def test_operations(self):
-        sum_ = value("(op2 (add unsigned) (copy (place 1 lnil)) (int 64 2))", U64)
+        sum_ = value(two({"Add": "Unsigned"}, kept_copy(1), kept_number(64, 2)), U64)
         self.assertEqual(sum_, Binary("add", "unsigned", Local(1, U64), Number(2, U64), U64))
-        less = value("(op2 (lt unsigned) (copy (place 1 lnil)) (int 64 2))", BOOL)
+        less = value(two({"Lt": "Unsigned"}, kept_copy(1), kept_number(64, 2)), BOOL)
         self.assertEqual(less.ty, BOOL)
-        self.assertEqual(value("(op1 not (copy (place 2 lnil)))", BOOL), Unary("not", Local(2, BOOL), BOOL))
-        cast = value("(op1 (cast unsigned unsigned 16) (copy (place 1 lnil)))", U16)
+        self.assertEqual(value({"Op1": ["Not", kept_copy(2)]}, BOOL), Unary("not", Local(2, BOOL), BOOL))
+        cast = value({"Op1": [{"Cast": ["Unsigned", "Unsigned", 16]}, kept_copy(1)]}, U16)
         self.assertEqual(cast, Cast("unsigned", "unsigned", Local(1, U64), U16))
-        self.assertEqual(value("(op1 countOnes (copy (place 10 lnil)))", U32).ty, U32)
-        offset = value("(op2 offset (copy (place 7 lnil)) (int 64 4))", Pointer())
+        self.assertEqual(value({"Op1": ["CountOnes", kept_copy(10)]}, U32).ty, U32)
+        offset = value(two("Offset", kept_copy(7), kept_number(64, 4)), Pointer())
         self.assertEqual(offset, Offset(Local(7, Pointer()), Number(4, U64)))
 
+    def test_sums_that_wrap(self):
+        for kept, name in (("WrapAdd", "add"), ("WrapSub", "sub")):
+            found = value(two(kept, kept_copy(1), kept_number(64, 2)), U64)
+            self.assertEqual(found, Binary(name, "wrapping", Local(1, U64), Number(2, U64), U64))
+
     def test_several_parts(self):
-        pair = value("(aggregate (lcons (int 16 1) (lcons (int 32 2) lnil)))", PAIR)
+        pair = value({"Aggregate": [kept_number(16, 1), kept_number(32, 2)]}, PAIR)
         self.assertEqual(pair, Aggregate((Number(1, U16), Number(2, U32)), PAIR))
-        answer = value("(aggregate (lcons (int 8 1) (lcons (int 64 2) (lcons false lnil))))", ANSWER)
+        answer = value({"Aggregate": [kept_number(8, 1), kept_number(64, 2), "False"]}, ANSWER)
         self.assertEqual(answer, Case(1, (Number(2, U64), Truth(False)), ANSWER))
-        self.assertEqual(value("(repeat (int 16 0) 4)", TABLE), Repeat(Number(0, U16), TABLE))
-        address = value("(addrOf (place 6 lnil))", Ref(False, TABLE))
+        self.assertEqual(value({"Repeat": [kept_number(16, 0), {"Lit": 4}]}, TABLE), Repeat(Number(0, U16), TABLE))
+        address = value({"AddrOf": kept_place(6)}, Ref(False, TABLE))
         self.assertEqual(address, Address(Local(6, TABLE), Ref(False, TABLE)))
 
     def test_what_is_not_known_or_does_not_fit(self):
-        for text, ty in (
-            ("(op2 (div signed) (copy (place 1 lnil)) (int 64 2))", U64),
-            ("(op2 (lt signed) (copy (place 1 lnil)) (int 64 2))", BOOL),
-            ("(op2 floatAdd (copy (place 1 lnil)) (int 64 2))", U64),
-            ("(op2 (add unsigned) (copy (place 1 lnil)) (int 32 2))", U64),
-            ("(op2 (add unsigned) (copy (place 2 lnil)) true)", BOOL),
-            ("(op1 trailingZeros (copy (place 1 lnil)))", U32),
-            ("(op1 leadingZeros (copy (place 2 lnil)))", U32),
-            ("(rvOpd (int 16 65536))", U16),
-            ("(rvOpd (intBig 64 7))", U64),
-            ("(rvOpd (copy (place 1 lnil)))", U32),
-            ("(rvOpd (copy (place 99 lnil)))", U64),
-            ("(rvOpd (copy (place 5 (lcons (variant 1) lnil))))", ANSWER),
-            ("(aggregate (lcons (int 16 1) lnil))", PAIR),
-            ("(aggregate (lcons (int 32 1) (lcons (int 32 2) lnil)))", PAIR),
-            ("(repeat (int 16 0) 5)", TABLE),
-            ("(addrOf (place 6 lnil))", U64),
-            ("(discriminant (place 6 lnil))", U64),
+        for tree, ty in (
+            (two({"Div": "Signed"}, kept_copy(1), kept_number(64, 2)), U64),
+            (two({"Lt": "Signed"}, kept_copy(1), kept_number(64, 2)), BOOL),
+            (two("FloatAdd", kept_copy(1), kept_number(64, 2)), U64),
+            (two("WrapMul", kept_copy(1), kept_number(64, 2)), U64),
+            (two("Add", kept_copy(1), kept_number(64, 2)), U64),
+            (two({"Add": "Unsigned"}, kept_copy(1), kept_number(32, 2)), U64),
+            (two({"Add": "Unsigned"}, kept_copy(2), "True"), BOOL),
+            (two("WrapAdd", kept_copy(2), "True"), BOOL),
+            ({"Op1": ["TrailingZeros", kept_copy(1)]}, U32),
+            ({"Op1": ["LeadingZeros", kept_copy(2)]}, U32),
+            (operand(kept_number(16, 65536)), U16),
+            (operand(kept_number(16, -1)), U16),
+            (operand({"IntBig": {"width": 64, "value": 7}}), U64),
+            (operand(kept_copy(1)), U32),
+            (operand(kept_copy(99)), U64),
+            (operand(kept_copy(5, {"Variant": 1})), ANSWER),
+            (operand({"Copy": {"local": 1}}), U64),
+            ({"Aggregate": [kept_number(16, 1)]}, PAIR),
+            ({"Aggregate": [kept_number(32, 1), kept_number(32, 2)]}, PAIR),
+            ({"Repeat": [kept_number(16, 0), {"Lit": 5}]}, TABLE),
+            ({"Repeat": [kept_number(16, 0), {"Param": 0}]}, TABLE),
+            ({"AddrOf": kept_place(6)}, U64),
+            ({"Discriminant": kept_place(6)}, U64),
         ):
-            with self.assertRaises(Unknown, msg=text):
-                value(text, ty)
+            with self.assertRaises(Unknown, msg=tree):
+                value(tree, ty)
 
 
 class Statements(unittest.TestCase):
     def test_each(self):
-        self.assertEqual(statement("return"), Return(Local(0, U64)))
-        self.assertEqual(statement("(exit 2)"), Exit(2))
-        self.assertEqual(statement("(assign (place 1 lnil) (rvOpd (int 64 3)))"), Assign(Local(1, U64), Number(3, U64)))
-        call = '(call (direct (fnRef "c::f")) (lcons (copy (place 1 lnil)) lnil) (place 0 lnil))'
-        self.assertEqual(statement(call), Assign(Local(0, U64), Call("c::f", (Local(1, U64),), U64)))
-        read = statement("(if (copy (place 2 lnil)) skip return)")
+        self.assertEqual(statement("Return"), Return(Local(0, U64)))
+        self.assertEqual(statement({"Exit": 2}), Exit(2))
+        self.assertEqual(statement(kept_assign(1, operand(kept_number(64, 3)))), Assign(Local(1, U64), Number(3, U64)))
+        called = statement(kept_call("c::f", [kept_copy(1)], 0))
+        self.assertEqual(called, Assign(Local(0, U64), Call("c::f", (Local(1, U64),), U64)))
+        read = statement({"If": kept_copy(2)}, "Skip", "Return")
         self.assertEqual(read, If(Local(2, BOOL), [], [Return(Local(0, U64))]))
-        self.assertEqual(statement("(block (loop (exit 1)))"), Block([Loop([Exit(1)])]))
-        read = reader().body(tree("(seq (seq skip (exit 0)) (seq (exit 1) (exit 2)))"))
+        self.assertEqual(statement("Block", "Loop", {"Exit": 1}), Block([Loop([Exit(1)])]))
+        read = reader().body(["Seq", "Seq", "Skip", {"Exit": 0}, "Seq", {"Exit": 1}, {"Exit": 2}])
         self.assertEqual(read, [Exit(0), Exit(1), Exit(2)])
 
     def test_switch(self):
-        found = statement("(switch (copy (place 1 lnil)) (arm (lcons 0 (lcons 1 lnil)) (exit 0) (default (exit 1))))")
-        self.assertEqual(found, Switch(Local(1, U64), [([0, 1], [Exit(0)])], [Exit(1)]))
-        found = statement("(switch (copy (place 1 lnil)) (arm (lcons 0 lnil) skip noDefault))")
+        found = statement({"Switch": [kept_copy(1), [[0, 1], [2]], True]}, {"Exit": 0}, {"Exit": 1}, {"Exit": 2})
+        self.assertEqual(found, Switch(Local(1, U64), [([0, 1], [Exit(0)]), ([2], [Exit(1)])], [Exit(2)]))
+        found = statement({"Switch": [kept_copy(1), [[0]], False]}, "Skip")
         self.assertEqual(found, Switch(Local(1, U64), [([0], [])], None))
 
     def test_others_are_unknown(self):
-        for text in (
-            "(drop (place 1 lnil))", "(if (copy (place 1 lnil)) skip skip)", "(return 1)",
-            '(call (direct (fnRef "c::g")) lnil (place 0 lnil))',
-            '(call (indirect (place 1 lnil)) lnil (place 0 lnil))',
+        for words in (
+            [{"Drop": kept_place(1)}], [{"If": kept_copy(1)}, "Skip", "Skip"], [{"If": kept_copy(2)}, "Skip"], [],
+            ["Unreachable"], ["Return", "Skip"], ["Seq", "Skip"], [kept_call("c::g", [], 0)],
+            [kept_call("c::f", [kept_copy(1)], 0, types=["Bool"])],
+            [{"Call": [{"Method": [{"Given": 0}, 0, {"types": [], "dicts": []}]}, [], kept_place(0)]}],
+            [{"Switch": [kept_copy(1), [[0]], None]}, "Skip"],
         ):
-            with self.assertRaises(Unknown, msg=text):
-                statement(text)
+            with self.assertRaises(Unknown, msg=words):
+                reader().body(words)
+
+
+def calling(*names):
+    """A function that calls some others."""
+    return kept_function(0, [kept_int(64)], in_turn(*(kept_call(name, [], 0) for name in names), "Return"))
 
 
 class Programs(unittest.TestCase):
-    TEXT = (
-        'program (lcons (fn-def "c::f" (fnItem 0 lnil 1 (lcons (local (tyInt 64) valueLocal) (lcons (local '
-        '(tyNamed (pair "c::Pair" lnil)) memorySlot) lnil)) (seq (assign (place 0 lnil) (rvOpd (int 64 1))) return)) '
-        '(lcons (pair "c::Pair" (fields (tcons (tyInt 16) tnil))) lnil)) lnil) (fnRef "c::f")'
-    )
+    def names(self, definitions, *entries):
+        return [function.name for function in read_program(definitions, entries).functions]
 
     def test_a_function(self):
-        program = read_program(self.TEXT)
+        body = in_turn(kept_assign(0, operand(kept_number(64, 1))), "Return")
+        types = [kept_type("c::Pair", {"Fields": [kept_int(16)]})]
+        kept = kept_function(1, [kept_int(64), kept_named("c::Pair")], body, types, in_memory=[1])
+        program = read_program({"c::f": kept}, ["c::f"])
         (function,) = program.functions
         self.assertEqual((function.name, function.parameters, function.in_memory), ("c::f", 1, frozenset({1})))
         self.assertEqual(function.body, [Assign(Local(0, U64), Number(1, U64)), Return(Local(0, U64))])
         self.assertEqual(program.declared, {"c::Pair": Fields((U16,))})
 
-    def test_no_program(self):
-        changed = [self.TEXT.replace("program", "crate"), self.TEXT.replace("fnItem 0", "fnItem")]
-        for text in ("", "program lnil", *changed):
+    def test_what_is_reached_crate_by_crate(self):
+        definitions = {
+            "low::a": calling("low::b"), "low::b": calling(), "low::c": calling(),
+            "top::e": calling("top::g", "low::a"), "top::f": calling("top::e"), "top::g": calling("low::b"),
+        }
+        self.assertEqual(self.names(definitions, "top::f"), ["low::b", "low::a", "top::g", "top::e", "top::f"])
+
+    def test_a_crate_that_calls_a_later_one(self):
+        with self.assertRaises(Unknown):
+            self.names({"top::f": calling("low::a"), "low::a": calling()}, "top::f")
+
+    def test_what_is_not_there_or_calls_itself(self):
+        for definitions in ({"c::f": calling("c::g")}, {"c::f": calling("c::g"), "c::g": calling("c::f")}, {}):
             with self.assertRaises(Unknown):
-                read_program(text)
+                read_program(definitions, ["c::f"])
+
+    def test_parameters_that_are_types(self):
+        generic, declared = calling(), calling()
+        generic["generics"] = {"types": [{}], "bounds": []}
+        declared["types"] = [{**kept_type("c::Pair", {"Fields": []}), "type_params": 1}]
+        for definition in (generic, declared):
+            with self.assertRaises(Unknown):
+                read_program({"c::f": definition}, ["c::f"])
+
+    def test_two_declarations(self):
+        pair, other = calling("c::g"), calling()
+        pair["types"] = [kept_type("c::Pair", {"Fields": []})]
+        other["types"] = [kept_type("c::Pair", {"Fields": ["Bool"]})]
+        with self.assertRaises(Unknown):
+            read_program({"c::f": pair, "c::g": other}, ["c::f"])
 
     def test_unit_is_nothing(self):
-        self.assertEqual(reader().operand("unit"), Nothing())
+        self.assertEqual(reader().operand("Unit"), Nothing())

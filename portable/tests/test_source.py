@@ -7,12 +7,15 @@ from translator.source import Names, bound, read_crates, read_file, tokens_of, v
 
 TEXT = """
 // The head of the file.
-ghost use lib.ListN.{length};
+#![tactic(auto)]
+
+ghost use Rattle.std.specs.Prelude.{length};
 
 // A length.
 pub struct Length(pub u16);
 
 // Two of them.
+#[derive(Clone, Copy)]
 pub struct Pair {
     // the shorter
     pub short: Length,
@@ -28,10 +31,11 @@ pub enum Found {
 impl Pair {
     // The sum,
     // told in two lines.
-    #[no_mangle]
+    #[tactic(auto, using(crate::proofs::M::lemma))]
+    #[unsafe(no_mangle)]
     pub fn sum<'a>(self, mut more: u16, list: &'a [u16]) -> u16
-        requires { ⌜ { self .short } ≤ length (now list) ⌝ }
-        ensures answer { λ r. ⌜ r ≡ 0 ⌝ }
+        requires { (record { n = self.short }).n ≤ length list.now }
+        ensures answer { result ≡ 0 }
     {
         let mut total: u16 = more; // not a `let other = 1`
         match look(list) {
@@ -97,13 +101,29 @@ class Types(unittest.TestCase):
         self.assertEqual(found.variants, [("Nothing", []), ("At", [None]), ("Field", ["place", "holds"])])
 
 
+class Handed(unittest.TestCase):
+    def handed_to(self, body):
+        names = Names()
+        read_file(f"fn f(a: u8, out: &mut [u8]) {{ {body} }}", ["c"], "crates/c/src/lib.rt", names)
+        return names.functions["c::f"].handed_to()
+
+    def test_a_call_with_the_parameters(self):
+        self.assertEqual(self.handed_to("low::part::g(a, out)"), "low::part::g")
+        self.assertEqual(self.handed_to("low::g(\n a, // first\n out,\n )"), "low::g")
+
+    def test_whatever_else(self):
+        for body in ("low::g(out, a)", "low::g(a)", "low::g(a, &out)", "low::g(a, out);", "low::g(a, out)()", "a", ""):
+            self.assertIsNone(self.handed_to(body), msg=body)
+        self.assertEqual(self.handed_to("1 + low::g(a, out)"), "1+low::g")
+
+
 class Crates(unittest.TestCase):
     def test_modules_go_by_their_files(self):
         with tempfile.TemporaryDirectory() as root:
             for file in ("lib", "part", "deep/part"):
                 path = Path(root, "crates", "c", "src", f"{file}.rt")
                 path.parent.mkdir(parents=True, exist_ok=True)
-                path.write_text("#[no_mangle]\nfn f() {}\nfn g() {}\n", encoding="utf-8")
+                path.write_text("#[unsafe(no_mangle)]\nfn f() {}\nfn g() {}\n", encoding="utf-8")
             functions = read_crates(root).functions
         self.assertEqual({name for name in functions if functions[name].exported},
                          {"c::f", "c::part::f", "c::deep::part::f"})

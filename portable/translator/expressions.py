@@ -1,9 +1,9 @@
 """Expressions in C.
 
-MIR's numbers are unsigned, and its proofs show that no sum, difference or product leaves its width. So C computes the
-same number, also where it widens the operands to int first. A shift to the left drops bits, and signed numbers wrap
-here by design: those are cut to their width by a cast. Between constants alone C would compute in int: the first of
-them gets its type.
+MIR's numbers are unsigned, and its proofs show that no sum, difference or product leaves its width, where it is not
+told to wrap. So C computes the same number, also where it widens the operands to int first. A shift to the left drops
+bits, sums that wrap do so by design, and so do signed numbers: those are cut to their width by a cast. Between
+constants alone C would compute in int: the first of them gets its type.
 """
 
 import re
@@ -64,7 +64,7 @@ class Expressions:
             return self.shifted_left(expression)
         sign = SIGNS[expression.op]
         text = f"{self.side(expression, 'left', sign)} {sign} {self.side(expression, 'right', sign)}"
-        if expression.sign == "signed":
+        if expression.sign != "unsigned":
             return f"(uint{expression.ty.bits}_t)({text})", PREFIX
         return text, sign
 

@@ -6,9 +6,9 @@ from .terms import Unknown
 PREFACE = """\
 The library {name} as one C file, for any processor.
 
-Made by portable/from_mir from what `rt mir {name}` prints, with {kit}: from the MIR of every function, for which the
-proofs hold on Rattle's abstract machine. The translator and the C compiler are not proved; portable/README.md says how
-they are tested. Not to be edited: change the Rattle source, prove it, and make this file again.
+Made by portable/from_mir from the libraries that {kit} has proved and built: from the MIR of every function, for which
+the proofs hold on Rattle's abstract machine. The translator and the C compiler are not proved; portable/README.md says
+how they are tested. Not to be edited: change the Rattle source, prove it, and make this file again.
 
 Strict C99 without undefined behaviour; no heap, no library function, no state. Needs {name}.h beside it or on the
 include path: cc -std=c99 -O2 -Iinclude -c portable/{name}.c

@@ -1,6 +1,8 @@
-"""MIR as `rt mir` prints it, read into the objects of `terms`."""
+"""MIR as the kit keeps it in a built library, `toolchain/mir.json`, read into the objects of `terms`.
 
-import re
+There a constructor without arguments is its name, and one with arguments an object of one key. A function's body is a
+flat list, in which a constructor stands before the bodies that it holds: `["Seq", a, "Seq", b, "Return"]`.
+"""
 
 from .terms import (
     Address, Aggregate, Array, Assign, Binary, Block, Bool, Call, Case, Cast, Deref, Exit, Field, Fields, Function, If,
@@ -8,74 +10,82 @@ from .terms import (
     Tag, Truth, Unary, Unit, Unknown, Variants,
 )
 
-# The text as nested lists of words
+# Operations on two numbers, with the names that the rest of the translator has for them.
+PLAIN = {"And": "and", "Or": "or", "Xor": "xor", "Shl": "shl", "Eq": "eq", "Ne": "ne"}
+WRAPPING = {"WrapAdd": "add", "WrapSub": "sub"}
+WITH_SIGN = {
+    "Add": "add", "Sub": "sub", "Mul": "mul", "Div": "div", "Rem": "rem", "Shr": "shr", "Lt": "lt", "Le": "le",
+}
+COUNTS = {"LeadingZeros": "leadingZeros", "CountOnes": "countOnes"}
 
-
-def tree_of(text):
-    """Nested lists of the words between parentheses."""
-    stack = [[]]
-    for word in re.findall(r'[()]|"[^"]*"|[^\s()]+', text):
-        if word == "(":
-            stack.append([])
-        elif word == ")":
-            inner = stack.pop()
-            if not stack:
-                raise Unknown("a parenthesis closes that was not opened")
-            stack[-1].append(inner)
-        else:
-            stack[-1].append(word)
-    if len(stack) != 1:
-        raise Unknown("a parenthesis is not closed")
-    return stack[0]
+# Trees
 
 
 def head(tree, *allowed):
-    """The constructor of a tree, one of those allowed, with the number of its arguments: "seq/2"."""
-    name = tree if isinstance(tree, str) else f"{tree[0]}/{len(tree) - 1}"
-    if allowed and name not in allowed:
-        raise Unknown(f"MIR has {name[:80]} where only {', '.join(allowed)} are known")
+    """The constructor of a tree, one of those allowed."""
+    name = tree if isinstance(tree, str) else next(iter(tree)) if isinstance(tree, dict) and len(tree) == 1 else None
+    if name not in allowed:
+        raise Unknown(f"MIR has {str(tree)[:80]} where only {', '.join(allowed)} are known")
     return name
 
 
-def items(tree, cons="lcons", nil="lnil"):
-    """The elements of a list that is written as cells."""
-    found = []
-    while head(tree, nil, f"{cons}/2") != nil:
-        found.append(tree[1])
-        tree = tree[2]
-    return found
+def only(tree):
+    """What a constructor holds."""
+    if not isinstance(tree, dict):
+        raise Unknown(f"MIR has {tree}, which holds nothing")
+    return next(iter(tree.values()))
+
+
+def parts(tree, count):
+    """What a constructor holds, so many things."""
+    inside = only(tree)
+    if not isinstance(inside, list) or len(inside) != count:
+        raise Unknown(f"MIR has {str(tree)[:80]}, which does not hold {count} things")
+    return inside
+
+
+def named(tree, *names):
+    """The members of an object that has no others."""
+    if not isinstance(tree, dict) or set(tree) != set(names):
+        raise Unknown(f"MIR has {str(tree)[:80]} where {', '.join(names)} are expected")
+    return [tree[name] for name in names]
 
 
 def natural(tree):
-    if not isinstance(tree, str) or not tree.isdigit():
-        raise Unknown(f"MIR has {tree} where a number is expected")
-    return int(tree)
+    if not isinstance(tree, int) or isinstance(tree, bool) or tree < 0:
+        raise Unknown(f"MIR has {str(tree)[:80]} where a number is expected")
+    return tree
 
 
 def symbol(tree):
-    if not isinstance(tree, str) or not re.fullmatch(r'"[^"]+"', tree):
-        raise Unknown(f"MIR has {tree} where a name is expected")
-    return tree[1:-1]
+    if not isinstance(tree, str) or not tree:
+        raise Unknown(f"MIR has {str(tree)[:80]} where a name is expected")
+    return tree
 
 
 # Types
 
 
 def read_type(tree):
-    kind = head(tree, "tyInt/1", "tyBool", "tyUnit", "tyPtr", "tyRef/3", "tyArray/2", "tyStruct/2", "tyNamed/1")
-    if kind == "tyInt/1":
-        return read_width(tree[1])
-    if kind == "tyRef/3":
-        return Ref(head(tree[2], "mut", "imm") == "mut", read_type(tree[3]))
-    if kind == "tyArray/2":
-        head(tree[2], "lenLit/1")
-        return Array(read_type(tree[1]), natural(tree[2][1]))
-    if kind == "tyStruct/2":
-        return read_slice(tree)
-    if kind == "tyNamed/1":
-        head(tree[1], "pair/2")
-        return Named(symbol(tree[1][1]))
-    return {"tyBool": Bool(), "tyUnit": Unit(), "tyPtr": Pointer()}[kind]
+    kind = head(tree, "Int", "Bool", "Unit", "Ptr", "Ref", "Array", "Struct", "Named")
+    if kind == "Int":
+        return read_width(only(tree))
+    if kind == "Ref":
+        _, mutability, to = parts(tree, 3)
+        return Ref(head(mutability, "Mut", "Imm") == "Mut", read_type(to))
+    if kind == "Array":
+        of, length = parts(tree, 2)
+        head(length, "Lit")
+        return Array(read_type(of), natural(only(length)))
+    if kind == "Struct":
+        return read_slice(*parts(tree, 2))
+    if kind == "Named":
+        of, arguments = parts(tree, 2)
+        name, lifetimes = named(of, "name", "lifetimes")
+        if arguments or lifetimes:
+            raise Unknown(f"the type {name} with arguments")
+        return Named(symbol(name))
+    return {"Bool": Bool(), "Unit": Unit(), "Ptr": Pointer()}[kind]
 
 
 def read_width(tree):
@@ -85,20 +95,19 @@ def read_width(tree):
     return Int(bits)
 
 
-def read_slice(tree):
+def read_slice(name, types):
     """A slice is a struct of a reference to its first element, and its length."""
-    parts = [read_type(part) for part in items(tree[2], "tcons", "tnil")]
-    if symbol(tree[1]) != "&[]" or len(parts) != 2 or not isinstance(parts[0], Ref) or parts[1] != Int(64):
-        raise Unknown(f"the struct {tree[1]}")
-    return Slice(parts[0].mutable, parts[0].to)
+    fields = [read_type(part) for part in types]
+    if name != "&[]" or len(fields) != 2 or not isinstance(fields[0], Ref) or fields[1] != Int(64):
+        raise Unknown(f"the struct {name}")
+    return Slice(fields[0].mutable, fields[0].to)
 
 
 def read_declared(tree):
-    kind = head(tree, "fields/1", "variants/1")
-    if kind == "fields/1":
-        return Fields(tuple(read_type(part) for part in items(tree[1], "tcons", "tnil")))
-    variants = items(tree[1], "ttcons", "ttnil")
-    return Variants(tuple(tuple(read_type(part) for part in items(v, "tcons", "tnil")) for v in variants))
+    kind = head(tree, "Fields", "Variants")
+    if kind == "Fields":
+        return Fields(tuple(read_type(part) for part in only(tree)))
+    return Variants(tuple(tuple(read_type(part) for part in variant) for variant in only(tree)))
 
 
 # A function
@@ -113,23 +122,22 @@ class Reader:
         self.results = results
 
     def place(self, tree):
-        head(tree, "place/2")
-        index = natural(tree[1])
-        if index >= len(self.locals):
+        index, steps = named(tree, "local", "steps")
+        if natural(index) >= len(self.locals):
             raise Unknown(f"a local {index} that the function does not have")
         expression, variant = Local(index, self.locals[index]), None
-        for step in items(tree[2]):
-            kind = head(step, "deref/1", "field/1", "variant/1")
-            if variant is not None and kind != "field/1":
+        for step in steps:
+            kind = head(step, "Deref", "Field", "Variant")
+            if variant is not None and kind != "Field":
                 raise Unknown("a variant that is not followed by one of its fields")
-            if kind == "deref/1":
-                expression = Deref(expression, read_type(step[1]))
-            elif kind == "variant/1":
-                variant = natural(step[1])
+            if kind == "Deref":
+                expression = Deref(expression, read_type(only(step)))
+            elif kind == "Variant":
+                variant = natural(only(step))
             elif variant is None:
-                expression = self.field(expression, natural(step[1]))
+                expression = self.field(expression, natural(only(step)))
             else:
-                expression, variant = self.payload(expression, variant, natural(step[1])), None
+                expression, variant = self.payload(expression, variant, natural(only(step))), None
         if variant is not None:
             raise Unknown("a variant that is not followed by one of its fields")
         return expression
@@ -151,34 +159,38 @@ class Reader:
         return Tag(of) if index == 0 else Payload(of, variant, index - 1, types[index - 1])
 
     def operand(self, tree):
-        kind = head(tree, "copy/1", "int/2", "true", "false", "unit")
-        if kind == "copy/1":
-            return self.place(tree[1])
-        if kind == "int/2":
-            ty, value = read_width(tree[1]), natural(tree[2])
+        kind = head(tree, "Copy", "Int", "True", "False", "Unit")
+        if kind == "Copy":
+            return self.place(only(tree))
+        if kind == "Int":
+            width, value = named(only(tree), "width", "value")
+            ty, value = read_width(width), natural(value)
             if value >> ty.bits:
                 raise Unknown(f"the constant {value} in {ty.bits} bits")
             return Number(value, ty)
-        return Nothing() if kind == "unit" else Truth(kind == "true")
+        return Nothing() if kind == "Unit" else Truth(kind == "True")
 
-    def operands(self, tree):
-        return tuple(self.operand(part) for part in items(tree))
+    def operands(self, trees):
+        return tuple(self.operand(part) for part in trees)
 
     def value(self, tree, ty):
         """What an assignment computes, for a target of type `ty`."""
-        kind = head(tree, "rvOpd/1", "op1/2", "op2/3", "addrOf/1", "aggregate/1", "repeat/2")
-        if kind == "rvOpd/1":
-            value = self.operand(tree[1])
-        elif kind == "op1/2":
-            value = self.unary(tree[1], self.operand(tree[2]))
-        elif kind == "op2/3":
-            value = self.binary(tree[1], self.operand(tree[2]), self.operand(tree[3]))
-        elif kind == "addrOf/1":
-            return self.address(self.place(tree[1]), ty)
-        elif kind == "aggregate/1":
-            value = self.aggregate(self.operands(tree[1]), ty)
+        kind = head(tree, "Opd", "Op1", "Op2", "AddrOf", "Aggregate", "Repeat")
+        if kind == "Opd":
+            value = self.operand(only(tree))
+        elif kind == "Op1":
+            op, of = parts(tree, 2)
+            value = self.unary(op, self.operand(of))
+        elif kind == "Op2":
+            op, left, right = parts(tree, 3)
+            value = self.binary(op, self.operand(left), self.operand(right))
+        elif kind == "AddrOf":
+            return self.address(self.place(only(tree)), ty)
+        elif kind == "Aggregate":
+            value = self.aggregate(self.operands(only(tree)), ty)
         else:
-            value = self.repeat(self.operand(tree[1]), natural(tree[2]), ty)
+            of, count = parts(tree, 2)
+            value = self.repeat(self.operand(of), count, ty)
         return self.typed(value, ty)
 
     def typed(self, value, ty):
@@ -192,15 +204,16 @@ class Reader:
         return Address(of, ty)
 
     def unary(self, op, of):
-        kind = head(op, "not", "leadingZeros", "countOnes", "cast/3")
-        if kind == "cast/3":
-            signs = [head(sign, "signed", "unsigned") for sign in op[1:3]]
-            return Cast(*signs, self.number_or_truth(of), read_width(op[3]))
-        if kind == "not":
-            return Unary(kind, self.number_or_truth(of), of.ty)
+        kind = head(op, "Not", *COUNTS, "Cast")
+        if kind == "Cast":
+            source, target, width = parts(op, 3)
+            signs = [head(sign, "Signed", "Unsigned").lower() for sign in (source, target)]
+            return Cast(*signs, self.number_or_truth(of), read_width(width))
+        if kind == "Not":
+            return Unary("not", self.number_or_truth(of), of.ty)
         if not isinstance(of.ty, Int):
             raise Unknown(f"{kind} of {of.ty}")
-        return Unary(kind, of, Int(32))
+        return Unary(COUNTS[kind], of, Int(32))
 
     def number_or_truth(self, of):
         if not isinstance(of.ty, (Int, Bool)):
@@ -208,85 +221,95 @@ class Reader:
         return of
 
     def binary(self, op, left, right):
-        plain = ("and", "or", "xor", "shl", "eq", "ne", "offset")
-        with_sign = ("add", "sub", "mul", "div", "rem", "shr", "lt", "le")
-        kind = head(op, *plain, *(f"{name}/1" for name in with_sign)).partition("/")[0]
-        sign = head(op[1], "signed", "unsigned") if kind in with_sign else "unsigned"
-        if kind == "offset":
+        kind = head(op, *PLAIN, *WITH_SIGN, *WRAPPING, "Offset")
+        if kind == "Offset":
             return self.offset(left, right)
+        name = {**PLAIN, **WITH_SIGN, **WRAPPING}[kind]
+        sign = head(only(op), "Signed", "Unsigned").lower() if kind in WITH_SIGN else "unsigned"
         if left.ty != right.ty or not isinstance(left.ty, (Int, Bool)):
-            raise Unknown(f"{kind} of {left.ty} and {right.ty}")
-        if isinstance(left.ty, Bool) and kind not in ("and", "or", "xor", "eq", "ne"):
-            raise Unknown(f"{kind} of truth values")
-        if sign == "signed" and kind not in ("add", "sub"):
-            raise Unknown(f"{kind} of signed numbers")
-        return Binary(kind, sign, left, right, Bool() if kind in ("eq", "ne", "lt", "le") else left.ty)
+            raise Unknown(f"{name} of {left.ty} and {right.ty}")
+        if isinstance(left.ty, Bool) and name not in ("and", "or", "xor", "eq", "ne"):
+            raise Unknown(f"{name} of truth values")
+        if sign == "signed" and name not in ("add", "sub"):
+            raise Unknown(f"{name} of signed numbers")
+        if kind in WRAPPING:
+            sign = "wrapping"
+        return Binary(name, sign, left, right, Bool() if name in ("eq", "ne", "lt", "le") else left.ty)
 
     def offset(self, of, by):
         if not isinstance(of.ty, (Pointer, Ref)) or by.ty != Int(64):
             raise Unknown(f"an offset of {of.ty} by {by.ty}")
         return Offset(of, by)
 
-    def aggregate(self, parts, ty):
+    def aggregate(self, values, ty):
         if isinstance(ty, Slice):
-            return Aggregate(self.slice_parts(parts, ty), ty)
+            return Aggregate(self.slice_parts(values, ty), ty)
         if isinstance(ty, Array):
-            return Aggregate(self.all_typed(parts, [ty.of] * ty.length), ty)
+            return Aggregate(self.all_typed(values, [ty.of] * ty.length), ty)
         declared = self.declared.get(ty.name) if isinstance(ty, Named) else None
         if isinstance(declared, Fields):
-            return Aggregate(self.all_typed(parts, declared.types), ty)
-        if isinstance(declared, Variants) and parts and parts[0].ty == Int(8) and isinstance(parts[0], Number):
-            variant = parts[0].value
-            return Case(variant, self.all_typed(parts[1:], declared.types[variant]), ty)
+            return Aggregate(self.all_typed(values, declared.types), ty)
+        if isinstance(declared, Variants) and values and values[0].ty == Int(8) and isinstance(values[0], Number):
+            variant = values[0].value
+            return Case(variant, self.all_typed(values[1:], declared.types[variant]), ty)
         raise Unknown(f"an aggregate of type {ty}")
 
-    def slice_parts(self, parts, ty):
+    def slice_parts(self, values, ty):
         """The reference may be one to an array, whose first element it then points to."""
-        if len(parts) != 2 or parts[1].ty != Int(64) or not isinstance(parts[0].ty, Ref):
-            raise Unknown(f"a slice of {parts}")
-        to = parts[0].ty.to
+        if len(values) != 2 or values[1].ty != Int(64) or not isinstance(values[0].ty, Ref):
+            raise Unknown(f"a slice of {values}")
+        to = values[0].ty.to
         if ty.of not in (to, to.of if isinstance(to, Array) else to):
             raise Unknown(f"a slice of {ty.of} at {to}")
-        return parts
+        return values
 
-    def all_typed(self, parts, types):
-        if len(parts) != len(types):
-            raise Unknown(f"{len(parts)} parts where {len(types)} are expected")
-        return tuple(self.typed(part, ty) for part, ty in zip(parts, types))
+    def all_typed(self, values, types):
+        if len(values) != len(types):
+            raise Unknown(f"{len(values)} parts where {len(types)} are expected")
+        return tuple(self.typed(value, ty) for value, ty in zip(values, types))
 
     def repeat(self, of, count, ty):
-        if ty != Array(of.ty, count):
+        head(count, "Lit")
+        if ty != Array(of.ty, natural(only(count))):
             raise Unknown(f"{count} times {of.ty} for a place of type {ty}")
         return Repeat(of, ty)
 
-    def body(self, tree):
-        """Statements one after the other; a sequence is nested to the right, so it is read in a loop."""
-        statements = []
-        while head(tree).startswith("seq/2"):
-            statements += self.body(tree[1])
-            tree = tree[2]
-        return statements + self.statement(tree)
+    def body(self, words):
+        """The statements of a body that stands alone in a flat list."""
+        rest = words[::-1]
+        statements = self.next_body(rest)
+        if rest:
+            raise Unknown(f"MIR goes on with {str(rest[-1])[:80]} behind a body")
+        return statements
 
-    def statement(self, tree):
-        kind = head(
-            tree, "skip", "return", "assign/2", "call/3", "if/3", "loop/1", "block/1", "exit/1", "switch/2", "seq/2"
-        )
-        if kind == "skip":
+    def next_body(self, rest):
+        """Takes a body from the end of a list, where its first word stands. What follows another is read in a loop."""
+        statements = []
+        while rest and rest[-1] == "Seq":
+            rest.pop()
+            statements += self.next_body(rest)
+        return statements + self.statement(rest)
+
+    def statement(self, rest):
+        tree = rest.pop() if rest else "nothing"
+        kind = head(tree, "Skip", "Return", "Assign", "Call", "If", "Loop", "Block", "Exit", "Switch")
+        if kind == "Skip":
             return []
-        if kind == "return":
+        if kind == "Return":
             return [Return(Local(0, self.locals[0]))]
-        if kind == "assign/2":
-            target = self.place(tree[1])
-            return [Assign(target, self.value(tree[2], target.ty))]
-        if kind == "call/3":
-            return [self.call(tree)]
-        if kind == "if/3":
-            return [If(self.truth(tree[1]), self.body(tree[2]), self.body(tree[3]))]
-        if kind == "switch/2":
-            return [self.switch(tree)]
-        if kind == "exit/1":
-            return [Exit(natural(tree[1]))]
-        return [{"loop/1": Loop, "block/1": Block}[kind](self.body(tree[1]))]
+        if kind == "Assign":
+            place, value = parts(tree, 2)
+            target = self.place(place)
+            return [Assign(target, self.value(value, target.ty))]
+        if kind == "Call":
+            return [self.call(*parts(tree, 3))]
+        if kind == "If":
+            return [If(self.truth(only(tree)), self.next_body(rest), self.next_body(rest))]
+        if kind == "Switch":
+            return [self.switch(*parts(tree, 3), rest)]
+        if kind == "Exit":
+            return [Exit(natural(only(tree)))]
+        return [{"Loop": Loop, "Block": Block}[kind](self.next_body(rest))]
 
     def truth(self, tree):
         condition = self.operand(tree)
@@ -294,22 +317,21 @@ class Reader:
             raise Unknown(f"a condition of type {condition.ty}")
         return condition
 
-    def call(self, tree):
-        head(tree[1], "direct/1")
-        head(tree[1][1], "fnRef/1")
-        name, target = symbol(tree[1][1][1]), self.place(tree[3])
+    def call(self, callee, operands, place):
+        name, target = read_callee(callee), self.place(place)
         if name not in self.results:
             raise Unknown(f"a call of {name}, which MIR does not have")
-        return Assign(target, self.typed(Call(name, self.operands(tree[2]), self.results[name]), target.ty))
+        return Assign(target, self.typed(Call(name, self.operands(operands), self.results[name]), target.ty))
 
-    def switch(self, tree):
-        value, arms, rest = self.operand(tree[1]), [], tree[2]
+    def switch(self, operand, keys, has_default, rest):
+        """An arm's body for each list of keys, and behind them the default's, if there is one."""
+        value = self.operand(operand)
         if not isinstance(value.ty, Int):
             raise Unknown(f"a switch on {value.ty}")
-        while head(rest, "arm/3", "default/1", "noDefault") == "arm/3":
-            arms.append(([natural(key) for key in items(rest[1])], self.body(rest[2])))
-            rest = rest[3]
-        return Switch(value, arms, None if rest == "noDefault" else self.body(rest[1]))
+        arms = [([natural(key) for key in arm], self.next_body(rest)) for arm in keys]
+        if not isinstance(has_default, bool):
+            raise Unknown(f"a switch with {has_default}")
+        return Switch(value, arms, self.next_body(rest) if has_default else None)
 
 
 def fits(value, place):
@@ -317,32 +339,80 @@ def fits(value, place):
     return value == place or all(isinstance(ty, (Ref, Pointer)) for ty in (value, place))
 
 
-def read_definition(tree):
-    head(tree, "fn-def/2", "fn-def/3")
-    head(tree[2], "fnItem/5")
-    locals_ = items(tree[2][4])
-    for local in locals_:
-        head(local, "local/2")
-    in_memory = [i for i, local in enumerate(locals_) if head(local[2], "valueLocal", "memorySlot") == "memorySlot"]
-    return symbol(tree[1]), natural(tree[2][3]), [read_type(local[1]) for local in locals_], frozenset(in_memory)
+def read_callee(tree):
+    """The function that a call names; none that takes types or the functions of a trait."""
+    head(tree, "Fn")
+    name, arguments = parts(tree, 2)
+    if any(named(arguments, "types", "dicts")):
+        raise Unknown(f"a call of {name} at types")
+    return symbol(name)
 
 
-def read_program(text):
-    words = tree_of(text)
-    if len(words) != 3 or words[0] != "program":
-        raise Unknown("the text is not one program, as `rt mir` prints it")
-    definitions = items(words[1])
+def callees(definition):
+    """The functions that a definition calls, in the order of its text."""
+    return [read_callee(word["Call"][0]) for word in definition["body"] if isinstance(word, dict) and "Call" in word]
+
+
+def read_definition(name, definition):
+    """A function's parameters, the types of its locals, and which of these lie in memory."""
+    generics = definition["generics"]
+    if generics["types"] or generics["bounds"]:
+        raise Unknown(f"{name}, which takes types")
+    homes = [head(local["home"], "ValueLocal", "MemorySlot") for local in definition["locals"]]
+    types = [read_type(local["ty"]) for local in definition["locals"]]
+    in_memory = frozenset(i for i, home in enumerate(homes) if home == "MemorySlot")
+    return natural(definition["params"]), types, in_memory
+
+
+def read_types(definitions):
+    """The structs and enums that some definitions mention."""
     declared = {}
     for definition in definitions:
-        for pair in items(definition[3]) if len(definition) == 4 else []:
-            head(pair, "pair/2")
-            shape = read_declared(pair[2])
-            if declared.setdefault(symbol(pair[1]), shape) != shape:
-                raise Unknown(f"two declarations of {pair[1]}")
-    heads = [read_definition(definition) for definition in definitions]
-    results = {name: locals_[0] for name, _, locals_, _ in heads}
+        for entry in definition["types"]:
+            if entry["type_params"] or entry["const_params"] or entry["lifetimes"]:
+                raise Unknown(f"the type {entry['name']} with parameters")
+            shape = read_declared(entry["shape"])
+            if declared.setdefault(symbol(entry["name"]), shape) != shape:
+                raise Unknown(f"two declarations of {entry['name']}")
+    return declared
+
+
+def reached(definitions, entries):
+    """What some functions need, themselves among it: crate by crate in the order of the definitions, and each function
+    after those of its crate that it calls."""
+    found, open_ = {}, set()
+
+    def visit(name):
+        if name not in definitions:
+            raise Unknown(f"a call of {name}, which no built library has")
+        if name in open_:
+            raise Unknown(f"{name}, which calls itself")
+        if name not in found:
+            open_.add(name)
+            for called in callees(definitions[name]):
+                visit(called)
+            open_.remove(name)
+            found[name] = len(found)
+
+    for name in entries:
+        visit(name)
+    crates = list(dict.fromkeys(name.split("::")[0] for name in definitions))
+    order = sorted(found, key=lambda name: (crates.index(name.split("::")[0]), found[name]))
+    for i, name in enumerate(order):
+        if not set(callees(definitions[name])) <= set(order[:i]):
+            raise Unknown(f"{name}, which calls a function of a later crate")
+    return order
+
+
+def read_program(definitions, entries):
+    """The functions that the entries need, of all that the built libraries have; `definitions` has the libraries one
+    after the other, each after those that it uses."""
+    order = reached(definitions, entries)
+    declared = read_types(definitions[name] for name in order)
+    heads = {name: read_definition(name, definitions[name]) for name in order}
+    results = {name: types[0] for name, (_, types, _) in heads.items()}
     functions = []
-    for (name, parameters, locals_, in_memory), definition in zip(heads, definitions):
-        body = Reader(locals_, declared, results).body(definition[2][5])
-        functions.append(Function(name, parameters, locals_, in_memory, body))
+    for name, (parameters, types, in_memory) in heads.items():
+        body = Reader(types, declared, results).body(definitions[name]["body"])
+        functions.append(Function(name, parameters, types, in_memory, body))
     return Program(functions, declared)

@@ -31,6 +31,17 @@ class FunctionText:
     parameters: list
     variables: list
     exported: bool = False
+    body: list = field(default_factory=list)
+
+    def handed_to(self):
+        """The path of the function that the body calls, where that is all it does, with the function's own parameters;
+        else None.
+        """
+        open_ = self.body.index("(") if "(" in self.body else None
+        if open_ is None or closing(self.body, open_) != len(self.body) - 1:
+            return None
+        given = [part[0] if len(part) == 1 else None for part in split(self.body[open_ + 1 : -1], ",")]
+        return "".join(self.body[:open_]) if given == self.parameters else None
 
 
 @dataclass
@@ -174,9 +185,10 @@ def read_function(tokens, start, file):
     parameters = [parameter_name(part) for part in split(without_comments(tokens[open_ + 1 : close]), ",")]
     body = body_start(tokens, close)
     end = closing(tokens, body)
-    variables = variables_of(without_comments(tokens[body + 1 : end]))
+    inside = without_comments(tokens[body + 1 : end])
     exported = "no_mangle" in tokens[first_word(tokens, start) : start]
-    return FunctionText(file, comment_before(tokens, start), parameters, variables, exported), end
+    comment = comment_before(tokens, start)
+    return FunctionText(file, comment, parameters, variables_of(inside), exported, inside), end
 
 
 def field_names(tokens):

@@ -2,7 +2,6 @@
 
 from .fold import Folder
 from .terms import Assign, Binary, Bool, Call, Exit, If, Local, Nothing, Return, Switch, Unit
-from .wrapping import wrap
 from .walk import all_statements, bodies, live_at_start, live_inside, locals_of, mapped, mentions
 
 
@@ -16,7 +15,6 @@ def tidy(function, named, too_long):
         folder.fold(function.body)
     join(function.body, function.body, temporaries - function.in_memory)
     drop_unread(function.body, temporaries - function.in_memory)
-    wrap(function.body)
 
 
 def drop_units(body):

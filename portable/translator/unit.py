@@ -10,7 +10,7 @@ from .layout import broken, comment, filled, indented
 from .reader import read_program
 from .source import read_crates
 from .statements import Statements
-from .terms import Aggregate, Assign, Call, Case, Named, Return, Slice, Unary, Unknown
+from .terms import Aggregate, Assign, Case, Named, Return, Slice, Unary, Unknown
 from .tidy import tidy, use_parameters
 from .walk import all_parts, all_statements, heads
 
@@ -19,30 +19,35 @@ ENTRIES = "The entries that {name}.h declares. A slice of no elements points to 
 
 
 class Library:
-    """One library: its MIR, the names of its source, and its header."""
+    """One library: the MIR of all built libraries, the names of its source, and its header."""
 
-    def __init__(self, name, mir, root, kit):
+    def __init__(self, name, definitions, root, kit):
         self.name = name
         self.kit = kit
-        self.program = read_program(mir)
         self.source = read_crates(root)
         self.header = read_header(root / "include" / f"{name}.h")
-        self.functions = {function.name: function for function in self.program.functions}
         self.paths = PathNames(self.header.words)
-        self.entries = self.find_entries()
+        self.entries = self.find_entries(definitions)
+        self.program = read_program(definitions, self.entries.values())
+        self.functions = {function.name: function for function in self.program.functions}
         crossing = self.match_entries()
         self.types = Types(self.program.declared, self.source, self.paths, crossing.structs, crossing.signed)
 
-    def find_entries(self):
-        """The proved function of each entry, in the header's order: those that the crate exports, all of them."""
-        texts = self.source.functions
-        own = [name for name in self.functions if name.split("::")[0] == self.name]
-        exported = {name.split("::")[-1]: name for name in own if name in texts and texts[name].exported}
-        unlike = sorted(set(self.header.entries) ^ set(exported))
-        if unlike or not exported:
+    def find_entries(self, definitions):
+        """The proved function of each entry, in the header's order. The static library, whose crate has the library's
+        name and _c, exports all entries and nothing else, and each is a call of the function of its name.
+        """
+        exports = {name: text for name, text in self.source.functions.items() if text.exported}
+        exports = {path_of(name)[-1]: text for name, text in exports.items() if path_of(name)[0] == f"{self.name}_c"}
+        unlike = sorted(set(self.header.entries) ^ set(exports))
+        if unlike or not exports:
             names = ", ".join(unlike) or "no entry"
-            raise Unknown(f"{names}: the header and the crate {self.name} have different entries")
-        return {entry: exported[entry] for entry in self.header.entries}
+            raise Unknown(f"{names}: the header and the crate {self.name}_c have different entries")
+        found = {entry: exports[entry].handed_to() for entry in self.header.entries}
+        for entry, name in found.items():
+            if name not in definitions or path_of(name)[0] != self.name or path_of(name)[-1] != entry:
+                raise Unknown(f"{entry}, which does not hand its parameters to that function of {self.name}")
+        return found
 
     def match_entries(self):
         crossing = Crossing(self.header, self.program.declared, self.source)
@@ -50,22 +55,8 @@ class Library:
             crossing.match_entry(self.header.entries[entry], self.functions[path])
         return crossing
 
-    def reached(self):
-        """The functions that the entries need, in MIR's order, in which each comes after those that it calls."""
-        needed, todo = set(), list(self.entries.values())
-        while todo:
-            path = todo.pop()
-            if path not in needed:
-                needed.add(path)
-                todo += called(self.functions[path])
-        order = [name for name in self.functions if name in needed]
-        for i, name in enumerate(order):
-            if not set(called(self.functions[name])) <= set(order[:i]):
-                raise Unknown(f"{name} calls a function that does not come before it")
-        return order
-
     def text(self):
-        bodies = self.sections(self.reached())
+        bodies = self.sections()
         entries = [line for entry in self.entries for line in ["", *self.entry_lines(entry)]]
         parts = [
             preface(self.name, self.kit),
@@ -78,12 +69,12 @@ class Library:
         lines = [line for part in parts for line in part]
         return "\n".join(short for line in lines for short in broken(line)) + "\n"
 
-    def sections(self, order):
+    def sections(self):
         """The functions, crate by crate."""
         lines, crate = [], None
-        for name in order:
-            if name.split("::")[0] != crate:
-                crate = name.split("::")[0]
+        for name in self.functions:
+            if path_of(name)[0] != crate:
+                crate = path_of(name)[0]
                 lines += ["", *comment([f"The crate {crate}"])]
             lines += ["", *self.function_lines(self.functions[name])]
         return lines
@@ -129,8 +120,8 @@ class Library:
 
     def used_helpers(self):
         found = set()
-        for name in self.reached():
-            for statement in all_statements(self.functions[name].body):
+        for function in self.program.functions:
+            for statement in all_statements(function.body):
                 for expression in heads(statement):
                     parts = [part for part in all_parts(expression) if isinstance(part, Unary) and part.op != "not"]
                     found |= {helper_name(part.op, part.of.ty.bits) for part in parts}
@@ -184,10 +175,5 @@ def joined(type_, name):
     return f"{type_}{name}" if type_.endswith("*") else f"{type_} {name}"
 
 
-def called(function):
-    """The functions that a function calls."""
-    found = []
-    for statement in all_statements(function.body):
-        for expression in heads(statement):
-            found += [part.function for part in all_parts(expression) if isinstance(part, Call)]
-    return found
+def path_of(name):
+    return name.split("::")
