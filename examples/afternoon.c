@@ -2,7 +2,7 @@
  * An afternoon at the bench: the tracks of several disks, each read a little worse than the one before, and one table
  * of all their intervals by class.
  *
- *   rt staticlib ism
+ *   tools/build ism
  *   gcc -Iinclude examples/afternoon.c target/staticlib/libism.a -o target/afternoon && target/afternoon
  */
 #include <inttypes.h>

@@ -2,7 +2,7 @@
  * What holds the margin down? The card of a drive type, as text: its eleven numbers, the margin, each side of a window
  * edge that forbids one half clock more, with a byte that shows it, and which numbers to turn which way.
  *
- *   rt staticlib ism
+ *   tools/build ism
  *   gcc -Iinclude examples/card.c target/staticlib/libism.a -o target/card && target/card
  */
 #include <stdio.h>

@@ -2,7 +2,7 @@
  * How near was it? One list on three drives: a good one, a worn one and one that is nearly out of its windows. All
  * three read as the same list; the clearance, compared with the margin on the drive's card, tells them apart.
  *
- *   rt staticlib ism
+ *   tools/build ism
  *   gcc -Iinclude examples/close_call.c target/staticlib/libism.a -o target/close_call && target/close_call
  */
 #include <stdio.h>

@@ -3,7 +3,7 @@
  * cells after the ones then read 3 2 3 4 3, as those of one C2 mark do, and no lock stands there: the search from lock
  * to lock meets the sector's two fields and nothing else.
  *
- *   rt staticlib ism
+ *   tools/build ism
  *   gcc -Iinclude examples/full_page.c target/staticlib/libism.a -o target/full_page && target/full_page
  */
 #include <stdio.h>

@@ -3,7 +3,7 @@
  * and read back. One of them has every dot raised. Then the track simply stops in its middle, which comes to a stated
  * end: the page that is lost. What a second pass still reads gives it back.
  *
- *   rt staticlib ism && rt staticlib ism_page
+ *   tools/build ism ism_page
  *   gcc -Iinclude examples/master.c target/staticlib/libism.a target/staticlib/libism_page.a -o target/master &&
  *     target/master
  */

@@ -2,7 +2,7 @@
  * A sector there and back: made, written as intervals, each of them moved by up to the drive's margin, found again and
  * read field by field.
  *
- *   rt staticlib ism
+ *   tools/build ism
  *   gcc -Iinclude examples/sector.c target/staticlib/libism.a -o target/sector && target/sector
  */
 #include <stdio.h>

@@ -3,7 +3,7 @@
  * and corrected by the speed that the sync field before each lock tells. The two differences say how much the drive is
  * off, and whether the two halves of a pair are alike.
  *
- *   rt staticlib ism
+ *   tools/build ism
  *   gcc -Iinclude examples/slow_drive.c target/staticlib/libism.a -o target/slow_drive && target/slow_drive
  */
 #include <stdio.h>

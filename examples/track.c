@@ -3,7 +3,7 @@
  * likes them, every interval is moved by up to the drive's margin, three sectors are harmed, and the index lists what
  * still reads, by number.
  *
- *   rt staticlib ism
+ *   tools/build ism
  *   gcc -Iinclude examples/track.c target/staticlib/libism.a -o target/track && target/track
  */
 #include <inttypes.h>

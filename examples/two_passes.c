@@ -2,7 +2,7 @@
  * Two passes over a worn track: each is read as a set of sectors, some lost and some with a sum that fails, and the
  * merge of both has all that either pass has read.
  *
- *   rt staticlib ism
+ *   tools/build ism
  *   gcc -Iinclude examples/two_passes.c target/staticlib/libism.a -o target/two_passes && target/two_passes
  */
 #include <inttypes.h>

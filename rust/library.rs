@@ -1,5 +1,5 @@
 //! Links a library, of the build scripts of `ism` and `ism_page`. Where ISM_LIB_DIR names a folder, it is the one there.
-//! Else, on x86-64 Linux, it is the one that `rt staticlib` leaves in target/staticlib, two folders above the crate.
+//! Else, on x86-64 Linux, it is the one that `tools/build` leaves in target/staticlib, two folders above the crate.
 //! Where that is not there, and for every other processor, its C file in portable/ is compiled: by CC, or CC_ and the
 //! target's name, by default `cc`; AR likewise.
 
@@ -29,7 +29,7 @@ fn given(folder: PathBuf, name: &str) -> PathBuf {
     let library = folder.join(format!("lib{name}.a"));
     if !library.is_file() {
         let folder = folder.display();
-        eprintln!("lib{name}.a is not in {folder}: build it with `rt staticlib {name}`, or unset ISM_LIB_DIR");
+        eprintln!("lib{name}.a is not in {folder}: build it with `tools/build {name}`, or unset ISM_LIB_DIR");
         std::process::exit(1);
     }
     println!("cargo:rerun-if-changed={}", library.display());
