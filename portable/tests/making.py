@@ -89,14 +89,21 @@ def kept_call(name, arguments, index, types=()):
 
 
 def kept_type(name, shape):
-    return {"name": name, "lifetimes": 0, "type_params": 0, "const_params": [], "shape": shape}
+    return {
+        "name": name, "lifetimes": 0, "bounds": [], "type_params": 0, "const_params": [], "type_bounds": [],
+        "owns": False, "is_cell": False, "shape": shape, "is_tuple": False,
+    }
 
 
 def kept_function(parameters, locals_, body, types=(), in_memory=()):
     homes = ["MemorySlot" if i in in_memory else "ValueLocal" for i in range(len(locals_))]
     return {
+        "lifetimes": 0,
+        "outlives": [],
         "params": parameters,
-        "generics": {"types": [], "bounds": []},
+        "generics": {
+            "types": [], "outlives": [], "bounds": [], "method_of": None, "trait_lifetimes": 0, "impls": [],
+        },
         "types": list(types),
         "locals": [{"ty": ty, "home": home} for ty, home in zip(locals_, homes)],
         "body": body,

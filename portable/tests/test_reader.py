@@ -51,7 +51,7 @@ class Types(unittest.TestCase):
         for tree in (
             {"Float": 32}, kept_int(128), {"Struct": ["&str", []]}, "Never", kept_named("c::Pair", "Bool"),
             {"Param": 0}, {"Array": [kept_int(16), {"Param": 0}]}, {"Ref": ["Erased", "Imm"]},
-            {"Int": 16, "Bool": 1}, 16,
+            {"Int": 16, "Bool": 1}, 16, {"Bool": 1}, "Int", kept_ref({"Imm": 1}, kept_int(16)),
         ):
             with self.assertRaises(Unknown, msg=tree):
                 read_type(tree)
@@ -108,6 +108,11 @@ class Values(unittest.TestCase):
             (two({"Add": "Unsigned"}, kept_copy(1), kept_number(32, 2)), U64),
             (two({"Add": "Unsigned"}, kept_copy(2), "True"), BOOL),
             (two("WrapAdd", kept_copy(2), "True"), BOOL),
+            (two({"WrapAdd": "Unsigned"}, kept_copy(1), kept_number(64, 2)), U64),
+            (two({"Eq": "Unsigned"}, kept_copy(1), kept_number(64, 2)), BOOL),
+            (two({"Add": {"Unsigned": 1}}, kept_copy(1), kept_number(64, 2)), U64),
+            ({"Op1": [{"CountOnes": 7}, kept_copy(10)]}, U32),
+            (operand({"True": 1}), BOOL),
             ({"Op1": ["TrailingZeros", kept_copy(1)]}, U32),
             ({"Op1": ["LeadingZeros", kept_copy(2)]}, U32),
             (operand(kept_number(16, 65536)), U16),
@@ -150,7 +155,8 @@ class Statements(unittest.TestCase):
     def test_others_are_unknown(self):
         for words in (
             [{"Drop": kept_place(1)}], [{"If": kept_copy(1)}, "Skip", "Skip"], [{"If": kept_copy(2)}, "Skip"], [],
-            ["Unreachable"], ["Return", "Skip"], ["Seq", "Skip"], [kept_call("c::g", [], 0)],
+            ["Unreachable"], ["Return", "Skip"], ["Seq", "Skip"], [kept_call("c::g", [], 0)], [{"Return": 1}],
+            [{"Skip": []}], ["Exit"],
             [kept_call("c::f", [kept_copy(1)], 0, types=["Bool"])],
             [{"Call": [{"Method": [{"Given": 0}, 0, {"types": [], "dicts": []}]}, [], kept_place(0)]}],
             [{"Switch": [kept_copy(1), [[0]], None]}, "Skip"],
@@ -196,9 +202,18 @@ class Programs(unittest.TestCase):
 
     def test_parameters_that_are_types(self):
         generic, declared = calling(), calling()
-        generic["generics"] = {"types": [{}], "bounds": []}
+        generic["generics"] = {**generic["generics"], "types": [{}]}
         declared["types"] = [{**kept_type("c::Pair", {"Fields": []}), "type_params": 1}]
         for definition in (generic, declared):
+            with self.assertRaises(Unknown):
+                read_program({"c::f": definition}, ["c::f"])
+
+    def test_members_that_are_not_known(self):
+        function, local, declared = calling(), calling(), calling()
+        function["unwinds"] = False
+        local["locals"][0] = {**local["locals"][0], "pinned": False}
+        declared["types"] = [{**kept_type("c::Pair", {"Fields": []}), "packed": False}]
+        for definition in (function, local, declared):
             with self.assertRaises(Unknown):
                 read_program({"c::f": definition}, ["c::f"])
 

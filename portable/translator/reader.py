@@ -18,21 +18,34 @@ WITH_SIGN = {
 }
 COUNTS = {"LeadingZeros": "leadingZeros", "CountOnes": "countOnes"}
 
+# The constructors without arguments; every other holds something.
+ALONE = {
+    *PLAIN, *WRAPPING, *COUNTS, "Not", "Offset", "Signed", "Unsigned", "Bool", "Unit", "Ptr", "Mut", "Imm", "True",
+    "False", "Skip", "Return", "Loop", "Block", "ValueLocal", "MemorySlot",
+}
+
+# The members of a function, of what it takes beside values (lifetimes, the last, do not matter), and of a type.
+DEFINITION = ("params", "locals", "generics", "types", "body", "lifetimes", "outlives")
+GENERICS = ("types", "bounds", "impls", "method_of", "trait_lifetimes", "outlives")
+TYPE = (
+    "name", "shape", "type_params", "const_params", "lifetimes", "bounds", "type_bounds", "is_cell", "is_tuple", "owns",
+)
+
 # Trees
 
 
 def head(tree, *allowed):
-    """The constructor of a tree, one of those allowed."""
+    """The constructor of a tree, one of those allowed, alone or with something inside as it has to be."""
     name = tree if isinstance(tree, str) else next(iter(tree)) if isinstance(tree, dict) and len(tree) == 1 else None
-    if name not in allowed:
+    if name not in allowed or isinstance(tree, str) != (name in ALONE):
         raise Unknown(f"MIR has {str(tree)[:80]} where only {', '.join(allowed)} are known")
     return name
 
 
 def only(tree):
     """What a constructor holds."""
-    if not isinstance(tree, dict):
-        raise Unknown(f"MIR has {tree}, which holds nothing")
+    if not isinstance(tree, dict) or len(tree) != 1:
+        raise Unknown(f"MIR has {str(tree)[:80]}, which holds nothing")
     return next(iter(tree.values()))
 
 
@@ -355,13 +368,14 @@ def callees(definition):
 
 def read_definition(name, definition):
     """A function's parameters, the types of its locals, and which of these lie in memory."""
-    generics = definition["generics"]
-    if generics["types"] or generics["bounds"]:
+    parameters, locals_, generics, *_ = named(definition, *DEFINITION)
+    *of_types, _ = named(generics, *GENERICS)
+    if any(of_types):
         raise Unknown(f"{name}, which takes types")
-    homes = [head(local["home"], "ValueLocal", "MemorySlot") for local in definition["locals"]]
-    types = [read_type(local["ty"]) for local in definition["locals"]]
-    in_memory = frozenset(i for i, home in enumerate(homes) if home == "MemorySlot")
-    return natural(definition["params"]), types, in_memory
+    pairs = [named(local, "ty", "home") for local in locals_]
+    types = [read_type(ty) for ty, _ in pairs]
+    homes = [head(home, "ValueLocal", "MemorySlot") for _, home in pairs]
+    return natural(parameters), types, frozenset(i for i, home in enumerate(homes) if home == "MemorySlot")
 
 
 def read_types(definitions):
@@ -369,11 +383,12 @@ def read_types(definitions):
     declared = {}
     for definition in definitions:
         for entry in definition["types"]:
-            if entry["type_params"] or entry["const_params"] or entry["lifetimes"]:
-                raise Unknown(f"the type {entry['name']} with parameters")
-            shape = read_declared(entry["shape"])
-            if declared.setdefault(symbol(entry["name"]), shape) != shape:
-                raise Unknown(f"two declarations of {entry['name']}")
+            name, shape, *others = named(entry, *TYPE)
+            if any(others):
+                raise Unknown(f"the type {name}, which has parameters or is no plain one")
+            shape = read_declared(shape)
+            if declared.setdefault(symbol(name), shape) != shape:
+                raise Unknown(f"two declarations of {name}")
     return declared
 
 
