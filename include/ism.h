@@ -20,9 +20,9 @@
  *   library provides these two. Every function is a plain function of its arguments, so calls on buffers of
  *   their own may run at the same time. From an interrupt handler too, if the handler keeps what the code uses as any
  *   compiled code does: the SSE registers, and the 128 bytes below the stack pointer that the convention gives to the
- *   code that was interrupted (the red zone). docs/BENCHMARKS.md gives the stack of each function: 3,700 bytes at most,
- *   and 4 KB at most for ism_index_track with the index that it returns and for ism_read_track; portable/README.md
- *   that of portable/ism.c.
+ *   code that was interrupted (the red zone). docs/BENCHMARKS.md gives the stack of each function as rattle-kit-13f
+ *   compiles it: 3,700 bytes at most, and 4,500 at most for ism_index_track with the index that it returns and for
+ *   ism_read_track; portable/README.md that of portable/ism.c.
  *
  *   Every argument value is answered. A refusal comes back in `number` and `place`, changes no buffer, and leaves
  *   `count`, `used`, `holds`, `clearance`, `margin`, the rows of a report, every field of an index's entries, the
