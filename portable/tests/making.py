@@ -84,14 +84,32 @@ def kept_assign(index, value):
     return {"Assign": [kept_place(index), value]}
 
 
-def kept_call(name, arguments, index, types=()):
-    return {"Call": [{"Fn": [name, {"types": list(types), "dicts": []}]}, arguments, kept_place(index)]}
+def kept_call(name, arguments, index, types=(), dicts=()):
+    return {"Call": [{"Fn": [name, {"types": list(types), "dicts": list(dicts)}]}, arguments, kept_place(index)]}
+
+
+def kept_method(dictionary, k, arguments, index):
+    return {"Call": [{"Method": [dictionary, k, {"types": [], "dicts": []}]}, arguments, kept_place(index)]}
 
 
 def kept_type(name, shape):
     return {
         "name": name, "lifetimes": 0, "bounds": [], "type_params": 0, "const_params": [], "type_bounds": [],
         "owns": False, "is_cell": False, "shape": shape, "is_tuple": False,
+    }
+
+
+def kept_generic(function, kinds=(None,), bounds=(), impls=()):
+    """A function that takes types, and numbers where a kind is so many bits, with dictionaries for its bounds."""
+    types = [{"is_copy": False, "is_kept": False, "const_bits": kind} for kind in kinds]
+    bounds = [{"of": of, "lifetimes": [], "types": list(types)} for of, *types in bounds]
+    return {**function, "generics": {**function["generics"], "types": types, "bounds": bounds, "impls": list(impls)}}
+
+
+def kept_impl(name, methods, types=0, bounds=0):
+    return {
+        "name": name, "lifetimes": 0, "outlives": [], "types": [{}] * types, "type_outlives": [],
+        "bounds": [{}] * bounds, "of": {}, "methods": list(methods),
     }
 
 

@@ -6,15 +6,17 @@ from translator.ctypes_ import Types
 from translator.expressions import Expressions
 from translator.source import Names, TypeText
 from translator.terms import (
-    Address, Aggregate, Case, Cast, Deref, Field, Fields, Local, Number, Offset, Payload, Pointer, Ref, Repeat, Tag,
-    Truth, Unary, Unknown, Variants,
+    Address, Aggregate, Case, Cast, Deref, Field, Fields, Local, Nothing, Number, Offset, Payload, Pointer, Ref, Repeat,
+    Slice, Tag, Truth, Unary, Unit, Unknown, Variants,
 )
 
 PAIR, ANSWER, REPORT, SPEED = (Named(f"c::{name}") for name in ("Pair", "Answer", "Report", "Speed"))
+HALF, DONE = Named("c::Half"), Named("c::Done")
 ROWS = Array(U64, 5)
 DECLARED = {
     "c::Pair": Fields((U16, U32)), "c::Answer": Variants(((), (U64,), (U64, BOOL))), "c::Report": Fields((U32, ROWS)),
-    "c::Speed": Fields((U32, U32)),
+    "c::Speed": Fields((U32, U32)), "c::Half": Fields((Unit(), U64)),
+    "c::Done": Variants(((Unit(),), (Unit(), U64))),
 }
 SOURCE = Names(types={
     "c::Pair": TypeText("crates/c/src/lib.rt", [], ["short", "b"]),
@@ -23,6 +25,8 @@ SOURCE = Names(types={
     ),
     "c::Report": TypeText("crates/c/src/lib.rt", [], ["number", "rows"]),
     "c::Speed": TypeText("crates/c/src/lib.rt", [], ["place", "even"]),
+    "c::Half": TypeText("crates/c/src/lib.rt", [], [None, None]),
+    "c::Done": TypeText("crates/c/src/lib.rt", [], [], [("Ok", [None]), ("Two", [None, None])]),
 })
 NAMES = {1: "a", 2: "b", 3: "list", 4: "pair", 5: "answer", 6: "table", 7: "out", 8: "flag", 9: "p", 10: "report"}
 A, B, LIST, OUT = local(1), local(2), Local(3, WORDS), Local(7, WORDS_MUT)
@@ -146,6 +150,21 @@ class Places(unittest.TestCase):
         row = Deref(Offset(Address(Field(Local(10, REPORT), 1, ROWS), Pointer()), number(16)), U64)
         self.assertEqual(text(row), "report.rows[2]")
 
+    def test_elements_from_an_element_on(self):
+        """A pointer that is a sum stands in parentheses."""
+        here = Address(element(LIST, A), Ref(False, U16))
+        self.assertEqual(text(here), "list.at + a")
+        bytes_ = binary("mul", B, number(2))
+        self.assertEqual(text(Deref(Offset(here, bytes_), U16)), "(list.at + a)[b]")
+        self.assertEqual(text(Address(Deref(Offset(here, bytes_), U16), Ref(False, U16))), "(list.at + a) + b")
+        first = Address(local(1, U16), Ref(False, U16))
+        self.assertEqual(text(Deref(Offset(first, bytes_), U16)), "(&a)[b]")
+
+    def test_a_step_of_one_byte(self):
+        bytes_ = Local(3, Slice(False, U8))
+        place = Deref(Offset(Field(bytes_, 0, Ref(False, U8)), binary("mul", A, number(1))), U8)
+        self.assertEqual(text(place), "list.at[a]")
+
     def test_bytes_that_are_no_elements(self):
         for by in (A, number(3), binary("mul", A, number(4)), binary("mul", number(2), A)):
             with self.assertRaises(Unknown):
@@ -168,6 +187,18 @@ class Places(unittest.TestCase):
         self.assertEqual(text(Aggregate((table, number(4)), WORDS)), "slice_u16(table.a, 4)")
         self.assertEqual(text(call("c::f", table)), "c_f(&table)")
 
+    def test_a_slice_from_a_raw_pointer_on(self):
+        past = Offset(Field(OUT, 0, Ref(True, U16)), binary("mul", B, number(2)))
+        self.assertEqual(text(Aggregate((past, A), WORDS_MUT)), "slice_u16_mut(out.at + b, a)")
+
+    def test_pointers_to_pointers(self):
+        for ty, spelled in (
+            (Ref(False, Ref(False, U16)), "const uint16_t *const *p"),
+            (Ref(True, Ref(False, U16)), "const uint16_t **p"),
+            (Ref(False, Ref(True, PAIR)), "struct c_Pair *const *p"), (Ref(True, Ref(True, U16)), "uint16_t **p"),
+        ):
+            self.assertEqual(writer().types.declarator(ty, "p"), spelled)
+
     def test_a_raw_pointer_cannot_be_kept(self):
         for expression in (Address(TABLE_HERE, Pointer()), Offset(Field(LIST, 0, Pointer()), A)):
             with self.assertRaises(Unknown):
@@ -186,6 +217,20 @@ class SeveralParts(unittest.TestCase):
         self.assertEqual(text(words), "(struct array_u16_4){{0, 1, 2, 3}}")
         pairs = Aggregate((pair, pair), Array(PAIR, 2))
         self.assertEqual(text(pairs), "(struct array_c_Pair_2){{{.short_ = 1, .b = 2}, {.short_ = 1, .b = 2}}}")
+
+    def test_parts_that_hold_nothing_are_left_out(self):
+        self.assertEqual(text(Aggregate((Nothing(), A), HALF)), "(struct c_Half){.f1 = a}")
+        done = text(Case(0, (Nothing(),), DONE)), text(Case(1, (Nothing(), A), DONE))
+        self.assertEqual(done, (
+            "(struct c_Done){.tag = c_Done_Ok}", "(struct c_Done){.tag = c_Done_Two, .u.Two = {.f1 = a}}",
+        ))
+        self.assertEqual(text(call("c::f", Nothing(), A)), "c_f(a)")
+        types = writer().types
+        for ty in (HALF, DONE):
+            types.define(ty)
+        self.assertEqual(types.definitions[HALF][2:], ["    uint64_t f1;", "};"])
+        union = ["    union {", "        struct {", "            uint64_t f1;", "        } Two;", "    } u;"]
+        self.assertEqual(types.definitions[DONE][3:-1], ["    uint8_t tag;", *union])
 
     def test_signed_numbers_of_the_header(self):
         speed = Aggregate((local(1, U32), local(2, U32)), SPEED)

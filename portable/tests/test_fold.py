@@ -1,9 +1,9 @@
 import unittest
 from copy import deepcopy
 
-from .making import BOOL, U16, U32, U64, WORDS, WORDS_MUT, assign, binary, call, element, local, number, returned
+from .making import BOOL, U8, U16, U32, U64, WORDS, WORDS_MUT, assign, binary, call, element, local, number, returned
 from translator.fold import Folder
-from translator.terms import Assign, Block, Exit, Field, If, Local, Loop, Switch
+from translator.terms import Address, Aggregate, Assign, Block, Deref, Exit, Field, If, Local, Loop, Ref, Switch
 
 LIST, OUT = Local(1, WORDS), Local(2, WORDS_MUT)
 # locals from 10 on are temporaries; local 9 is one whose address is taken
@@ -42,6 +42,24 @@ class GivesWay(unittest.TestCase):
         store = Assign(element(OUT, local(3)), number(1, U16))
         sum_ = binary("add", local(4), number(1))
         self.assertEqual(folded(assign(10, sum_), store, returned(local(10))), [store, returned(sum_)])
+
+    def test_an_address_to_what_it_is_reached_by(self):
+        """What is reached through its own address is itself."""
+        place = element(OUT, local(3))
+        address = Assign(Local(10, Ref(True, U16)), Address(place, Ref(True, U16)))
+        stored = Assign(Deref(Local(10, Ref(True, U16)), U16), number(1, U16))
+        self.assertEqual(folded(address, stored), [Assign(place, number(1, U16))])
+        read = assign(4, Deref(Local(10, Ref(True, U16)), U16))
+        self.assertEqual(folded(address, read), [assign(4, place)])
+        bytes_ = Deref(Local(10, Ref(True, U16)), U8)
+        self.assertEqual(folded(address, assign(4, bytes_))[0].value.of.of, place)
+
+    def test_a_slice_to_its_part(self):
+        at, length = Field(LIST, 0, Ref(False, U16)), binary("sub", Field(LIST, 1, U64), number(1))
+        made = Assign(Local(10, WORDS), Aggregate((at, length), WORDS))
+        self.assertEqual(folded(made, assign(4, Field(Local(10, WORDS), 1, U64))), [assign(4, length)])
+        here = Assign(Local(5, Ref(False, U16)), Field(Local(10, WORDS), 0, Ref(False, U16)))
+        self.assertEqual(folded(made, here), [Assign(here.target, at)])
 
     def test_inside_of_lists(self):
         loop = Block([Loop([assign(10, number(1)), assign(3, local(10)), Exit(1)])])

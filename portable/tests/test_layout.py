@@ -30,6 +30,21 @@ class Lines(unittest.TestCase):
         line = "    if (" + " && ".join(["first + second == third"] * 6) + ") {"
         self.assertTrue(all(line.strip().startswith("&& ") for line in broken(line)[1:]))
 
+    def test_a_long_head_breaks_before_the_functions_name(self):
+        head = f"static struct result {'long_' * 16}name(struct parameter p1) {{"
+        self.assertEqual(broken(head), ["static struct result", f"        {'long_' * 16}name(struct parameter p1) {{"])
+
+    def test_long_names_break_behind_brackets(self):
+        line = f"    return (struct {'long_' * 12}name){{.tag = {'long_' * 12}name}};"
+        self.assertEqual(broken(line), [
+            f"    return (struct {'long_' * 12}name){{", f"            .tag = {'long_' * 12}name}};",
+        ])
+        head = f"static struct {'long_' * 20}result {'long_' * 18}name(struct {'long_' * 12}name p1) {{"
+        self.assertEqual(broken(head), [
+            f"static struct {'long_' * 20}result", f"        {'long_' * 18}name(",
+            f"        struct {'long_' * 12}name p1) {{",
+        ])
+
     def test_macros_and_comments_stay(self):
         for line in ("#define " + "a " * 80, " * " + "a " * 80):
             self.assertEqual(broken(line), [line])

@@ -6,7 +6,8 @@ import unittest
 from pathlib import Path
 
 from .making import (
-    in_turn, kept_assign, kept_call, kept_copy, kept_function, kept_int, kept_named, kept_number, kept_slice, kept_type,
+    in_turn, kept_assign, kept_call, kept_copy, kept_function, kept_generic, kept_impl, kept_int, kept_method,
+    kept_named, kept_number, kept_place, kept_ref, kept_slice, kept_type,
 )
 from translator.terms import Unknown
 from translator.unit import Library
@@ -163,6 +164,123 @@ uint16_t c_first(c_pair pair, const uint16_t *list, size_t n) {
     def test_a_function_that_calls_itself(self):
         with self.assertRaises(Unknown):
             self.text({**definitions(), "c::sum": definitions()["c::c_first"]})
+
+
+GENERIC_HEADER = "uint16_t c_fill(uint16_t *list, size_t n);"
+
+GENERIC_SOURCE = """
+// Stores what a function makes of a value.
+fn store<T: Copy, F: Fn(T) -> T>(out: &mut [T], value: T, by: F) -> Option<()> {
+    for x in out {
+        *x = by(value);
+    }
+    Some(())
+}
+
+pub fn c_fill(list: &mut [u16]) -> u16 {
+    store(list, 3, |x| x);
+    7
+}
+"""
+
+GENERIC_EXPORTS = """
+#[unsafe(no_mangle)]
+pub extern "C" fn c_fill(list: &mut [u16]) -> u16 {
+    c::c_fill(list)
+}
+"""
+
+OF, BY, LIST = {"Param": 0}, {"Param": 1}, kept_slice("Mut", INT16)
+CLOSURE, GIVES = kept_named("c::fn::c_fill::store+Self"), kept_named("core::option::Option", "Unit")
+OPTION = {**kept_type("core::option::Option", {"Variants": [[], [OF]]}), "type_params": 1}
+SELF = {**kept_type("c::fn::c_fill::store+Self", {"Fields": []}), "is_tuple": True}
+
+
+def store():
+    """`by` lies in memory, and its copy there is the first of the variables."""
+    locals_ = [GIVES, kept_slice("Mut", OF), OF, BY, BY, INT64, kept_ref("Mut", OF), "Bool", INT64, "Ptr", OF, "Unit"]
+    turn = [
+        kept_assign(8, two({"Mul": "Unsigned"}, kept_copy(5), {"SizeOf": OF})),
+        kept_assign(9, two("Offset", kept_copy(1, {"Field": 0}), kept_copy(8))),
+        kept_assign(6, {"AddrOf": kept_place(9, {"Deref": OF})}),
+        kept_method({"Given": 0}, 0, [kept_copy(4), kept_copy(2)], 10),
+        {"Assign": [kept_place(6, {"Deref": OF}), {"Opd": kept_copy(10)}]},
+        kept_assign(5, two({"Add": "Unsigned"}, kept_copy(5), kept_number(64, 1))),
+    ]
+    below = kept_assign(7, two({"Lt": "Unsigned"}, kept_copy(5), kept_copy(1, {"Field": 1})))
+    body = [
+        "Seq", kept_assign(4, {"Opd": kept_copy(3)}), "Seq", kept_assign(5, {"Opd": kept_number(64, 0)}),
+        "Seq", "Block", "Loop", "Seq", below, "Seq", {"If": kept_copy(7)}, "Skip", {"Exit": 1}, *in_turn(*turn),
+        *in_turn(
+            kept_method({"Given": 1}, 0, [kept_copy(4)], 11),
+            kept_assign(0, {"Aggregate": [kept_number(8, 1), "Unit"]}), "Return",
+        ),
+    ]
+    function = kept_function(3, locals_, body, [OPTION], in_memory=[4])
+    return kept_generic(function, (None, None), [("core::ops::Fn+1", BY, OF, OF), ("core::marker::Destruct", BY)])
+
+
+def generic_definitions():
+    impls = [kept_impl(f"c::fn::c_fill::store+{name}", ["c::fn::c_fill::store+Fn::call"]) for name in ("Fn", "FnOnce")]
+    impls.append(kept_impl("c::Destruct++none", ["c::Destruct++none::drop"], 1))
+    dicts = [{"Impl": [impls[0]["name"], [], []]}, {"Impl": ["c::Destruct++none", [CLOSURE], []]}]
+    fill = in_turn(
+        kept_assign(2, {"Aggregate": []}),
+        kept_call("c::store", [kept_copy(1), kept_number(16, 3), kept_copy(2)], 3, [INT16, CLOSURE], dicts),
+        kept_assign(0, {"Opd": kept_number(16, 7)}), "Return",
+    )
+    call = in_turn(kept_assign(0, {"Opd": kept_copy(2)}), "Return")
+    drop = in_turn(kept_assign(0, {"Opd": "Unit"}), "Return")
+    return {
+        "c::c_fill": kept_generic(
+            kept_function(1, [INT16, LIST, CLOSURE, GIVES], fill, [OPTION, SELF]), (), impls=impls
+        ),
+        "c::store": store(),
+        "c::fn::c_fill::store+Fn::call": kept_function(2, [INT16, kept_ref("Imm", CLOSURE), INT16], call, [SELF]),
+        "c::Destruct++none::drop": kept_generic(kept_function(1, ["Unit", OF], drop)),
+    }
+
+
+class Generic(unittest.TestCase):
+    def text(self):
+        with tempfile.TemporaryDirectory() as folder:
+            files = {"include/c.h": GENERIC_HEADER, "crates/c/src/lib.rt": GENERIC_SOURCE}
+            for name, text in {**files, "crates/c_c/src/lib.rt": GENERIC_EXPORTS}.items():
+                Path(folder, name).parent.mkdir(parents=True)
+                Path(folder, name).write_text(text, encoding="utf-8")
+            return Library("c", generic_definitions(), Path(folder), "the kit").text()
+
+    def test_an_instance(self):
+        text = self.text()
+        self.assertIn("""\
+/* c::store<u16, c_fill_store>, crates/c/src/lib.rt: Stores what a function makes of a value. */
+static struct Option_unit c_store_u16_c_fill_store(struct slice_u16_mut out, uint16_t value) {
+    uint64_t x_index = 0;
+    while (x_index < out.len) {
+        out.at[x_index] = c_fn_c_fill_store_Fn_call(value);
+        x_index++;
+    }
+    return (struct Option_unit){.tag = Option_unit_Some};
+}
+""", text)
+        self.assertIn("    c_store_u16_c_fill_store(list, 3);\n    return 7;\n", text)
+        self.assertNotIn("drop", text)
+
+    def test_what_it_is_made_of(self):
+        text = self.text()
+        self.assertIn("""\
+/* core::option::Option<unit>, of the kit's library */
+enum { Option_unit_None, Option_unit_Some };
+struct Option_unit {
+    uint8_t tag;
+};
+""", text)
+        self.assertIn("""\
+/* c::fn::c_fill::store+Fn::call, how what is passed to a function is called */
+static uint16_t c_fn_c_fill_store_Fn_call(uint16_t p2) {
+    return p2;
+}
+""", text)
 
 
 class Command(unittest.TestCase):

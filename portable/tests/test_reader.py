@@ -1,18 +1,25 @@
 import unittest
 
 from .making import (
-    BOOL, TABLE, U16, U32, U64, WORDS, in_turn, kept_array, kept_assign, kept_call, kept_copy, kept_function, kept_int,
-    kept_named, kept_number, kept_place, kept_ref, kept_slice, kept_type,
+    BOOL, TABLE, U8, U16, U32, U64, WORDS, in_turn, kept_array, kept_assign, kept_call, kept_copy, kept_function,
+    kept_int, kept_named, kept_number, kept_place, kept_ref, kept_slice, kept_type,
 )
 from translator.reader import Reader, read_program, read_type
 from translator.terms import (
     Address, Aggregate, Assign, Binary, Block, Call, Case, Cast, Deref, Exit, Field, Fields, If, Int, Local, Loop,
-    Named, Nothing, Number, Offset, Payload, Pointer, Ref, Repeat, Return, Switch, Tag, Truth, Unary, Unknown, Variants,
+    Named, Nothing, Number, Offset, Payload, Pointer, Ref, Repeat, Return, Slice, Switch, Tag, Truth, Unary, Unit,
+    Unknown, Unreachable, Variants,
 )
 
-DECLARED = {"c::Pair": Fields((U16, U32)), "c::Answer": Variants(((), (U64, BOOL)))}
+DECLARED = {
+    "c::Pair": Fields((U16, U32)), "c::Answer": Variants(((), (U64, BOOL))), "c::Half": Fields((Unit(), U16)),
+    "c::Done": Variants(((Unit(),), (U16,))),
+}
 PAIR, ANSWER = Named("c::Pair"), Named("c::Answer")
-LOCALS = [U64, U64, BOOL, WORDS, PAIR, ANSWER, TABLE, Pointer(), U32, Ref(False, TABLE), U16]
+HALF, DONE = Named("c::Half"), Named("c::Done")
+LOCALS = [
+    U64, U64, BOOL, WORDS, PAIR, ANSWER, TABLE, Pointer(), U32, Ref(False, TABLE), U16, Unit(), HALF, DONE, Unit(),
+]
 FIELD_0, FIELD_1, FIELD_2 = {"Field": 0}, {"Field": 1}, {"Field": 2}
 
 
@@ -98,6 +105,14 @@ class Values(unittest.TestCase):
         address = value({"AddrOf": kept_place(6)}, Ref(False, TABLE))
         self.assertEqual(address, Address(Local(6, TABLE), Ref(False, TABLE)))
 
+    def test_a_slice_of_a_raw_pointer(self):
+        other = {"Aggregate": [kept_copy(9), kept_number(64, 1)]}
+        self.assertEqual(value(other, WORDS), Aggregate((Local(9, Ref(False, TABLE)), Number(1, U64)), WORDS))
+        with self.assertRaises(Unknown):
+            value(other, Slice(False, U32))
+        found = value({"Aggregate": [kept_copy(7), kept_number(64, 1)]}, WORDS)
+        self.assertEqual(found, Aggregate((Local(7, Pointer()), Number(1, U64)), WORDS))
+
     def test_what_is_not_known_or_does_not_fit(self):
         for tree, ty in (
             (two({"Div": "Signed"}, kept_copy(1), kept_number(64, 2)), U64),
@@ -121,6 +136,7 @@ class Values(unittest.TestCase):
             (operand(kept_copy(1)), U32),
             (operand(kept_copy(99)), U64),
             (operand(kept_copy(5, {"Variant": 1})), ANSWER),
+            ({"Aggregate": [kept_copy(7), kept_number(32, 1)]}, WORDS),
             (operand({"Copy": {"local": 1}}), U64),
             ({"Aggregate": [kept_number(16, 1)]}, PAIR),
             ({"Aggregate": [kept_number(32, 1), kept_number(32, 2)]}, PAIR),
@@ -131,6 +147,78 @@ class Values(unittest.TestCase):
         ):
             with self.assertRaises(Unknown, msg=tree):
                 value(tree, ty)
+
+
+class Units(unittest.TestCase):
+    """What holds nothing has no value."""
+
+    def test_operands(self):
+        for place in (
+            kept_copy(11), kept_copy(12, FIELD_0), kept_copy(13, {"Variant": 0}, FIELD_1),
+            kept_copy(11, {"Deref": "Unit"}, FIELD_0),
+        ):
+            self.assertEqual(value(operand(place), Unit()), Nothing())
+        self.assertEqual(value({"AddrOf": kept_place(11)}, Unit()), Nothing())
+        self.assertEqual(value({"Aggregate": []}, Unit()), Nothing())
+        self.assertEqual(value({"Aggregate": [kept_copy(11), "Unit"]}, Unit()), Nothing())
+
+    def test_parts(self):
+        half = value({"Aggregate": [kept_copy(11), kept_number(16, 1)]}, HALF)
+        self.assertEqual(half, Aggregate((Nothing(), Number(1, U16)), HALF))
+        self.assertEqual(value({"Aggregate": [kept_number(8, 0), "Unit"]}, DONE), Case(0, (Nothing(),), DONE))
+
+    def test_targets(self):
+        self.assertEqual(statement(kept_assign(11, operand("Unit"))), Assign(Local(11, Unit()), Nothing()))
+        stored = statement({"Assign": [kept_place(12, FIELD_0), operand(kept_copy(11))]})
+        self.assertEqual(stored, Assign(Nothing(), Nothing()))
+
+    def test_what_does_not_fit(self):
+        for tree, ty in (
+            (operand(kept_copy(11, {"Deref": kept_int(16)})), Unit()),
+            (operand(kept_copy(11, {"Variant": 0}, FIELD_0)), Unit()), (operand(kept_copy(11)), U16),
+            ({"AddrOf": kept_place(11)}, Ref(False, Unit())),
+            ({"AddrOf": kept_place(11)}, Pointer()), ({"Aggregate": [kept_number(16, 1)]}, Unit()),
+            ({"AddrOf": kept_place(1)}, Unit()), (operand(kept_number(16, 1)), Unit()),
+        ):
+            with self.assertRaises(Unknown, msg=tree):
+                value(tree, ty)
+
+
+class Constants(unittest.TestCase):
+    def lent(self, ty, constant, to=None):
+        target = Ref(False, read_type(ty) if to is None else to)
+        reading = Reader([target], DECLARED, {})
+        (found,) = reading.body([{"LendStatic": [kept_place(0), ty, constant]}])
+        return found.value.value
+
+    def test_each(self):
+        ints = {"Ints": {"width": 16, "values": [1, 2, 1, 2]}}
+        table = Aggregate(tuple(Number(n, U16) for n in (1, 2, 1, 2)), TABLE)
+        self.assertEqual(self.lent(kept_array(kept_int(16), 4), ints), table)
+        one, two_ = ({"Int": {"width": width, "value": value}} for width, value in ((16, 1), (32, 2)))
+        self.assertEqual(self.lent(kept_int(16), one), Number(1, U16))
+        alike = Aggregate((Number(1, U16),) * 4, TABLE)
+        self.assertEqual(self.lent(kept_array(kept_int(16), 4), {"Repeat": [one, 4]}), alike)
+        pair = Aggregate((Number(1, U16), Number(2, U32)), PAIR)
+        self.assertEqual(self.lent(kept_named("c::Pair"), {"Parts": [one, two_]}), pair)
+        answer = {"Parts": [kept_number(8, 1), kept_number(64, 2), {"Bool": True}]}
+        self.assertEqual(self.lent(kept_named("c::Answer"), answer), Case(1, (Number(2, U64), Truth(True)), ANSWER))
+        half = {"Parts": ["Unit", one]}
+        self.assertEqual(self.lent(kept_named("c::Half"), half), Aggregate((Nothing(), Number(1, U16)), HALF))
+        self.assertEqual(self.lent("Bool", {"Bool": False}), Truth(False))
+
+    def test_what_is_not_known_or_does_not_fit(self):
+        words, one = kept_array(kept_int(16), 4), kept_number(16, 1)
+        for ty, constant, to in (
+            (words, {"Ints": {"width": 16, "values": [1, 2, 3]}}, None), (words, {"Parts": [one] * 3}, None),
+            (words, {"Ints": {"width": 32, "values": [1, 2, 3, 4]}}, None), (words, {"Repeat": [one, 3]}, None),
+            (words, {"Ints": {"width": 16, "values": [1, 2, 3, 65536]}}, None), (kept_int(32), one, None),
+            (words, {"Here": 16}, None), ("Bool", {"Bool": 1}, None), ("Bool", {"Bool": None}, None),
+            (kept_int(16), {"Parts": [one]}, None), ({"Float": 32}, one, U32), (kept_int(16), one, U32),
+            (kept_named("c::Answer"), {"Parts": [kept_number(8, 0), one]}, None),
+        ):
+            with self.assertRaises(Unknown, msg=constant):
+                self.lent(ty, constant, to)
 
 
 class Statements(unittest.TestCase):
@@ -145,6 +233,7 @@ class Statements(unittest.TestCase):
         self.assertEqual(statement("Block", "Loop", {"Exit": 1}), Block([Loop([Exit(1)])]))
         read = reader().body(["Seq", "Seq", "Skip", {"Exit": 0}, "Seq", {"Exit": 1}, {"Exit": 2}])
         self.assertEqual(read, [Exit(0), Exit(1), Exit(2)])
+        self.assertEqual(statement("Unreachable"), Unreachable())
 
     def test_switch(self):
         found = statement({"Switch": [kept_copy(1), [[0, 1], [2]], True]}, {"Exit": 0}, {"Exit": 1}, {"Exit": 2})
@@ -155,7 +244,7 @@ class Statements(unittest.TestCase):
     def test_others_are_unknown(self):
         for words in (
             [{"Drop": kept_place(1)}], [{"If": kept_copy(1)}, "Skip", "Skip"], [{"If": kept_copy(2)}, "Skip"], [],
-            ["Unreachable"], ["Return", "Skip"], ["Seq", "Skip"], [kept_call("c::g", [], 0)], [{"Return": 1}],
+            ["Return", "Skip"], ["Seq", "Skip"], [kept_call("c::g", [], 0)], [{"Return": 1}],
             [{"Skip": []}], ["Exit"],
             [kept_call("c::f", [kept_copy(1)], 0, types=["Bool"])],
             [{"Call": [{"Method": [{"Given": 0}, 0, {"types": [], "dicts": []}]}, [], kept_place(0)]}],
@@ -191,9 +280,27 @@ class Programs(unittest.TestCase):
         }
         self.assertEqual(self.names(definitions, "top::f"), ["low::b", "low::a", "top::g", "top::e", "top::f"])
 
+    def test_a_function_that_is_never_called(self):
+        never = kept_function(0, [kept_int(64)], ["Unreachable"])
+        choice = ["Seq", {"If": "True"}, "Skip", kept_call("c::never", [], 0), *in_turn("Skip", "Return")]
+        definitions = {"c::never": never, "c::f": kept_function(0, [kept_int(64)], choice)}
+        self.assertEqual(self.names(definitions, "c::f"), ["c::f"])
+        with self.assertRaises(Unknown):
+            self.names(definitions, "c::never")
+
     def test_a_crate_that_calls_a_later_one(self):
         with self.assertRaises(Unknown):
             self.names({"top::f": calling("low::a"), "low::a": calling()}, "top::f")
+
+    def test_a_function_that_stands_in_another_crate_than_its_name_says(self):
+        definitions = {"core::map": calling("c::closure"), "c::closure": calling(), "c::f": calling("core::map")}
+        with self.assertRaises(Unknown):
+            read_program(definitions, ["c::f"])
+        program = read_program(definitions, ["c::f"], lambda name: "c")
+        self.assertEqual([function.name for function in program.functions], ["c::closure", "core::map", "c::f"])
+        definitions = {"core::map": calling(), "d::f": calling("core::map")}
+        program = read_program(definitions, ["d::f"], lambda name: {"core::map": "c", "d::f": "d"}[name])
+        self.assertEqual([function.name for function in program.functions], ["core::map", "d::f"])
 
     def test_what_is_not_there_or_calls_itself(self):
         for definitions in ({"c::f": calling("c::g")}, {"c::f": calling("c::g"), "c::g": calling("c::f")}, {}):

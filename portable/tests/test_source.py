@@ -3,7 +3,9 @@ import unittest
 from pathlib import Path
 
 from . import making  # noqa: F401, for the path
-from translator.source import Names, bound, read_crates, read_file, tokens_of, variables_of
+from translator.source import (
+    Elements, Names, Question, Variable, bound, owner_name, read_crates, read_file, tokens_of, variables_of,
+)
 
 TEXT = """
 // The head of the file.
@@ -115,6 +117,135 @@ class Handed(unittest.TestCase):
         for body in ("low::g(out, a)", "low::g(a)", "low::g(a, &out)", "low::g(a, out);", "low::g(a, out)()", "a", ""):
             self.assertIsNone(self.handed_to(body), msg=body)
         self.assertEqual(self.handed_to("1 + low::g(a, out)"), "1+low::g")
+
+
+GENERIC = """
+#[derive(Clone, Copy, PartialEq)]
+pub struct Clear<T, const N: usize> {
+    pub at: [T; N],
+    ghost clear: { length at ≡ N },
+    pub many: usize,
+}
+
+enum Found<T: Copy> {
+    Nothing,
+    At(T),
+}
+
+pub trait Weight {
+    fn weight(self) -> [u8; 2]
+        ensures { length result ≡ 2 };
+    fn twice(self) -> u32 { let two = 2; two }
+}
+
+impl<T: Weight, const N: usize> Weight for Clear<T, N> {
+    fn weight(self) -> [u8; 2] { let own = 1; [own, own] }
+}
+
+impl<'a, T> Index<'a, T> where T: Copy {
+    pub fn get<F: Fn(u16, &T) -> Option<T>>(&'a self, by: F) -> Option<T>
+        requires { F.IsAlwaysCallable by }
+    {
+        let found = 1;
+    }
+}
+
+impl From<Result<(), low::Refusal>> for Told {
+    fn from(r: Result<(), low::Refusal>) -> Told { r }
+}
+
+fn store<T: Copy, U>(values: &[T]) -> Found<U> {}
+"""
+
+
+class Generic(unittest.TestCase):
+    def setUp(self):
+        self.names = Names()
+        read_file(GENERIC, ["c"], "crates/c/src/lib.rt", self.names)
+
+    def test_functions(self):
+        parameters = {name: text.parameters for name, text in self.names.functions.items()}
+        self.assertEqual(parameters, {
+            "c::Weight::twice": ["self"], "c::ClearWeight::weight": ["self"], "c::Index::get": ["self", "by"],
+            "c::ToldFromResultUnitRefusal::from": ["r"], "c::store": ["values"],
+        })
+        found = self.names.functions["c::Index::get"]
+        self.assertEqual([variable.name for variable in found.variables], ["found"])
+
+    def test_types(self):
+        clear = self.names.types["c::Clear"]
+        self.assertEqual((clear.fields, clear.derived), (["at", "many"], ["Clone", "Copy", "PartialEq"]))
+        self.assertEqual(self.names.types["c::Found"].variants, [("Nothing", []), ("At", [None])])
+
+    def test_what_an_impl_is_named(self):
+        for head, name in (
+            ("Pair", "Pair"), ("<'a> Index<'a>", "Index"), ("Weight for u16", "U16Weight"),
+            ("Weight for &Id", "RefIdWeight"), ("Weight for &mut Id", "RefMutIdWeight"),
+            ("Weight for &'a Id", "RefIdWeight"), ("<T> Weight for Clear<T>", "ClearWeight"),
+            ("TryFrom<&[u16]> for Id", "IdTryFromRefSliceU16"), ("From<[u16; 4]> for Id", "IdFromArrayU164"),
+            ("From<(u16, bool)> for low::Id", "IdFromTuple2U16Bool"), ("Weight for Clear<u8>", "ClearU8Weight"),
+            ("From<Result<usize, Refusal>> for Told", "ToldFromResultUsizeRefusal"),
+            ("<T, const N: usize> From<[T; N]> for Held<T, N>", "HeldFromArray"),
+            ("From<&[u16; low::TWO_MORE]> for Told", "ToldFromRefArrayU16TWOMORE"),
+        ):
+            self.assertEqual(owner_name(tokens_of(head)), name)
+
+
+class Loops(unittest.TestCase):
+    def names(self, text):
+        return [(type(variable).__name__[0], variable.name) for variable in variables_of(tokens_of(text))]
+
+    def test_a_range_binds_its_variable_alone(self):
+        for over in ("0..n", "f(a[0])..=9u16", "(0..n).rev()", "(a.b(0)..n)"):
+            self.assertEqual(self.names(f"for k in {over} {{ let x = 1; }}"), [("V", "k"), ("V", "x")])
+        self.assertEqual(self.names("for _ in 0..4 { f(); }"), [])
+
+    def test_elements_are_counted(self):
+        for over in ("s", "&s[a..b]", "s.iter()", "f(a..b, |x| { x })"):
+            self.assertEqual(self.names(f"for x in {over} {{}}"), [("E", "x"), ("V", "x")])
+        found = variables_of(tokens_of("for (k, &x) in s.iter_mut().enumerate() {}"))
+        self.assertEqual(found, [Elements("x", True), Variable("k", False), Variable("x", False)])
+
+
+class Questions(unittest.TestCase):
+    def test_each_stands_where_it_is_asked(self):
+        found = variables_of(tokens_of("f()?; let a = g(h()?)?; match k()? { b => b }"))
+        a, b, asked = Variable("a", True), Variable("b", False), Question()
+        self.assertEqual(found, [asked, a, asked, asked, asked, b])
+
+
+class Closures(unittest.TestCase):
+    def test_what_they_bind_is_their_own(self):
+        for closure in (
+            "|x| { let y = x; y }", "move |x| match x { y => y, z => z }", "|x: u16| -> u16 { let y = x; y }",
+            "|| { let y = 1; y }", "|x| requires { y ≤ x } { let y = x; y }", "|x| f(x, { let y = 1; y }) + g(x)",
+        ):
+            found = variables_of(tokens_of(f"let a = f({closure}, 1); let b = {closure}; let c = a | b | 2;"))
+            self.assertEqual([variable.name for variable in found], ["a", "b", "c"], msg=closure)
+
+    def test_each_is_a_function(self):
+        text = """
+        impl Pair {
+            fn sum(self) -> u16 {
+                let add = |x| x + 1;
+                let a = self.list.map(3, |x: u16| x).map(move |(x, y), &z, _, mut w| { let v = x; v });
+                fold(a, |x| { fold(a, |y| y + add(x)) })
+            }
+        }
+        """
+        names = Names()
+        read_file(text, ["c", "m"], "crates/c/src/m.rt", names)
+        found = {name: (text.parameters[1:], [variable.name for variable in text.variables])
+                 for name, text in names.functions.items() if "fn" in name.split("::")}
+        self.assertEqual(found, {
+            "c::m::fn::Pair::sum::add": (["x"], []), "c::m::fn::Pair::sum::map": (["x"], []),
+            "c::m::fn::Pair::sum::map+2": (["p2", "p3", "p4", "w"], ["x", "y", "z", "v"]),
+            "c::m::fn::Pair::sum::fold": (["x"], []), "c::m::fn::Pair::sum::fn::fold::fold": (["y"], []),
+        })
+
+    def test_alternatives_are_none(self):
+        found = variables_of(tokens_of("match a { At | Other(1 | 2) => { let y = x; } _ => 1 }"))
+        self.assertEqual([variable.name for variable in found], ["y"])
 
 
 class Crates(unittest.TestCase):

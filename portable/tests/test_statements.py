@@ -68,6 +68,10 @@ class Declarations(unittest.TestCase):
     def test_a_parameter_that_is_not_used(self):
         self.assertEqual(written(returned(N)), ["(void)flag;", "(void)out;", "return n;"])
 
+    def test_a_parameter_that_holds_nothing_is_not_there(self):
+        lines = written(returned(local(9)), parameters=10)
+        self.assertEqual([line for line in lines if "none" in line], [])
+
 
 class Assignments(unittest.TestCase):
     def line(self, statement):

@@ -3,7 +3,9 @@ from copy import deepcopy
 
 from .making import BOOL, TABLE, U64, assign, binary, call, local, number, returned
 from translator.terms import Assign, Block, Exit, Function, If, Local, Loop, Nothing, Return, Switch, Unit
-from translator.tidy import drop_unread, drop_units, gives, join, leaves, short_circuit, sink, use_parameters
+from translator.tidy import (
+    drop_unread, drop_unread_values, drop_units, gives, join, leaves, open_blocks, short_circuit, sink, use_parameters,
+)
 
 TEMPORARIES = frozenset(range(10, 100))
 
@@ -35,6 +37,36 @@ class Parameters(unittest.TestCase):
         function = self.function(*body)
         self.assertEqual(use_parameters(function), 0)
         self.assertEqual(function.body, body)
+
+
+    def test_what_holds_nothing_has_a_copy_too(self):
+        """The variables stand behind the copies."""
+        copies = [Assign(Local(2, Unit()), Nothing()), Assign(Local(3, TABLE), Local(1, TABLE))]
+        function = Function("f", 1, [U64, TABLE, Unit(), TABLE, U64], frozenset({2, 3}), [*copies, returned(local(4))])
+        self.assertEqual(use_parameters(function), 2)
+        self.assertEqual(function.body, [returned(local(4))])
+        self.assertEqual(function.in_memory, {1, 2, 3})
+        function = Function("f", 1, [U64, TABLE, Unit()], frozenset(), [copies[0]])
+        self.assertEqual(use_parameters(function), 0)
+
+
+class Blocks(unittest.TestCase):
+    def test_one_that_nothing_leaves_is_what_it_holds(self):
+        body = [Loop([Block([assign(3, number(1)), If(local(1, BOOL), [Exit(2)], [Exit(1)])]), Exit(1)])]
+        open_blocks(body)
+        self.assertEqual(body, [Loop([assign(3, number(1)), If(local(1, BOOL), [Exit(1)], [Exit(0)]), Exit(1)])])
+
+    def test_one_that_something_leaves_stays(self):
+        for inner in ([Exit(0)], [Loop([Exit(1)])], [If(local(1, BOOL), [Exit(0)], [])]):
+            body = [Block([*inner, assign(3, number(1))])]
+            before = deepcopy(body)
+            open_blocks(body)
+            self.assertEqual(body, before)
+
+    def test_what_leaves_blocks_within_stays_as_it_is(self):
+        body = [Block([Block([Loop([Exit(1), Exit(3)])])])]
+        open_blocks(body)
+        self.assertEqual(body, [Block([Loop([Exit(1), Exit(2)])])])
 
 
 class Sinks(unittest.TestCase):
@@ -103,6 +135,27 @@ class Joins(unittest.TestCase):
         for body in (set_before, [loop, assign(3, local(10)), returned(local(10))]):
             before = deepcopy(body)
             join(body, body, TEMPORARIES)
+            self.assertEqual(body, before)
+
+
+class UnreadValues(unittest.TestCase):
+    def test_a_value_that_nothing_reads(self):
+        body = [
+            assign(10, local(1)), If(local(1, BOOL), [assign(11, local(2)), assign(3, number(1))], []),
+            returned(local(3)),
+        ]
+        self.assertTrue(drop_unread_values(body, TEMPORARIES))
+        self.assertEqual(body, [If(local(1, BOOL), [assign(3, number(1))], []), returned(local(3))])
+        self.assertFalse(drop_unread_values(body, TEMPORARIES))
+
+    def test_not_what_is_read_or_called_or_a_variable(self):
+        carried = [Loop([assign(12, local(10)), assign(10, number(1)), If(local(12, BOOL), [Exit(1)], [])])]
+        for body in (
+            [assign(10, call("f")), returned(number(1))], [assign(3, number(1)), returned(number(1))],
+            [assign(10, number(1)), returned(local(10))], [Block(carried)],
+        ):
+            before = deepcopy(body)
+            self.assertFalse(drop_unread_values(body, TEMPORARIES))
             self.assertEqual(body, before)
 
 

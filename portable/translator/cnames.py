@@ -1,7 +1,11 @@
 """What C calls things: functions and types by their path, locals and fields by their names in the source."""
 
+import re
+
 from .helpers import HELPERS
-from .terms import Array, Bool, Fields, Int, Named, Unknown
+from .source import Elements, Question, Variable
+from .terms import Array, Assign, Bool, Fields, Int, Named, Number, Unit, Unknown
+from .walk import all_statements, root
 
 KEYWORDS = frozenset(
     """auto break case char const continue default do double else enum extern float for goto if inline int long register
@@ -29,7 +33,7 @@ class PathNames:
         self.given = {}
 
     def name(self, path):
-        name = path.replace("::", "_")
+        name = re.sub(r"\W+", "_", path)
         if name in self.taken:
             name += "_"
         if self.given.setdefault(name, path) != path:
@@ -46,7 +50,7 @@ def short(ty):
     if isinstance(ty, Array):
         return f"{short(ty.of)}_{ty.length}"
     if isinstance(ty, Named):
-        return ty.name.replace("::", "_")
+        return re.sub(r"\W+", "_", ty.name)
     raise Unknown(f"elements of type {ty}")
 
 
@@ -73,17 +77,61 @@ def local_names(function, text, copies):
         if len(text.parameters) != function.parameters:
             raise Unknown(f"{function.name} has {function.parameters} parameters, and its source others")
         names.update(enumerate(text.parameters, 1))
-        first = function.parameters + 1 + copies
-        names.update((first + k, variable.name) for k, variable in enumerate(text.variables))
-        check_told(function, text, first)
+        names.update((index, variable.name) for index, variable in located(function, text, copies))
     return distinct(names)
 
 
-def check_told(function, text, first):
-    for k, variable in enumerate(text.variables):
-        known = first + k < len(function.locals)
-        if not known or variable.told in TOLD and function.locals[first + k] != TOLD[variable.told]:
-            raise Unknown(f"the variable {variable.name} of {function.name} is not where MIR should have it")
+def located(function, text, copies):
+    """The variables of the text, each with the local that it is in MIR."""
+    found, index = [], function.parameters + 1 + copies
+    for variable in text.variables:
+        if isinstance(variable, Elements):
+            for part in parts_of_loop(function, variable, index):
+                found.append((index, Variable(f"{variable.name}_{part}", False)))
+                index += 1
+        elif isinstance(variable, Question):
+            check_question(function, index)
+            index += 2
+        else:
+            check_told(function, variable, index)
+            found.append((index, variable))
+            index += 1
+    return found
+
+
+def parts_of_loop(function, elements, index):
+    """What stands before the variables of a loop over elements. One over a slice or an array counts its elements, and
+    the number may have a name. Before it stands what holds the elements, where no variable does. Any other has what it
+    goes over, the same as an iterator in memory, and what that gives.
+    """
+    number = [] if elements.counts else ["index"]
+    for at, parts in ((index, number), (index + 1, ["items", *number])):
+        if at < len(function.locals) and function.locals[at] == Int(64) and begins_with_0(function, at):
+            return parts
+    steps = function.locals[index + 1] if index + 1 < len(function.locals) else None
+    if not isinstance(steps, Named) or index + 1 not in function.in_memory:
+        raise Unknown(f"the loop over {elements.name} of {function.name} is not where MIR should have it")
+    return ["items", "steps", "item"]
+
+
+def begins_with_0(function, index):
+    values = [s.value for s in all_statements(function.body) if isinstance(s, Assign) and root(s.target) == index]
+    return bool(values) and values[0] == Number(0, Int(64))
+
+
+def check_question(function, index):
+    """The value of a `?` may be of any type; behind it stands the refusal that is handed back, nothing where that is
+    `None`.
+    """
+    handed_back = function.locals[index + 1] if index + 1 < len(function.locals) else None
+    if handed_back != Unit() and not (isinstance(handed_back, Named) and "Residual" in handed_back.name):
+        raise Unknown(f"a ? of {function.name} is not where MIR should have it")
+
+
+def check_told(function, variable, index):
+    known = index < len(function.locals)
+    if not known or variable.told in TOLD and function.locals[index] != TOLD[variable.told]:
+        raise Unknown(f"the variable {variable.name} of {function.name} is not where MIR should have it")
 
 
 def distinct(names):

@@ -26,7 +26,10 @@ class Types:
         if isinstance(ty, Unit):
             return "void"
         if isinstance(ty, Ref):
-            return f"{self.spell(ty.to)} *" if ty.mutable else f"const {self.spell(ty.to)} *"
+            to = self.spell(ty.to)
+            if to.endswith("*"):
+                return f"{to}*" if ty.mutable else f"{to}const *"
+            return f"{to} *" if ty.mutable else f"const {to} *"
         if isinstance(ty, Named) and ty.name in self.crossing:
             return self.crossing[ty.name]
         if not isinstance(ty, (Slice, Array, Named)):
@@ -74,7 +77,7 @@ class Types:
             inner = ["    uint8_t tag;", *self.union_lines(declared, text)]
         if not inner:
             raise Unknown(f"{ty.name}, a struct of nothing")
-        comment = [f"/* {ty.name}, {text.file} */"]
+        comment = [f"/* {text.path or ty.name}, {text.file} */"]
         constants = [] if isinstance(declared, Fields) else [self.constant_line(ty, text)]
         return [*comment, *constants, f"struct {self.tag(ty)} {{", *inner, "};"]
 
@@ -86,16 +89,19 @@ class Types:
         return f"{self.tag(ty)}_{self.source.types[ty.name].variants[variant][0]}"
 
     def member_lines(self, types, names, indent):
+        """What holds nothing is left out: C has no such member."""
         labels = [field_label(name, i) for i, name in enumerate(names)]
-        return [f"{indent}{self.declarator(part, label)};" for part, label in zip(types, labels)]
+        return [f"{indent}{self.declarator(part, label)};" for part, label in zip(types, labels) if part != Unit()]
 
     def union_lines(self, declared, text):
         """A variant with one field that has no name is that field; of others it is a struct."""
         lines = []
         for types, (variant, names) in zip(declared.types, text.variants):
+            if set(types) <= {Unit()}:
+                continue
             if names == [None]:
                 lines.append(f"        {self.declarator(types[0], safe(variant))};")
-            elif names:
+            else:
                 lines += ["        struct {", *self.member_lines(types, names, " " * 12)]
                 lines.append(f"        }} {safe(variant)};")
         return ["    union {", *lines, "    } u;"] if lines else []

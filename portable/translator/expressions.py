@@ -10,8 +10,8 @@ import re
 
 from .helpers import helper_name, signed_name
 from .terms import (
-    Address, Aggregate, Array, Binary, Bool, Call, Case, Cast, Deref, Field, Int, Local, Named, Nothing, Number, Offset,
-    Payload, Ref, Repeat, Slice, Tag, Truth, Unary, Unknown,
+    Address, Aggregate, Array, Binary, Bool, Call, Case, Cast, Deref, Field, Int, Lent, Local, Named, Nothing, Number,
+    Offset, Payload, Ref, Repeat, Slice, Tag, Truth, Unary, Unknown,
 )
 
 SIGNS = {
@@ -26,7 +26,9 @@ ATOM, PREFIX = "atom", "prefix"
 class Expressions:
     """Writes the expressions of one function, whose locals have names."""
 
-    def __init__(self, types, paths, locals_):
+    def __init__(self, types, paths, locals_, lent=None):
+        """`lent` gives a constant that the function lends its name."""
+        self.lent = lent
         self.types = types
         self.paths = paths
         self.locals = locals_
@@ -130,7 +132,7 @@ class Expressions:
         return self.member(of, self.types.payload(of.ty, expression.variant, expression.index)), ATOM
 
     def member(self, of, name):
-        if isinstance(of, Deref) and not isinstance(of.of, Offset):
+        if isinstance(of, Deref) and not isinstance(of.of, Offset) and not is_constant_place(of):
             return f"{self.atom(of.of)}->{name}"
         return f"{self.atom(of)}.{name}"
 
@@ -138,19 +140,24 @@ class Expressions:
         if isinstance(expression.of, Offset):
             base, index = self.element(expression.of, expression.ty)
             return f"{base}[{index}]", ATOM
+        if is_constant_place(expression):
+            return self.lent(expression.of.value), ATOM
+        if isinstance(expression.of, Lent):
+            return f"*{self.pointer(expression.of, expression.ty)[0]}", PREFIX
         return f"*{self.unary_operand(expression.of)}", PREFIX
 
     def element(self, offset, ty):
         """The first element that a pointer is an offset from, and the number of elements that the bytes are."""
-        return self.pointer(offset.of, ty), self.index(offset.by, self.types.memory.size(ty))
+        base, operator = self.pointer(offset.of, ty)
+        return base if operator == ATOM else f"({base})", self.index(offset.by, self.types.memory.size(ty))
 
     def index(self, by, size):
         if isinstance(by, Number) and by.value % size == 0:
             return str(by.value // size)
-        if size == 1:
-            return self.text(by)
         if isinstance(by, Binary) and by.op == "mul" and by.right == Number(size, Int(64)):
             return self.text(by.left)
+        if size == 1:
+            return self.text(by)
         raise Unknown(f"an offset that does not count elements of {size} bytes")
 
     def elements(self, place, ty):
@@ -162,14 +169,18 @@ class Expressions:
         return self.member(place, "a")
 
     def pointer(self, expression, ty):
-        """A pointer to values of a type."""
+        """A pointer to values of a type, and the operator that it ends up with."""
         if isinstance(expression, Address):
             return self.address(expression.of, ty)
+        if isinstance(expression, Offset):
+            return self.address(Deref(expression, ty), ty)
+        if isinstance(expression, Lent):
+            return self.address(Deref(expression, expression.value.ty), ty)
         to = expression.ty.to if isinstance(expression.ty, Ref) else None
         if to == ty:
-            return self.atom(expression)
+            return self.atom(expression), ATOM
         if isinstance(to, Array) and to.of == ty:
-            return f"{self.atom(expression)}->a"
+            return f"{self.atom(expression)}->a", ATOM
         raise Unknown(f"a pointer to {ty} from {expression.ty}")
 
     def address(self, place, ty):
@@ -177,15 +188,18 @@ class Expressions:
             base, index = self.element(place.of, place.ty)
             if place.ty != ty:
                 raise Unknown(f"a pointer to {ty} from an element of type {place.ty}")
-            return f"{base} + {index}" if re.fullmatch(r"\w+", index) else f"{base} + ({index})"
-        if isinstance(place, Deref):
+            return f"{base} + {index}" if re.fullmatch(r"\w+", index) else f"{base} + ({index})", "+"
+        if isinstance(place, Deref) and not is_constant_place(place):
             return self.pointer(place.of, ty)
-        return f"&{self.atom(place)}" if place.ty == ty else self.elements(place, ty)
+        return (f"&{self.atom(place)}", PREFIX) if place.ty == ty else (self.elements(place, ty), ATOM)
 
     def write_address(self, expression):
         if not isinstance(expression.ty, Ref):
             raise Unknown("a raw pointer that is kept")
-        return self.address(expression.of, expression.ty.to), PREFIX
+        return self.address(expression.of, expression.ty.to)
+
+    def write_lent(self, expression):
+        return self.pointer(expression, expression.ty.to)
 
     def write_offset(self, expression):
         raise Unknown("a raw pointer that is kept")
@@ -193,7 +207,7 @@ class Expressions:
     # values of several parts
 
     def write_call(self, expression):
-        arguments = ", ".join(self.text(argument) for argument in expression.arguments)
+        arguments = ", ".join(self.text(argument) for argument in expression.arguments if argument != Nothing())
         return f"{self.paths.name(expression.function)}({arguments})", ATOM
 
     def write_aggregate(self, expression):
@@ -213,7 +227,7 @@ class Expressions:
         if isinstance(whole, Field) and whole.of.ty == expression.ty and length == Field(whole.of, 1, Int(64)):
             return self.write(whole.of)
         self.types.define(expression.ty)
-        pointer = self.pointer(at, expression.ty.of)
+        pointer, _ = self.pointer(at, expression.ty.of)
         return f"{self.types.tag(expression.ty)}({pointer}, {self.text(length)})", ATOM
 
     def initial(self, expression):
@@ -229,14 +243,15 @@ class Expressions:
             return "{0}"
         if isinstance(expression, Case):
             return self.case_braces(expression)
-        parts = [self.part(expression.ty, i, part) for i, part in enumerate(expression.parts)]
+        kept = [(i, part) for i, part in enumerate(expression.parts) if part != Nothing()]
+        parts = [self.part(expression.ty, i, part) for i, part in kept]
         if not parts:
             return "{0}"
         if isinstance(expression.ty, Array):
             return "{{" + ", ".join(parts) + "}}"
         if self.has_bare(expression.ty):
             raise Unknown(f"{expression.ty.name} within an expression")
-        fields = [f".{self.types.field(expression.ty, i)} = {part}" for i, part in enumerate(parts)]
+        fields = [f".{self.types.field(expression.ty, i)} = {part}" for (i, _), part in zip(kept, parts)]
         return "{" + ", ".join(fields) + "}"
 
     def part(self, owner, index, expression):
@@ -252,13 +267,14 @@ class Expressions:
 
     def case_braces(self, expression):
         tag = f".tag = {self.types.constant(expression.ty, expression.variant)}"
-        if not expression.parts:
+        kept = [i for i, part in enumerate(expression.parts) if part != Nothing()]
+        if not kept:
             return "{" + tag + "}"
-        parts = [self.initial(part) for part in expression.parts]
+        parts = [self.initial(expression.parts[i]) for i in kept]
         member, labels = self.types.variant(expression.ty, expression.variant)
         if labels == [None]:
             return "{" + f"{tag}, .u.{member} = {parts[0]}" + "}"
-        fields = ", ".join(f".{label} = {part}" for label, part in zip(labels, parts))
+        fields = ", ".join(f".{labels[i]} = {part}" for i, part in zip(kept, parts))
         return "{" + f"{tag}, .u.{member} = {{{fields}}}" + "}"
 
     def write_nothing(self, nothing):
@@ -270,6 +286,11 @@ def is_constant(expression):
     if isinstance(expression, Binary):
         return is_constant(expression.left) and is_constant(expression.right)
     return isinstance(expression, Number)
+
+
+def is_constant_place(place):
+    """Whether a place is a constant that is lent, and not an element of it."""
+    return isinstance(place, Deref) and isinstance(place.of, Lent) and place.of.value.ty == place.ty
 
 
 def is_zero(expression):

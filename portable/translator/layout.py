@@ -18,12 +18,23 @@ def broken(line):
     lines, begin, indent = [], 0, ""
     depths = depths_of(line)
     while len(indent) + len(line) - begin > WIDTH:
-        at = break_in(line, depths, begin + (start if not lines else 0) + 1, begin + WIDTH - len(indent))
+        first, last = begin + (start if not lines else 0) + 1, begin + WIDTH - len(indent)
+        at = break_in(line, depths, first, last)
+        if at is None:
+            at = break_at_a_long_name(line, depths, first, last)
         if at is None:
             break
         lines.append(indent + line[begin:at])
-        begin, indent = at + 1, " " * (start + 2 * INDENT)
+        begin, indent = at + (line[at] == " "), " " * (start + 2 * INDENT)
     return [*lines, indent + line[begin:]]
+
+
+def break_at_a_long_name(line, depths, first, last):
+    """Where nothing else is left to break at: before the name of a function, or behind what opens a bracket."""
+    if line.startswith("static ") and first == 1:
+        return line.rindex(" ", 0, line.index("("))
+    places = [at for at in range(first, last) if line[at - 1] in "({"]
+    return min(places, key=lambda at: (depths[at - 1], -at), default=None)
 
 
 def depths_of(line):

@@ -4,10 +4,11 @@ There a constructor without arguments is its name, and one with arguments an obj
 flat list, in which a constructor stands before the bodies that it holds: `["Seq", a, "Seq", b, "Return"]`.
 """
 
+from .reach import without_unreachable
 from .terms import (
     Address, Aggregate, Array, Assign, Binary, Block, Bool, Call, Case, Cast, Deref, Exit, Field, Fields, Function, If,
-    Int, Local, Loop, Named, Nothing, Number, Offset, Payload, Pointer, Program, Ref, Repeat, Return, Slice, Switch,
-    Tag, Truth, Unary, Unit, Unknown, Variants,
+    Int, Lent, Local, Loop, Named, Nothing, Number, Offset, Payload, Pointer, Program, Ref, Repeat, Return, Slice,
+    Switch, Tag, Truth, Unary, Unit, Unknown, Unreachable, Variants,
 )
 
 # Operations on two numbers, with the names that the rest of the translator has for them.
@@ -21,8 +22,12 @@ COUNTS = {"LeadingZeros": "leadingZeros", "CountOnes": "countOnes"}
 # The constructors without arguments; every other holds something.
 ALONE = {
     *PLAIN, *WRAPPING, *COUNTS, "Not", "Offset", "Signed", "Unsigned", "Bool", "Unit", "Ptr", "Mut", "Imm", "True",
-    "False", "Skip", "Return", "Loop", "Block", "ValueLocal", "MemorySlot",
+    "False", "Skip", "Return", "Loop", "Block", "ValueLocal", "MemorySlot", "Unreachable",
 }
+
+STATEMENTS = (
+    "Skip", "Return", "Assign", "Call", "If", "Loop", "Block", "Exit", "Switch", "LendStatic", "Unreachable",
+)
 
 # The members of a function, of what it takes beside values (lifetimes, the last, do not matter), and of a type.
 DEFINITION = ("params", "locals", "generics", "types", "body", "lifetimes", "outlives")
@@ -141,9 +146,11 @@ class Reader:
         expression, variant = Local(index, self.locals[index]), None
         for step in steps:
             kind = head(step, "Deref", "Field", "Variant")
-            if variant is not None and kind != "Field":
+            if expression.ty == Unit():
+                check_nothing(step)
+            elif variant is not None and kind != "Field":
                 raise Unknown("a variant that is not followed by one of its fields")
-            if kind == "Deref":
+            elif kind == "Deref":
                 expression = Deref(expression, read_type(only(step)))
             elif kind == "Variant":
                 variant = natural(only(step))
@@ -154,6 +161,11 @@ class Reader:
         if variant is not None:
             raise Unknown("a variant that is not followed by one of its fields")
         return expression
+
+    def target(self, tree):
+        """A place to store something; a part that is nothing has none."""
+        place = self.place(tree)
+        return Nothing() if place.ty == Unit() and not isinstance(place, Local) else place
 
     def declaration(self, ty, kind):
         declared = self.declared.get(ty.name) if isinstance(ty, Named) else None
@@ -174,7 +186,8 @@ class Reader:
     def operand(self, tree):
         kind = head(tree, "Copy", "Int", "True", "False", "Unit")
         if kind == "Copy":
-            return self.place(only(tree))
+            place = self.place(only(tree))
+            return Nothing() if place.ty == Unit() else place
         if kind == "Int":
             width, value = named(only(tree), "width", "value")
             ty, value = read_width(width), natural(value)
@@ -212,8 +225,10 @@ class Reader:
         return value
 
     def address(self, of, ty):
-        if not isinstance(ty, (Pointer, Ref)):
-            raise Unknown(f"an address for a place of type {ty}")
+        if of.ty == ty == Unit():
+            return Nothing()
+        if not isinstance(ty, (Pointer, Ref)) or of.ty == Unit():
+            raise Unknown(f"an address of {of.ty} for a place of type {ty}")
         return Address(of, ty)
 
     def unary(self, op, of):
@@ -255,6 +270,8 @@ class Reader:
         return Offset(of, by)
 
     def aggregate(self, values, ty):
+        if ty == Unit() and set(values) <= {Nothing()}:
+            return Nothing()
         if isinstance(ty, Slice):
             return Aggregate(self.slice_parts(values, ty), ty)
         if isinstance(ty, Array):
@@ -268,9 +285,13 @@ class Reader:
         raise Unknown(f"an aggregate of type {ty}")
 
     def slice_parts(self, values, ty):
-        """The reference may be one to an array, whose first element it then points to."""
-        if len(values) != 2 or values[1].ty != Int(64) or not isinstance(values[0].ty, Ref):
+        """The reference may be one to an array, whose first element it then points to, or a raw pointer, which does not
+        say to what: where it is written it has to be one to an element.
+        """
+        if len(values) != 2 or values[1].ty != Int(64) or not isinstance(values[0].ty, (Pointer, Ref)):
             raise Unknown(f"a slice of {values}")
+        if values[0].ty == Pointer():
+            return values
         to = values[0].ty.to
         if ty.of not in (to, to.of if isinstance(to, Array) else to):
             raise Unknown(f"a slice of {ty.of} at {to}")
@@ -305,14 +326,18 @@ class Reader:
 
     def statement(self, rest):
         tree = rest.pop() if rest else "nothing"
-        kind = head(tree, "Skip", "Return", "Assign", "Call", "If", "Loop", "Block", "Exit", "Switch")
+        kind = head(tree, *STATEMENTS)
         if kind == "Skip":
             return []
+        if kind == "Unreachable":
+            return [Unreachable()]
+        if kind == "LendStatic":
+            return [self.lend(*parts(tree, 3))]
         if kind == "Return":
             return [Return(Local(0, self.locals[0]))]
         if kind == "Assign":
             place, value = parts(tree, 2)
-            target = self.place(place)
+            target = self.target(place)
             return [Assign(target, self.value(value, target.ty))]
         if kind == "Call":
             return [self.call(*parts(tree, 3))]
@@ -324,6 +349,42 @@ class Reader:
             return [Exit(natural(only(tree)))]
         return [{"Loop": Loop, "Block": Block}[kind](self.next_body(rest))]
 
+    def lend(self, place, ty, constant):
+        target, ty = self.target(place), read_type(ty)
+        if target.ty != Ref(False, ty):
+            raise Unknown(f"a constant of type {ty} that is lent to a place of type {target.ty}")
+        return Assign(target, Lent(self.constant(constant, ty), target.ty))
+
+    def constant(self, tree, ty):
+        """A constant that lies in memory, with all its parts."""
+        if isinstance(tree, dict) and isinstance(tree.get("Bool"), bool):
+            return self.typed(Truth(tree["Bool"]), ty)
+        kind = head(tree, "Unit", "Int", "Ints", "Repeat", "Parts")
+        if kind in ("Unit", "Int"):
+            return self.typed(self.operand(tree), ty)
+        if kind == "Ints":
+            width, values = named(only(tree), "width", "values")
+            numbers = [{"Int": {"width": width, "value": value}} for value in values]
+            return self.constant({"Parts": numbers}, ty)
+        if kind == "Repeat":
+            of, count = parts(tree, 2)
+            return self.constant({"Parts": [of] * natural(count)}, ty)
+        trees, types = only(tree), self.types_of_parts(only(tree), ty)
+        if len(trees) != len(types):
+            raise Unknown(f"a constant of {len(trees)} parts where {len(types)} are expected")
+        return self.aggregate(tuple(self.constant(part, of) for part, of in zip(trees, types)), ty)
+
+    def types_of_parts(self, trees, ty):
+        """The types of a constant's parts. Those of an enum's depend on the first, its tag."""
+        if isinstance(ty, Array):
+            return [ty.of] * len(trees)
+        declared = self.declared.get(ty.name) if isinstance(ty, Named) else None
+        if isinstance(declared, Variants):
+            return [Int(8), *declared.types[self.constant(trees[0], Int(8)).value]]
+        if not isinstance(declared, Fields):
+            raise Unknown(f"a constant of type {ty}")
+        return declared.types
+
     def truth(self, tree):
         condition = self.operand(tree)
         if condition.ty != Bool():
@@ -331,7 +392,7 @@ class Reader:
         return condition
 
     def call(self, callee, operands, place):
-        name, target = read_callee(callee), self.place(place)
+        name, target = read_callee(callee), self.target(place)
         if name not in self.results:
             raise Unknown(f"a call of {name}, which MIR does not have")
         return Assign(target, self.typed(Call(name, self.operands(operands), self.results[name]), target.ty))
@@ -345,6 +406,12 @@ class Reader:
         if not isinstance(has_default, bool):
             raise Unknown(f"a switch with {has_default}")
         return Switch(value, arms, self.next_body(rest) if has_default else None)
+
+
+def check_nothing(step):
+    """What is reached from a place that holds nothing holds nothing."""
+    if head(step, "Deref", "Field") == "Deref" and read_type(only(step)) != Unit():
+        raise Unknown(f"{str(step)[:80]} of nothing")
 
 
 def fits(value, place):
@@ -392,7 +459,7 @@ def read_types(definitions):
     return declared
 
 
-def reached(definitions, entries):
+def reached(definitions, entries, crate_of):
     """What some functions need, themselves among it: crate by crate in the order of the definitions, and each function
     after those of its crate that it calls."""
     found, open_ = {}, set()
@@ -411,18 +478,18 @@ def reached(definitions, entries):
 
     for name in entries:
         visit(name)
-    crates = list(dict.fromkeys(name.split("::")[0] for name in definitions))
-    order = sorted(found, key=lambda name: (crates.index(name.split("::")[0]), found[name]))
+    crates = list(dict.fromkeys(crate_of(name) for name in definitions))
+    order = sorted(found, key=lambda name: (crates.index(crate_of(name)), found[name]))
     for i, name in enumerate(order):
         if not set(callees(definitions[name])) <= set(order[:i]):
             raise Unknown(f"{name}, which calls a function of a later crate")
     return order
 
 
-def read_program(definitions, entries):
-    """The functions that the entries need, of all that the built libraries have; `definitions` has the libraries one
-    after the other, each after those that it uses."""
-    order = reached(definitions, entries)
+def read_program(definitions, entries, crate_of=lambda name: name.split("::")[0]):
+    """The functions that the entries need; `definitions` has the crates one after the other, each after those that it
+    uses."""
+    order = reached(definitions, entries, crate_of)
     declared = read_types(definitions[name] for name in order)
     heads = {name: read_definition(name, definitions[name]) for name in order}
     results = {name: types[0] for name, (_, types, _) in heads.items()}
@@ -430,4 +497,4 @@ def read_program(definitions, entries):
     for name, (parameters, types, in_memory) in heads.items():
         body = Reader(types, declared, results).body(definitions[name]["body"])
         functions.append(Function(name, parameters, types, in_memory, body))
-    return Program(functions, declared)
+    return Program(without_unreachable(functions, entries), declared)

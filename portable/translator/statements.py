@@ -61,7 +61,8 @@ class Statements:
             raise Unknown(f"locals {sorted(unset)} of {self.function.name} that may be read before they are set")
         mentioned = {index for index in range(len(self.function.locals)) if any(mentions(s, index) for s in body)}
         values = {index for index in mentioned if self.function.locals[index] != Unit()}
-        unused = [f"(void){self.expressions.locals[index]};" for index in sorted(parameters - mentioned)]
+        held = {index for index in parameters if self.function.locals[index] != Unit()}
+        unused = [f"(void){self.expressions.locals[index]};" for index in sorted(held - mentioned)]
         return unused + self.write_list(body, values - parameters, frozenset(), ())
 
     def write_list(self, body, undeclared, after, exits):

@@ -131,6 +131,14 @@ class Address:
 
 
 @dataclass(frozen=True)
+class Lent:
+    """A reference to a constant, which lies in memory of its own."""
+
+    value: object
+    ty: Ref
+
+
+@dataclass(frozen=True)
 class Offset:
     """So many bytes past a pointer."""
 
@@ -238,6 +246,11 @@ class Exit:
 @dataclass
 class Return:
     value: object
+
+
+@dataclass
+class Unreachable:
+    """Stands where the proofs show that the machine never comes."""
 
 
 @dataclass

@@ -1,14 +1,17 @@
 """A function's body made ready for C: what MIR needs and C does not is left out, and temporaries give way."""
 
 from .fold import Folder
-from .terms import Assign, Binary, Bool, Call, Exit, If, Local, Nothing, Return, Switch, Unit
-from .walk import all_statements, bodies, live_at_start, live_inside, locals_of, mapped, mentions
+from .terms import Assign, Binary, Block, Bool, Call, Exit, If, Local, Loop, Nothing, Return, Switch, Unit
+from .walk import all_statements, bodies, calls, live_at_start, live_inside, locals_of, mapped, mentions
 
 
 def tidy(function, named, too_long):
     """Changes the body of a function. `named` are the locals that the source names; the others are temporaries."""
     drop_units(function.body)
+    open_blocks(function.body)
     temporaries = frozenset(range(len(function.locals))) - frozenset(named)
+    while drop_unread_values(function.body, temporaries - function.in_memory):
+        pass
     folder = Folder(function.in_memory, temporaries, too_long)
     folder.fold(function.body)
     while short_circuit(function.body, function.in_memory) or sink(function.body, temporaries - function.in_memory):
@@ -25,6 +28,51 @@ def drop_units(body):
             body[i] = Return(Nothing())
         for inner in bodies(statement):
             drop_units(inner)
+
+
+def open_blocks(body):
+    """A block that nothing leaves before its end is the statements in it."""
+    for i in reversed(range(len(body))):
+        for inner in bodies(body[i]):
+            open_blocks(inner)
+        if isinstance(body[i], Block) and not exits_to(body[i].body, 0):
+            leave_one_less(body[i].body, 0)
+            body[i : i + 1] = body[i].body
+
+
+def exits_to(body, depth):
+    """Whether an exit from a list ends the block or loop that stands so many around it."""
+    return any(
+        isinstance(statement, Exit) and statement.depth == depth
+        or any(exits_to(inner, depth + isinstance(statement, (Block, Loop))) for inner in bodies(statement))
+        for statement in body
+    )
+
+
+def leave_one_less(body, depth):
+    """The exits that leave a block which is no more, so many around them."""
+    for statement in body:
+        if isinstance(statement, Exit) and statement.depth > depth:
+            statement.depth -= 1
+        for inner in bodies(statement):
+            leave_one_less(inner, depth + isinstance(statement, (Block, Loop)))
+
+
+def drop_unread_values(body, temporaries, after=frozenset(), exits=()):
+    """Drops values that nothing reads, as those that were handed to a function which does nothing. True where there was
+    one.
+    """
+    found = False
+    for i in reversed(range(len(body))):
+        statement, live = body[i], live_at_start(body[i + 1 :], after, exits)
+        target = statement.target if isinstance(statement, Assign) else None
+        if isinstance(target, Local) and target.index in temporaries - live and not calls(statement.value):
+            del body[i]
+            found = True
+            continue
+        for inner, *rest in live_inside(statement, live, exits):
+            found |= drop_unread_values(inner, temporaries, *rest)
+    return found
 
 
 def drop_unread(body, temporaries, after=frozenset(), exits=()):
@@ -44,19 +92,22 @@ def use_parameters(function):
     How many there are.
     """
     copies = 0
-    while function.body and is_parameter_copy(function, function.body[0]):
+    while function.body and is_parameter_copy(function, function.body[0], copies):
         copy, parameter = function.body[0].target, function.body[0].value
         del function.body[0]
-        rename(function.body, copy.index, parameter)
-        function.in_memory |= {parameter.index}
+        if parameter != Nothing():
+            rename(function.body, copy.index, parameter)
+            function.in_memory |= {parameter.index}
         copies += 1
     return copies
 
 
-def is_parameter_copy(function, statement):
+def is_parameter_copy(function, statement, copies):
     if not isinstance(statement, Assign) or statement.target.ty != statement.value.ty:
         return False
     copy, parameter = statement.target, statement.value
+    if parameter == Nothing():
+        return copy == Local(function.parameters + 1 + copies, Unit()) and copy.index in function.in_memory
     if not isinstance(copy, Local) or not isinstance(parameter, Local) or copy.index not in function.in_memory:
         return False
     is_parameter = 1 <= parameter.index <= function.parameters < copy.index

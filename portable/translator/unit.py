@@ -1,16 +1,22 @@
 """The whole C file of a library."""
 
+from functools import partial
+
 from .asserts import assert_lines
-from .cnames import PathNames, local_names, short
+from .cnames import PathNames, local_names, located, short
+from .constants import Constants
 from .ctypes_ import Types
 from .expressions import Expressions, is_zero
 from .header import Crossing, read_header
 from .helpers import helper_lines, helper_name, preface, signed_name
+from .instances import instances
 from .layout import broken, comment, filled, indented
+from .origins import other_note, texts
+from .pointers import keep_pointers
 from .reader import read_program
 from .source import read_crates
 from .statements import Statements
-from .terms import Aggregate, Assign, Case, Named, Return, Slice, Unary, Unknown
+from .terms import Aggregate, Assign, Case, Named, Return, Slice, Unary, Unit, Unknown
 from .tidy import tidy, use_parameters
 from .walk import all_parts, all_statements, heads
 
@@ -28,10 +34,17 @@ class Library:
         self.header = read_header(root / "include" / f"{name}.h")
         self.paths = PathNames(self.header.words)
         self.entries = self.find_entries(definitions)
-        self.program = read_program(definitions, self.entries.values())
+        plain = instances(definitions, self.entries.values())
+        self.origins = plain.origins
+        self.program = read_program(plain.definitions, self.entries.values(), self.crate)
+        self.texts = texts(self.source, self.origins, self.program.declared)
         self.functions = {function.name: function for function in self.program.functions}
         crossing = self.match_entries()
-        self.types = Types(self.program.declared, self.source, self.paths, crossing.structs, crossing.signed)
+        self.types = Types(self.program.declared, self.texts, self.paths, crossing.structs, crossing.signed)
+
+    def crate(self, name):
+        """The crate that a function stands in."""
+        return self.origins[name].crate
 
     def find_entries(self, definitions):
         """The proved function of each entry, in the header's order. The static library, whose crate has the library's
@@ -50,18 +63,20 @@ class Library:
         return found
 
     def match_entries(self):
-        crossing = Crossing(self.header, self.program.declared, self.source)
+        crossing = Crossing(self.header, self.program.declared, self.texts)
         for entry, path in self.entries.items():
             crossing.match_entry(self.header.entries[entry], self.functions[path])
         return crossing
 
     def text(self):
-        bodies = self.sections()
+        self.constants = Constants(self.types, self.paths)
+        bodies, constants = self.sections(), self.constants.lines()
         entries = [line for entry in self.entries for line in ["", *self.entry_lines(entry)]]
         parts = [
             preface(self.name, self.kit),
             assert_lines(self.types),
             self.type_lines(),
+            constants,
             helper_lines(self.used_helpers()),
             bodies,
             ["", *comment([ENTRIES.format(name=self.name)]), *entries],
@@ -73,34 +88,37 @@ class Library:
         """The functions, crate by crate."""
         lines, crate = [], None
         for name in self.functions:
-            if path_of(name)[0] != crate:
-                crate = path_of(name)[0]
+            if self.crate(name) != crate:
+                crate = self.crate(name)
                 lines += ["", *comment([f"The crate {crate}"])]
             lines += ["", *self.function_lines(self.functions[name])]
         return lines
 
     def function_lines(self, function):
-        text = self.source.functions.get(function.name)
+        text = self.texts.functions.get(function.name)
         copies = use_parameters(function)
         names = local_names(function, text, copies)
-        statements = Statements(function, Expressions(self.types, self.paths, names))
-        first = function.parameters + 1 + copies
-        bound = [first + k for k, variable in enumerate(text.variables if text else []) if variable.by_let]
+        lent = partial(self.constants.name, function=function.name)
+        expressions = Expressions(self.types, self.paths, names, lent)
+        statements = Statements(function, expressions)
+        bound = [index for index, variable in located(function, text, copies) if variable.by_let] if text else []
         named = {*range(1, function.parameters + 1), *bound}
         tidy(function, named, lambda statement: statements.width(statement) > longest(statement))
+        keep_pointers(function)
         head = f"static {self.signature(function, names)} {{"
         return [*self.note(function.name, text), head, *indented(statements.write_function_body()), "}"]
 
     def signature(self, function, names):
-        parameters = [self.types.declarator(function.locals[i], names[i]) for i in range(1, function.parameters + 1)]
+        held = [i for i in range(1, function.parameters + 1) if function.locals[i] != Unit()]
+        parameters = [self.types.declarator(function.locals[i], names[i]) for i in held]
         head = f"{self.paths.name(function.name)}({', '.join(parameters) or 'void'})"
         return self.types.declarator(function.locals[0], head)
 
     def note(self, name, text):
         """What leads from the C function to its source."""
         if not text:
-            return comment([f"{name}, of the kit's library"])
-        where, said = f"{name}, {text.file}", " ".join(text.comment)
+            return comment([other_note(self.source, self.origins[name])])
+        where, said = f"{text.path}, {text.file}", " ".join(text.comment)
         one = f"{where}: {said}" if said else where
         return comment([one] if len(one) < 110 else [where, *filled(said, 116)])
 

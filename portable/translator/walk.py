@@ -3,7 +3,8 @@
 from dataclasses import fields, replace
 
 from .terms import (
-    Address, Assign, Block, Call, Deref, Exit, Field, If, Local, Loop, Payload, Return, Switch, Tag, Unknown,
+    Address, Aggregate, Assign, Block, Call, Deref, Exit, Field, If, Local, Loop, Payload, Return, Slice, Switch, Tag,
+    Unknown,
 )
 
 
@@ -41,7 +42,17 @@ def substituted(expression, index, by):
     """The expression with a local replaced by what it stands for."""
     if isinstance(expression, Local):
         return by if expression.index == index else expression
-    return mapped(expression, lambda part: substituted(part, index, by))
+    return direct(mapped(expression, lambda part: substituted(part, index, by)))
+
+
+def direct(expression):
+    """What is reached through its own address is itself, and a part of a slice that is just made is that part."""
+    if isinstance(expression, Deref) and isinstance(expression.of, Address):
+        place = expression.of.of
+        return place if place.ty == expression.ty else expression
+    if isinstance(expression, Field) and isinstance(expression.of, Aggregate) and not calls(expression.of):
+        return expression.of.parts[expression.index] if isinstance(expression.of.ty, Slice) else expression
+    return expression
 
 
 def locals_of(expression):
