@@ -118,9 +118,13 @@ FIELD(ism_report_row, least, 8, 8);
 FIELD(ism_report_row, greatest, 16, 8);
 FIELD(ism_report_row, sum, 24, 8);
 
-struct slice_u16 {
-    const uint16_t *at;
-    uint64_t len;
+/* core::result::Result<u16, AllocError>, of the kit's library */
+enum { Result_u16_AllocError_Ok, Result_u16_AllocError_Err };
+struct Result_u16_AllocError {
+    uint8_t tag;
+    union {
+        uint16_t Ok;
+    } u;
 };
 
 struct slice_u16_mut {
@@ -128,13 +132,8 @@ struct slice_u16_mut {
     uint64_t len;
 };
 
-struct slice_u8 {
-    const uint8_t *at;
-    uint64_t len;
-};
-
-struct slice_u8_mut {
-    uint8_t *at;
+struct slice_u16 {
+    const uint16_t *at;
     uint64_t len;
 };
 
@@ -163,14 +162,54 @@ struct refusal_Refusal {
     } u;
 };
 
-/* refusal::Counted, crates/refusal/src/lib.rt */
-enum { refusal_Counted_Count, refusal_Counted_Refused };
-struct refusal_Counted {
+/* core::result::ErrResidual<Refusal>, of the kit's library */
+struct ErrResidual_Refusal {
+    struct refusal_Refusal f0;
+};
+
+/* core::ops::ControlFlow<ErrResidual_Refusal, unit>, of the kit's library */
+enum { ControlFlow_ErrResidual_Refusal_unit_Continue, ControlFlow_ErrResidual_Refusal_unit_Break };
+struct ControlFlow_ErrResidual_Refusal_unit {
     uint8_t tag;
     union {
-        uint64_t Count;
-        struct refusal_Refusal Refused;
+        struct ErrResidual_Refusal Break;
     } u;
+};
+
+/* core::result::Result<unit, Refusal>, of the kit's library */
+enum { Result_unit_Refusal_Ok, Result_unit_Refusal_Err };
+struct Result_unit_Refusal {
+    uint8_t tag;
+    union {
+        struct refusal_Refusal Err;
+    } u;
+};
+
+/* core::result::Result<u64, Refusal>, of the kit's library */
+enum { Result_u64_Refusal_Ok, Result_u64_Refusal_Err };
+struct Result_u64_Refusal {
+    uint8_t tag;
+    union {
+        uint64_t Ok;
+        struct refusal_Refusal Err;
+    } u;
+};
+
+/* core::ops::ControlFlow<ErrResidual_Refusal, u64>, of the kit's library */
+enum { ControlFlow_ErrResidual_Refusal_u64_Continue, ControlFlow_ErrResidual_Refusal_u64_Break };
+struct ControlFlow_ErrResidual_Refusal_u64 {
+    uint8_t tag;
+    union {
+        uint64_t Continue;
+        struct ErrResidual_Refusal Break;
+    } u;
+};
+
+/* refusal::Told, crates/refusal/src/lib.rt */
+struct refusal_Told {
+    uint32_t number;
+    uint32_t place;
+    uint64_t count;
 };
 
 /* timing::HalfClocks, crates/timing/src/lib.rt */
@@ -206,6 +245,15 @@ struct array_u16_11 {
     uint16_t a[11];
 };
 
+/* core::option::Option<u32>, of the kit's library */
+enum { Option_u32_None, Option_u32_Some };
+struct Option_u32 {
+    uint8_t tag;
+    union {
+        uint32_t Some;
+    } u;
+};
+
 /* timing::Range, crates/timing/src/lib.rt */
 struct timing_Range {
     uint16_t low;
@@ -214,15 +262,6 @@ struct timing_Range {
 
 struct array_timing_Range_11 {
     struct timing_Range a[11];
-};
-
-/* refusal::Verdict, crates/refusal/src/lib.rt */
-enum { refusal_Verdict_Accepted, refusal_Verdict_Refused };
-struct refusal_Verdict {
-    uint8_t tag;
-    union {
-        struct refusal_Refusal Refused;
-    } u;
 };
 
 /* timing::cursor::Cursor, crates/timing/src/cursor.rt */
@@ -262,6 +301,21 @@ struct array_u16_2 {
     uint16_t a[2];
 };
 
+/* fifo::steps::Fault, crates/fifo/src/steps.rt */
+enum { fifo_steps_Fault_Chip, fifo_steps_Fault_Mark, fifo_steps_Fault_Processor };
+struct fifo_steps_Fault {
+    uint8_t tag;
+};
+
+/* core::option::Option<Fault>, of the kit's library */
+enum { Option_Fault_None, Option_Fault_Some };
+struct Option_Fault {
+    uint8_t tag;
+    union {
+        struct fifo_steps_Fault Some;
+    } u;
+};
+
 /* symbols::Reading, crates/symbols/src/lib.rt */
 struct symbols_Reading {
     uint32_t bits;
@@ -285,8 +339,22 @@ struct array_u16_128 {
     uint16_t a[128];
 };
 
+/* core::option::Option<u64>, of the kit's library */
+enum { Option_u64_None, Option_u64_Some };
+struct Option_u64 {
+    uint8_t tag;
+    union {
+        uint64_t Some;
+    } u;
+};
+
 struct array_u16_10 {
     uint16_t a[10];
+};
+
+struct slice_u8_mut {
+    uint8_t *at;
+    uint64_t len;
 };
 
 struct array_u16_129 {
@@ -297,6 +365,11 @@ struct array_u16_129 {
 struct shifts_top_Top {
     uint64_t cells;
     uint32_t free;
+};
+
+struct slice_u8 {
+    const uint8_t *at;
+    uint64_t len;
 };
 
 /* shifts::fours::Fours, crates/shifts/src/fours.rt */
@@ -370,21 +443,38 @@ struct codec_writer_Part {
     struct items_Check check;
 };
 
-struct slice_u64 {
-    const uint64_t *at;
+struct slice_timing_Class {
+    const struct timing_Class *at;
     uint64_t len;
 };
 
-struct array_u64_5 {
-    uint64_t a[5];
+struct array_timing_Class_5 {
+    struct timing_Class a[5];
 };
 
-struct array_u64_10 {
-    uint64_t a[10];
+struct array_timing_Class_10 {
+    struct timing_Class a[10];
 };
 
-struct array_u64_15 {
-    uint64_t a[15];
+struct array_timing_Class_15 {
+    struct timing_Class a[15];
+};
+
+/* fields::reader::Field, crates/fields/src/reader.rt */
+struct fields_reader_Field {
+    uint64_t count;
+    uint64_t used;
+    bool holds;
+};
+
+/* core::result::Result<Field, Refusal>, of the kit's library */
+enum { Result_Field_Refusal_Ok, Result_Field_Refusal_Err };
+struct Result_Field_Refusal {
+    uint8_t tag;
+    union {
+        struct fields_reader_Field Ok;
+        struct refusal_Refusal Err;
+    } u;
 };
 
 /* fields::gather::Summed, crates/fields/src/gather.rt */
@@ -399,22 +489,8 @@ struct array_u16_65 {
 
 /* fields::gather::Gathered, crates/fields/src/gather.rt */
 struct fields_gather_Gathered {
-    struct refusal_Counted end;
+    struct Result_u64_Refusal end;
     bool holds;
-};
-
-/* fields::reader::FieldRead, crates/fields/src/reader.rt */
-enum { fields_reader_FieldRead_Field, fields_reader_FieldRead_Refused };
-struct fields_reader_FieldRead {
-    uint8_t tag;
-    union {
-        struct {
-            uint64_t count;
-            uint64_t used;
-            bool holds;
-        } Field;
-        struct refusal_Refusal Refused;
-    } u;
 };
 
 struct array_u16_16 {
@@ -423,6 +499,32 @@ struct array_u16_16 {
 
 struct array_u16_1030 {
     uint16_t a[1030];
+};
+
+/* core::ops::ControlFlow<ErrResidual_Refusal, Field>, of the kit's library */
+enum { ControlFlow_ErrResidual_Refusal_Field_Continue, ControlFlow_ErrResidual_Refusal_Field_Break };
+struct ControlFlow_ErrResidual_Refusal_Field {
+    uint8_t tag;
+    union {
+        struct fields_reader_Field Continue;
+        struct ErrResidual_Refusal Break;
+    } u;
+};
+
+/* sets::SetSize, crates/sets/src/lib.rt */
+struct sets_SetSize {
+    uint64_t count;
+    uint64_t bytes;
+};
+
+/* core::result::Result<SetSize, Refusal>, of the kit's library */
+enum { Result_SetSize_Refusal_Ok, Result_SetSize_Refusal_Err };
+struct Result_SetSize_Refusal {
+    uint8_t tag;
+    union {
+        struct sets_SetSize Ok;
+        struct refusal_Refusal Err;
+    } u;
 };
 
 /* sets::span::Span, crates/sets/src/span.rt */
@@ -435,19 +537,6 @@ struct array_u16_256 {
     uint16_t a[256];
 };
 
-/* merge::Merged, crates/merge/src/lib.rt */
-enum { merge_Merged_Set, merge_Merged_Refused };
-struct merge_Merged {
-    uint8_t tag;
-    union {
-        struct {
-            uint64_t count;
-            uint64_t bytes;
-        } Set;
-        struct refusal_Refusal Refused;
-    } u;
-};
-
 struct array_u64_4 {
     uint64_t a[4];
 };
@@ -457,29 +546,44 @@ struct array_u64_4_5 {
 };
 
 /* entries::opening::Opened, crates/entries/src/opening.rt */
-enum { entries_opening_Opened_Field, entries_opening_Opened_NoField };
 struct entries_opening_Opened {
+    uint64_t used;
+    bool holds;
+};
+
+/* core::option::Option<Opened>, of the kit's library */
+enum { Option_Opened_None, Option_Opened_Some };
+struct Option_Opened {
     uint8_t tag;
     union {
-        struct {
-            uint64_t used;
-            bool holds;
-        } Field;
+        struct entries_opening_Opened Some;
     } u;
 };
 
-/* entries::id::IdRead, crates/entries/src/id.rt */
-enum { entries_id_IdRead_Id, entries_id_IdRead_NoId };
-struct entries_id_IdRead {
+/* core::ops::ControlFlow<NoValue, Opened>, of the kit's library */
+enum { ControlFlow_NoValue_Opened_Continue, ControlFlow_NoValue_Opened_Break };
+struct ControlFlow_NoValue_Opened {
     uint8_t tag;
     union {
-        struct {
-            uint8_t track;
-            uint8_t side;
-            uint8_t sector;
-            uint8_t code;
-            uint64_t used;
-        } Id;
+        struct entries_opening_Opened Continue;
+    } u;
+};
+
+/* entries::id::Id, crates/entries/src/id.rt */
+struct entries_id_Id {
+    uint8_t track;
+    uint8_t side;
+    uint8_t sector;
+    uint8_t code;
+    uint64_t used;
+};
+
+/* core::option::Option<Id>, of the kit's library */
+enum { Option_Id_None, Option_Id_Some };
+struct Option_Id {
+    uint8_t tag;
+    union {
+        struct entries_id_Id Some;
     } u;
 };
 
@@ -488,20 +592,23 @@ struct array_u16_4 {
 };
 
 /* entries::DataField, crates/entries/src/lib.rt */
-enum { entries_DataField_Found, entries_DataField_Missing };
 struct entries_DataField {
+    uint64_t place;
+    bool holds;
+};
+
+/* core::option::Option<DataField>, of the kit's library */
+enum { Option_DataField_None, Option_DataField_Some };
+struct Option_DataField {
     uint8_t tag;
     union {
-        struct {
-            uint64_t place;
-            bool holds;
-        } Found;
+        struct entries_DataField Some;
     } u;
 };
 
 /* entries::content::Sought, crates/entries/src/content.rt */
 struct entries_content_Sought {
-    struct entries_DataField field;
+    struct Option_DataField field;
     uint64_t end;
 };
 
@@ -512,7 +619,7 @@ struct entries_Entry {
     uint8_t sector;
     uint8_t code;
     uint64_t place;
-    struct entries_DataField field;
+    struct Option_DataField field;
 };
 
 /* entries::Step, crates/entries/src/lib.rt */
@@ -534,12 +641,25 @@ struct array_track_index_IndexEntry_32 {
     ism_index_entry a[32];
 };
 
-/* track_set::TrackSet, crates/track_set/src/lib.rt */
-struct track_set_TrackSet {
-    uint32_t number;
-    uint32_t place;
-    uint64_t count;
-    uint64_t bytes;
+struct slice_track_index_IndexEntry {
+    const ism_index_entry *at;
+    uint64_t len;
+};
+
+/* clearance::Clear<u64>, crates/clearance/src/lib.rt */
+struct clearance_Clear_u64 {
+    uint64_t read;
+    uint16_t clearance;
+};
+
+/* core::result::Result<Clear_u64, Refusal>, of the kit's library */
+enum { Result_Clear_u64_Refusal_Ok, Result_Clear_u64_Refusal_Err };
+struct Result_Clear_u64_Refusal {
+    uint8_t tag;
+    union {
+        struct clearance_Clear_u64 Ok;
+        struct refusal_Refusal Err;
+    } u;
 };
 
 /* clearance::extremes::Extremes, crates/clearance/src/extremes.rt */
@@ -560,16 +680,30 @@ struct array_u16_1 {
     uint16_t a[1];
 };
 
-/* clearance::ClearCount, crates/clearance/src/lib.rt */
-struct clearance_ClearCount {
-    struct refusal_Counted counted;
+/* clearance::Clear<Field>, crates/clearance/src/lib.rt */
+struct clearance_Clear_Field {
+    struct fields_reader_Field read;
     uint16_t clearance;
 };
 
-/* clearance::ClearFieldRead, crates/clearance/src/lib.rt */
-struct clearance_ClearFieldRead {
-    struct fields_reader_FieldRead read;
-    uint16_t clearance;
+/* core::result::Result<Clear_Field, Refusal>, of the kit's library */
+enum { Result_Clear_Field_Refusal_Ok, Result_Clear_Field_Refusal_Err };
+struct Result_Clear_Field_Refusal {
+    uint8_t tag;
+    union {
+        struct clearance_Clear_Field Ok;
+        struct refusal_Refusal Err;
+    } u;
+};
+
+/* core::ops::ControlFlow<ErrResidual_Refusal, Clear_Field>, of the kit's library */
+enum { ControlFlow_ErrResidual_Refusal_Clear_Field_Continue, ControlFlow_ErrResidual_Refusal_Clear_Field_Break };
+struct ControlFlow_ErrResidual_Refusal_Clear_Field {
+    uint8_t tag;
+    union {
+        struct clearance_Clear_Field Continue;
+        struct ErrResidual_Refusal Break;
+    } u;
 };
 
 /* pace::Pace, crates/pace/src/lib.rt */
@@ -581,18 +715,27 @@ struct pace_Pace {
 
 /* speed::reader::Corrected, crates/speed/src/reader.rt */
 struct speed_reader_Corrected {
-    struct fields_reader_FieldRead read;
-    uint16_t clearance;
+    struct clearance_Clear_Field field;
     uint64_t lock;
     uint32_t even;
     uint32_t odd;
+};
+
+/* core::result::Result<Corrected, Refusal>, of the kit's library */
+enum { Result_Corrected_Refusal_Ok, Result_Corrected_Refusal_Err };
+struct Result_Corrected_Refusal {
+    uint8_t tag;
+    union {
+        struct speed_reader_Corrected Ok;
+        struct refusal_Refusal Err;
+    } u;
 };
 
 /* speed::gather::Along, crates/speed/src/gather.rt */
 struct speed_gather_Along {
     struct passes_block_Progress at;
     struct items_Check check;
-    struct refusal_Verdict edges;
+    struct Result_unit_Refusal edges;
     struct clearance_seen_Seen seen;
 };
 
@@ -616,15 +759,9 @@ struct array_u16_64 {
 
 /* speed::gather::Gathered, crates/speed/src/gather.rt */
 struct speed_gather_Gathered {
-    struct refusal_Counted end;
+    struct Result_u64_Refusal end;
     bool holds;
     uint16_t clearance;
-};
-
-/* limits::side::Kind, crates/limits/src/side.rt */
-enum { limits_side_Kind_Both, limits_side_Kind_Short, limits_side_Kind_Long };
-struct limits_side_Kind {
-    uint8_t tag;
 };
 
 /* limits::side::Edge, crates/limits/src/side.rt */
@@ -633,23 +770,17 @@ struct limits_side_Edge {
     uint8_t tag;
 };
 
+/* limits::side::Kind, crates/limits/src/side.rt */
+enum { limits_side_Kind_Both, limits_side_Kind_Short, limits_side_Kind_Long };
+struct limits_side_Kind {
+    uint8_t tag;
+};
+
 /* limits::side::Side, crates/limits/src/side.rt */
 struct limits_side_Side {
     struct limits_side_Edge edge;
     struct limits_side_Kind after;
     bool above;
-};
-
-/* limits::search::Seen, crates/limits/src/search.rt */
-enum { limits_search_Seen_At, limits_search_Seen_Nowhere };
-struct limits_search_Seen {
-    uint8_t tag;
-    union {
-        struct {
-            uint16_t item;
-            uint16_t interval;
-        } At;
-    } u;
 };
 
 /* limits::Limit, crates/limits/src/lib.rt */
@@ -670,10 +801,29 @@ struct limits_Limits {
     struct array_limits_Limit_10 limits;
 };
 
-/* limits::Held, crates/limits/src/lib.rt */
-struct limits_Held {
-    struct refusal_Counted answer;
-    struct array_limits_Limit_10 limits;
+/* core::result::Result<Limits, Refusal>, of the kit's library */
+enum { Result_Limits_Refusal_Ok, Result_Limits_Refusal_Err };
+struct Result_Limits_Refusal {
+    uint8_t tag;
+    union {
+        struct limits_Limits Ok;
+        struct refusal_Refusal Err;
+    } u;
+};
+
+/* limits::search::Evidence, crates/limits/src/search.rt */
+struct limits_search_Evidence {
+    uint16_t item;
+    uint16_t interval;
+};
+
+/* core::option::Option<Evidence>, of the kit's library */
+enum { Option_Evidence_None, Option_Evidence_Some };
+struct Option_Evidence {
+    uint8_t tag;
+    union {
+        struct limits_search_Evidence Some;
+    } u;
 };
 
 /* best::Writing, crates/best/src/lib.rt */
@@ -694,8 +844,18 @@ struct best_windows_Shifts {
 
 /* best::Best, crates/best/src/lib.rt */
 struct best_Best {
-    struct refusal_Counted answer;
+    uint16_t margin;
     struct timing_Profile profile;
+};
+
+/* core::result::Result<Best, Refusal>, of the kit's library */
+enum { Result_Best_Refusal_Ok, Result_Best_Refusal_Err };
+struct Result_Best_Refusal {
+    uint8_t tag;
+    union {
+        struct best_Best Ok;
+        struct refusal_Refusal Err;
+    } u;
 };
 
 struct array_answers_card_IsmLimit_10 {
@@ -706,20 +866,20 @@ struct array_answers_drive_IsmReportRow_5 {
     ism_report_row a[5];
 };
 
-static struct slice_u16 slice_u16(const uint16_t *at, uint64_t len) {
-    return (struct slice_u16){.at = at, .len = len};
-}
-
 static struct slice_u16_mut slice_u16_mut(uint16_t *at, uint64_t len) {
     return (struct slice_u16_mut){.at = at, .len = len};
 }
 
-static struct slice_u8 slice_u8(const uint8_t *at, uint64_t len) {
-    return (struct slice_u8){.at = at, .len = len};
+static struct slice_u16 slice_u16(const uint16_t *at, uint64_t len) {
+    return (struct slice_u16){.at = at, .len = len};
 }
 
 static struct slice_u8_mut slice_u8_mut(uint8_t *at, uint64_t len) {
     return (struct slice_u8_mut){.at = at, .len = len};
+}
+
+static struct slice_u8 slice_u8(const uint8_t *at, uint64_t len) {
+    return (struct slice_u8){.at = at, .len = len};
 }
 
 static struct slice_u32_mut slice_u32_mut(uint32_t *at, uint64_t len) {
@@ -730,9 +890,15 @@ static struct slice_u32 slice_u32(const uint32_t *at, uint64_t len) {
     return (struct slice_u32){.at = at, .len = len};
 }
 
-static struct slice_u64 slice_u64(const uint64_t *at, uint64_t len) {
-    return (struct slice_u64){.at = at, .len = len};
+static struct slice_timing_Class slice_timing_Class(const struct timing_Class *at, uint64_t len) {
+    return (struct slice_timing_Class){.at = at, .len = len};
 }
+
+static struct slice_track_index_IndexEntry slice_track_index_IndexEntry(const ism_index_entry *at, uint64_t len) {
+    return (struct slice_track_index_IndexEntry){.at = at, .len = len};
+}
+
+static const struct timing_Class limits_side_is_two_constant = {.tag = timing_Class_Two};
 
 /* The zeros above the highest one; 32 where there is none. */
 static uint32_t leading_zeros(uint32_t bits) {
@@ -760,46 +926,129 @@ static int32_t as_int32(uint32_t bits) {
 
 /* The crate core */
 
-/* core::num::wrapping_add_u16, of the kit's library */
-static uint16_t core_num_wrapping_add_u16(uint16_t p1, uint16_t p2) {
-    return (uint16_t)(p1 + p2);
+/* core::int::u16::saturating_sub, of the kit's library */
+static uint16_t core_int_u16_saturating_sub(uint16_t p1, uint16_t p2) {
+    if (p2 <= p1) return p1 - p2;
+    return 0;
 }
 
-/* core::num::wrapping_sub_u16, of the kit's library */
-static uint16_t core_num_wrapping_sub_u16(uint16_t p1, uint16_t p2) {
-    return (uint16_t)(p1 - p2);
+/* core::int::u16::min, of the kit's library */
+static uint16_t core_int_u16_min(uint16_t p1, uint16_t p2) {
+    if (p2 < p1) return p2;
+    return p1;
 }
 
-/* core::num::wrapping_sub_u32, of the kit's library */
-static uint32_t core_num_wrapping_sub_u32(uint32_t p1, uint32_t p2) {
-    return (uint32_t)(p1 - p2);
+/* core::int::usize::min, of the kit's library */
+static uint64_t core_int_usize_min(uint64_t p1, uint64_t p2) {
+    if (p2 < p1) return p2;
+    return p1;
 }
 
-/* core::num::wrapping_add_u32, of the kit's library */
-static uint32_t core_num_wrapping_add_u32(uint32_t p1, uint32_t p2) {
-    return (uint32_t)(p1 + p2);
+/* core::convert::others::U16FromBool::from, of the kit's library */
+static uint16_t core_convert_others_U16FromBool_from(bool p1) {
+    return (uint16_t)p1;
 }
 
-/* core::num::wrapping_add_u64, of the kit's library */
-static uint64_t core_num_wrapping_add_u64(uint64_t p1, uint64_t p2) {
-    return (uint64_t)(p1 + p2);
+/* core::convert::U64FromU16::from, of the kit's library */
+static uint64_t core_convert_U64FromU16_from(uint16_t p1) {
+    return (uint64_t)p1;
+}
+
+/* core::cmp::numbers::U16PartialEq::eq, of the kit's library */
+static bool core_cmp_numbers_U16PartialEq_eq(const uint16_t *p1, const uint16_t *p2) {
+    return *p1 == *p2;
+}
+
+/* core::int::u16::max, of the kit's library */
+static uint16_t core_int_u16_max(uint16_t p1, uint16_t p2) {
+    if (p2 < p1) return p1;
+    return p2;
+}
+
+/* core::convert::U32FromU16::from, of the kit's library */
+static uint32_t core_convert_U32FromU16_from(uint16_t p1) {
+    return (uint32_t)p1;
+}
+
+/* core::int::usize::saturating_sub, of the kit's library */
+static uint64_t core_int_usize_saturating_sub(uint64_t p1, uint64_t p2) {
+    if (p2 <= p1) return p1 - p2;
+    return 0;
+}
+
+/* core::int::usize::max, of the kit's library */
+static uint64_t core_int_usize_max(uint64_t p1, uint64_t p2) {
+    if (p2 < p1) return p1;
+    return p2;
+}
+
+/* core::convert::others::U32FromBool::from, of the kit's library */
+static uint32_t core_convert_others_U32FromBool_from(bool p1) {
+    return (uint32_t)p1;
+}
+
+/* core::int::u32::abs_diff, of the kit's library */
+static uint32_t core_int_u32_abs_diff(uint32_t p1, uint32_t p2) {
+    if (p1 < p2) return p2 - p1;
+    return p1 - p2;
+}
+
+/* core::int::u32::min, of the kit's library */
+static uint32_t core_int_u32_min(uint32_t p1, uint32_t p2) {
+    if (p2 < p1) return p2;
+    return p1;
+}
+
+/* core::clone::U16Clone::clone, of the kit's library */
+static struct Result_u16_AllocError core_clone_U16Clone_clone(const uint16_t *p1) {
+    return (struct Result_u16_AllocError){.tag = Result_u16_AllocError_Ok, .u.Ok = *p1};
+}
+
+/* core::clone::surely<u16>, of the kit's library */
+static uint16_t core_clone_surely_u16(const uint16_t *p1) {
+    return core_clone_U16Clone_clone(p1).u.Ok;
+}
+
+/* core::slice::edits::slice+T::fill<u16>, of the kit's library */
+static void core_slice_edits_slice_T_fill_u16(struct slice_u16_mut p1, uint16_t p2) {
+    uint64_t t4 = p1.len;
+    if (t4 == 0) return;
+    uint64_t t5 = 0;
+    while (t5 < t4 - 1) {
+        p1.at[t5] = core_clone_surely_u16(&p2);
+        t5++;
+    }
+    p1.at[t4 - 1] = p2;
+}
+
+/* core::convert::others::U8FromBool::from, of the kit's library */
+static uint8_t core_convert_others_U8FromBool_from(bool p1) {
+    return (uint8_t)p1;
+}
+
+/* core::int::u64::min, of the kit's library */
+static uint64_t core_int_u64_min(uint64_t p1, uint64_t p2) {
+    if (p2 < p1) return p2;
+    return p1;
+}
+
+/* core::int::u64::max, of the kit's library */
+static uint64_t core_int_u64_max(uint64_t p1, uint64_t p2) {
+    if (p2 < p1) return p1;
+    return p2;
 }
 
 /* The crate lists */
 
-/* lists::at_most, crates/lists/src/lib.rt: As many as there are, or so many. */
-static uint64_t lists_at_most(uint64_t most, uint64_t count) {
-    if (count < most) return count;
-    return most;
-}
-
-/* lists::store, crates/lists/src/lib.rt: Numbers from a place on, as many as there is room for. */
-static void lists_store(struct slice_u16 numbers, uint64_t at, struct slice_u16_mut out) {
+/* lists::store<u16>, crates/lists/src/lib.rt: Values from a place on, as many as there is room for. */
+static void lists_store_u16(struct slice_u16 values, uint64_t at, struct slice_u16_mut out) {
     if (out.len <= at) return;
-    uint64_t count = lists_at_most(out.len - at, numbers.len);
+    uint64_t count = core_int_usize_min(values.len, out.len - at);
+    struct slice_u16 value_items = slice_u16(values.at, count);
     uint64_t k = 0;
-    while (k < count) {
-        out.at[at + k] = numbers.at[k];
+    uint64_t t14 = value_items.len;
+    while (k < t14) {
+        out.at[at + k] = value_items.at[k];
         k++;
     }
 }
@@ -809,16 +1058,29 @@ static void lists_put(struct slice_u16_mut out, uint64_t at, uint16_t number) {
     if (at < out.len) out.at[at] = number;
 }
 
-/* lists::copy, crates/lists/src/lib.rt: Bytes from a place on, where all have room. */
-static void lists_copy(struct slice_u8 bytes, uint64_t at, struct slice_u8_mut out) {
-    uint64_t k = 0;
-    while (k < bytes.len) {
-        out.at[at + k] = bytes.at[k];
-        k++;
+/* The crate refusal */
+
+/* core::result::ResultTry::branch<unit, Refusal>, of the kit's library */
+static struct ControlFlow_ErrResidual_Refusal_unit
+        core_result_ResultTry_branch_unit_Refusal(struct Result_unit_Refusal p1) {
+    if (p1.tag == Result_unit_Refusal_Ok) {
+        return (struct ControlFlow_ErrResidual_Refusal_unit){.tag = ControlFlow_ErrResidual_Refusal_unit_Continue};
     }
+    return (struct ControlFlow_ErrResidual_Refusal_unit){.tag = ControlFlow_ErrResidual_Refusal_unit_Break,
+            .u.Break = {.f0 = p1.u.Err}};
 }
 
-/* The crate refusal */
+/* core::convert::AnyFrom::from<Refusal>, of the kit's library */
+static struct refusal_Refusal core_convert_AnyFrom_from_Refusal(struct refusal_Refusal p1) {
+    return p1;
+}
+
+/* core::result::ResultFromResidualErrResidual::from_residual<u64, Refusal, Refusal>, of the kit's library */
+static struct Result_u64_Refusal
+        core_result_ResultFromResidualErrResidual_from_residual_u64_Refusal_Refusal(struct ErrResidual_Refusal p1) {
+    return (struct Result_u64_Refusal){.tag = Result_u64_Refusal_Err,
+            .u.Err = core_convert_AnyFrom_from_Refusal(p1.f0)};
+}
 
 /* refusal::Refusal::number, crates/refusal/src/lib.rt: The number in document 01's table. */
 static uint32_t refusal_Refusal_number(struct refusal_Refusal self) {
@@ -844,12 +1106,6 @@ static uint32_t refusal_Refusal_number(struct refusal_Refusal self) {
     case refusal_Refusal_PageLost: return 19;
     default: return 20; /* refusal_Refusal_FillSoiled */
     }
-}
-
-/* refusal::Counted::number, crates/refusal/src/lib.rt: The number in document 01's table; 0 for a count. */
-static uint32_t refusal_Counted_number(struct refusal_Counted self) {
-    if (self.tag == refusal_Counted_Count) return 0;
-    return refusal_Refusal_number(self.u.Refused);
 }
 
 /*
@@ -881,25 +1137,38 @@ static uint32_t refusal_Refusal_place(struct refusal_Refusal self) {
     }
 }
 
-/* refusal::Counted::place, crates/refusal/src/lib.rt: The place in document 01's table; 0 for a count. */
-static uint32_t refusal_Counted_place(struct refusal_Counted self) {
-    if (self.tag == refusal_Counted_Count) return 0;
-    return refusal_Refusal_place(self.u.Refused);
+/* core::result::ResultTry::branch<u64, Refusal>, of the kit's library */
+static struct ControlFlow_ErrResidual_Refusal_u64
+        core_result_ResultTry_branch_u64_Refusal(struct Result_u64_Refusal p1) {
+    if (p1.tag == Result_u64_Refusal_Ok) {
+        return (struct ControlFlow_ErrResidual_Refusal_u64){.tag = ControlFlow_ErrResidual_Refusal_u64_Continue,
+                .u.Continue = p1.u.Ok};
+    }
+    return (struct ControlFlow_ErrResidual_Refusal_u64){.tag = ControlFlow_ErrResidual_Refusal_u64_Break,
+            .u.Break = {.f0 = p1.u.Err}};
 }
 
-/* refusal::Counted::count, crates/refusal/src/lib.rt: What was counted; 0 for a refusal. */
-static uint64_t refusal_Counted_count(struct refusal_Counted self) {
-    if (self.tag == refusal_Counted_Count) return self.u.Count;
-    return 0;
+/* core::result::ResultFromResidualErrResidual::from_residual<unit, Refusal, Refusal>, of the kit's library */
+static struct Result_unit_Refusal
+        core_result_ResultFromResidualErrResidual_from_residual_unit_Refusal_Refusal(struct ErrResidual_Refusal p1) {
+    return (struct Result_unit_Refusal){.tag = Result_unit_Refusal_Err,
+            .u.Err = core_convert_AnyFrom_from_Refusal(p1.f0)};
+}
+
+/* refusal::ToldFromResultUsizeRefusal::from, crates/refusal/src/lib.rt */
+static struct refusal_Told refusal_ToldFromResultUsizeRefusal_from(struct Result_u64_Refusal counted) {
+    if (counted.tag == Result_u64_Refusal_Ok) {
+        return (struct refusal_Told){.number = 0, .place = 0, .count = counted.u.Ok};
+    }
+    struct refusal_Refusal refusal = counted.u.Err;
+    uint32_t t5 = refusal_Refusal_number(refusal);
+    return (struct refusal_Told){.number = t5, .place = refusal_Refusal_place(refusal), .count = 0};
 }
 
 /* The crate timing */
 
-/*
- * timing::Profile::from_numbers, crates/timing/src/lib.rt
- * The profile of eleven numbers in document 02's order.
- */
-static struct timing_Profile timing_Profile_from_numbers(const struct array_u16_11 *numbers) {
+/* timing::ProfileFromRefArrayU16PROFILENUMBERS::from, crates/timing/src/lib.rt */
+static struct timing_Profile timing_ProfileFromRefArrayU16PROFILENUMBERS_from(const struct array_u16_11 *numbers) {
     struct timing_Bounds t43 = {.b23 = {.f0 = numbers->a[7]}, .b34 = {.f0 = numbers->a[9]}};
     struct timing_HalfClocks t47 = {.f0 = numbers->a[10]};
     return (struct timing_Profile){.t1 = {.f0 = numbers->a[0]}, .t0 = {.f0 = numbers->a[1]},
@@ -908,34 +1177,48 @@ static struct timing_Profile timing_Profile_from_numbers(const struct array_u16_
             .long_ = t43, .rpt = t47};
 }
 
-/* timing::Profile::numbers, crates/timing/src/lib.rt: Its numbers, in the same order. */
+/* timing::ArrayU16PROFILENUMBERSFromProfile::from, crates/timing/src/lib.rt */
+static struct array_u16_11 timing_ArrayU16PROFILENUMBERSFromProfile_from(struct timing_Profile p) {
+    return (struct array_u16_11){{p.t1.f0, p.t0.f0, p.early.f0, p.normal.f0, p.late.f0, p.min.f0, p.short_.b23.f0,
+            p.long_.b23.f0, p.short_.b34.f0, p.long_.b34.f0, p.rpt.f0}};
+}
+
+/* core::convert::AnyInto::into<Profile, u16_11>, of the kit's library */
+static struct array_u16_11 core_convert_AnyInto_into_Profile_u16_11(struct timing_Profile p1) {
+    return timing_ArrayU16PROFILENUMBERSFromProfile_from(p1);
+}
+
+/* timing::Profile::numbers, crates/timing/src/lib.rt */
 static struct array_u16_11 timing_Profile_numbers(struct timing_Profile self) {
-    return (struct array_u16_11){{self.t1.f0, self.t0.f0, self.early.f0, self.normal.f0, self.late.f0, self.min.f0,
-            self.short_.b23.f0, self.long_.b23.f0, self.short_.b34.f0, self.long_.b34.f0, self.rpt.f0}};
+    return core_convert_AnyInto_into_Profile_u16_11(self);
 }
 
 /*
  * timing::rule::lowest_unset, crates/timing/src/rule.rt
- * Which of the numbers is the first out of range, from 1; 0 for none.
+ * Which of the numbers is the first out of range, from 1.
  */
-static uint32_t timing_rule_lowest_unset(struct timing_Profile p) {
+static struct Option_u32 timing_rule_lowest_unset(struct timing_Profile p) {
     struct array_u16_11 numbers = timing_Profile_numbers(p);
     struct array_timing_Range_11 ranges = {{{.low = 1, .high = 1023}, {.low = 1, .high = 1023}, {.low = 0, .high = 15},
             {.low = 0, .high = 15}, {.low = 0, .high = 15}, {.low = 1, .high = 4095}, {.low = 1, .high = 4095},
             {.low = 1, .high = 4095}, {.low = 1, .high = 4095}, {.low = 1, .high = 4095}, {.low = 1, .high = 4095}}};
+    const struct array_timing_Range_11 *range_items = &ranges;
     uint64_t k = 0;
     while (k < 11) {
-        struct timing_Range range = ranges.a[k];
+        const struct timing_Range *range = range_items->a + k;
         uint16_t x = numbers.a[k];
-        if ((x < range.low) | (range.high < x)) return (uint32_t)k + 1;
+        if ((x < range->low) | (range->high < x)) {
+            return (struct Option_u32){.tag = Option_u32_Some, .u.Some = (uint32_t)k + 1};
+        }
         k++;
     }
-    return 0;
+    return (struct Option_u32){.tag = Option_u32_None};
 }
 
 /*
  * timing::Clocks::in_half_clocks, crates/timing/src/lib.rt
- * The only way from clocks to half clocks, so that a compare point is never added to a length as it is.
+ * The only way from clocks to half clocks, so that a compare point is never added to a length as it is. No `From`,
+ * which could not ask that the product fits.
  */
 static struct timing_HalfClocks timing_Clocks_in_half_clocks(struct timing_Clocks self) {
     return (struct timing_HalfClocks){.f0 = 2 * self.f0};
@@ -946,8 +1229,8 @@ static struct timing_HalfClocks timing_Clocks_in_half_clocks(struct timing_Clock
  * The distance from a point to a later one, in half clocks; 0 where they are out of order.
  */
 static struct timing_HalfClocks timing_rule_apart(struct timing_Clocks from, struct timing_Clocks to) {
-    if (to.f0 < from.f0) return (struct timing_HalfClocks){.f0 = 0};
-    return timing_Clocks_in_half_clocks((struct timing_Clocks){.f0 = to.f0 - from.f0});
+    struct timing_Clocks t4 = {.f0 = core_int_u16_saturating_sub(to.f0, from.f0)};
+    return timing_Clocks_in_half_clocks(t4);
 }
 
 /*
@@ -1001,24 +1284,16 @@ static bool timing_rule_is_true(struct timing_Profile p) {
 }
 
 /* timing::rule::check, crates/timing/src/rule.rt: Whether the profile may be used: 1, then 2. */
-static struct refusal_Verdict timing_rule_check(struct timing_Profile p) {
-    uint32_t which = timing_rule_lowest_unset(p);
-    if (which != 0) {
-        return (struct refusal_Verdict){.tag = refusal_Verdict_Refused,
-                .u.Refused = {.tag = refusal_Refusal_ProfileOutOfRange, .u.ProfileOutOfRange = which}};
+static struct Result_unit_Refusal timing_rule_check(struct timing_Profile p) {
+    struct Option_u32 t3 = timing_rule_lowest_unset(p);
+    if (t3.tag == Option_u32_Some) {
+        uint32_t which = t3.u.Some;
+        return (struct Result_unit_Refusal){.tag = Result_unit_Refusal_Err,
+                .u.Err = {.tag = refusal_Refusal_ProfileOutOfRange, .u.ProfileOutOfRange = which}};
     }
-    if (timing_rule_is_true(p)) return (struct refusal_Verdict){.tag = refusal_Verdict_Accepted};
-    return (struct refusal_Verdict){.tag = refusal_Verdict_Refused,
-            .u.Refused = {.tag = refusal_Refusal_ProfileInconsistent}};
-}
-
-/*
- * timing::cursor::chosen, crates/timing/src/cursor.rt
- * The bounds after an interval of class 2, or after any other.
- */
-static struct timing_Bounds timing_cursor_chosen(bool two, struct timing_Bounds short_, struct timing_Bounds long_) {
-    if (two) return short_;
-    return long_;
+    if (timing_rule_is_true(p)) return (struct Result_unit_Refusal){.tag = Result_unit_Refusal_Ok};
+    return (struct Result_unit_Refusal){.tag = Result_unit_Refusal_Err,
+            .u.Err = {.tag = refusal_Refusal_ProfileInconsistent}};
 }
 
 /*
@@ -1030,8 +1305,13 @@ static struct timing_cursor_Cursor timing_cursor_Cursor_after(struct timing_Prof
     struct timing_Bounds short_ = p.short_;
     struct timing_Bounds long_ = p.long_;
     struct timing_HalfClocks rpt = p.rpt;
-    return (struct timing_cursor_Cursor){.min = min, .bounds = timing_cursor_chosen(two, short_, long_), .rpt = rpt,
-            .short_ = short_, .long_ = long_};
+    struct timing_Bounds t10;
+    if (two) {
+        t10 = short_;
+    } else {
+        t10 = long_;
+    }
+    return (struct timing_cursor_Cursor){.min = min, .bounds = t10, .rpt = rpt, .short_ = short_, .long_ = long_};
 }
 
 /* timing::cursor::Cursor::class_of, crates/timing/src/cursor.rt: The class of the next interval. */
@@ -1051,7 +1331,11 @@ static struct timing_cursor_Cursor timing_cursor_Cursor_behind(struct timing_cur
     struct timing_Bounds short_ = self.short_;
     struct timing_Bounds long_ = self.long_;
     struct timing_cursor_Cursor next = self;
-    next.bounds = timing_cursor_chosen(two, short_, long_);
+    if (two) {
+        next.bounds = short_;
+    } else {
+        next.bounds = long_;
+    }
     return next;
 }
 
@@ -1064,6 +1348,12 @@ static struct timing_cursor_Cursor timing_cursor_Cursor_past(struct timing_curso
 static struct timing_cursor_Classed timing_cursor_Cursor_step(struct timing_cursor_Cursor self, uint16_t interval) {
     struct timing_Class t3 = timing_cursor_Cursor_class_of(self, interval);
     return (struct timing_cursor_Classed){.class = t3, .next = timing_cursor_Cursor_past(self, interval)};
+}
+
+/* timing::ClassPartialEq::eq, which is derived */
+static bool timing_ClassPartialEq_eq(const struct timing_Class *p1, const struct timing_Class *p2) {
+    if (p1->tag != p2->tag) return false;
+    return true;
 }
 
 /*
@@ -1084,13 +1374,31 @@ static uint64_t timing_Class_number(struct timing_Class self) {
  * timing::class_number, crates/timing/src/lib.rt
  * The class operation, told whether the interval before was of class 2: the class's number, after 1 and 2.
  */
-static struct refusal_Counted timing_class_number(struct timing_Profile p, uint16_t interval, bool two) {
-    struct refusal_Verdict t6 = timing_rule_check(p);
-    if (t6.tag == refusal_Verdict_Refused) {
-        return (struct refusal_Counted){.tag = refusal_Counted_Refused, .u.Refused = t6.u.Refused};
+static struct Result_u64_Refusal timing_class_number(struct timing_Profile p, uint16_t interval, bool two) {
+    struct ControlFlow_ErrResidual_Refusal_unit t7 = core_result_ResultTry_branch_unit_Refusal(timing_rule_check(p));
+    if (t7.tag != ControlFlow_ErrResidual_Refusal_unit_Continue) {
+        return core_result_ResultFromResidualErrResidual_from_residual_u64_Refusal_Refusal(t7.u.Break);
     }
     struct timing_Class class = timing_cursor_Cursor_step(timing_cursor_Cursor_after(p, two), interval).class;
-    return (struct refusal_Counted){.tag = refusal_Counted_Count, .u.Count = timing_Class_number(class)};
+    return (struct Result_u64_Refusal){.tag = Result_u64_Refusal_Ok, .u.Ok = timing_Class_number(class)};
+}
+
+/* timing::HalfClocksPartialEq::eq, which is derived */
+static bool timing_HalfClocksPartialEq_eq(const struct timing_HalfClocks *p1, const struct timing_HalfClocks *p2) {
+    return core_cmp_numbers_U16PartialEq_eq(&p1->f0, &p2->f0);
+}
+
+/* core::cmp::Ordering::and_eq<HalfClocks>, of the kit's library */
+static bool core_cmp_Ordering_and_eq_HalfClocks(bool p1, const struct timing_HalfClocks *p2,
+        const struct timing_HalfClocks *p3) {
+    if (p1) return timing_HalfClocksPartialEq_eq(p2, p3);
+    return false;
+}
+
+/* timing::BoundsPartialEq::eq, which is derived */
+static bool timing_BoundsPartialEq_eq(const struct timing_Bounds *p1, const struct timing_Bounds *p2) {
+    bool t7 = timing_HalfClocksPartialEq_eq(&p1->b23, &p2->b23);
+    return core_cmp_Ordering_and_eq_HalfClocks(t7, &p1->b34, &p2->b34);
 }
 
 /*
@@ -1098,9 +1406,8 @@ static struct refusal_Counted timing_class_number(struct timing_Profile p, uint1
  * Whether it stands so behind every interval: the bounds are the same after either kind.
  */
 static bool timing_cursor_Cursor_is_steady(struct timing_cursor_Cursor self) {
-    bool t5 = self.bounds.b23.f0 == self.long_.b23.f0;
-    bool t7 = self.bounds.b34.f0 == self.long_.b34.f0;
-    return (self.bounds.b23.f0 == self.short_.b23.f0) & (self.bounds.b34.f0 == self.short_.b34.f0) & t5 & t7;
+    bool t3 = timing_BoundsPartialEq_eq(&self.bounds, &self.short_);
+    return t3 & timing_BoundsPartialEq_eq(&self.bounds, &self.long_);
 }
 
 /*
@@ -1108,7 +1415,7 @@ static bool timing_cursor_Cursor_is_steady(struct timing_cursor_Cursor self) {
  * Whether the next interval is of class 2, by one compare: below Min the difference wraps to above all others.
  */
 static bool timing_cursor_Cursor_meets_two(struct timing_cursor_Cursor self, uint16_t interval) {
-    return core_num_wrapping_sub_u16(interval, self.min.f0) < self.bounds.b23.f0 - self.min.f0;
+    return (uint16_t)(interval - self.min.f0) < self.bounds.b23.f0 - self.min.f0;
 }
 
 /*
@@ -1176,15 +1483,15 @@ static bool items_is_check(uint16_t n) {
 
 /*
  * items::list::count_checks, crates/items/src/list.rt
- * How many check orders stand from a place up to another, so few that 16 bits count them: added with no jump for any,
- * eight at a time.
+ * How many check orders a list has, so few that 16 bits count them: added with no jump for any, eight at a time.
  */
-static uint16_t items_list_count_checks(struct slice_u16 items, uint64_t from, uint64_t end) {
+static uint16_t items_list_count_checks(struct slice_u16 items) {
     uint16_t count = 0;
-    uint64_t k = from;
-    while (k < end) {
-        count += (uint16_t)items_is_check(items.at[k]);
-        k++;
+    uint64_t item_index = 0;
+    uint64_t t5 = items.len;
+    while (item_index < t5) {
+        count += (uint16_t)items_is_check(items.at[item_index]);
+        item_index++;
     }
     return count;
 }
@@ -1195,11 +1502,11 @@ static uint64_t items_list_written_bytes(struct slice_u16 items) {
     uint64_t k = 0;
     while (32768 <= items.len - k) {
         uint64_t end = k + 32768;
-        count += 32768 + (uint64_t)items_list_count_checks(items, k, end);
+        count += 32768 + (uint64_t)items_list_count_checks(slice_u16(items.at + k, end - k));
         k = end;
     }
-    uint64_t end_2 = items.len;
-    return count + (end_2 - k) + (uint64_t)items_list_count_checks(items, k, end_2);
+    struct slice_u16 rest = slice_u16(items.at + k, items.len - k);
+    return count + rest.len + (uint64_t)items_list_count_checks(rest);
 }
 
 /* items::is_mark, crates/items/src/lib.rt */
@@ -1217,10 +1524,11 @@ static bool items_is_item(uint16_t n) {
 /* items::list::all_items, crates/items/src/list.rt: Whether all numbers are items, told with no jump for any. */
 static bool items_list_all_items(struct slice_u16 items) {
     bool all = true;
-    uint64_t k = 0;
-    while (k < items.len) {
-        all = all & items_is_item(items.at[k]);
-        k++;
+    uint64_t item_index = 0;
+    uint64_t t5 = items.len;
+    while (item_index < t5) {
+        all = all & items_is_item(items.at[item_index]);
+        item_index++;
     }
     return all;
 }
@@ -1231,27 +1539,25 @@ static bool items_list_all_items(struct slice_u16 items) {
  */
 static uint64_t items_list_find_foreign(struct slice_u16 items) {
     uint64_t k = 0;
-    while (k < items.len) {
-        if (items_is_item(items.at[k])) {
-            k++;
-        } else {
-            return k;
-        }
+    uint64_t t4 = items.len;
+    while (k < t4) {
+        if (!items_is_item(items.at[k])) return k;
+        k++;
     }
-    return k;
+    return items.len;
 }
 
 /* items::list::check_list, crates/items/src/list.rt: Whether the list may be written: 4, then 3. */
-static struct refusal_Verdict items_list_check_list(struct slice_u16 items) {
+static struct Result_unit_Refusal items_list_check_list(struct slice_u16 items) {
     if (6400 < items.len) {
-        return (struct refusal_Verdict){.tag = refusal_Verdict_Refused, .u.Refused = {.tag = refusal_Refusal_TooLong}};
+        return (struct Result_unit_Refusal){.tag = Result_unit_Refusal_Err, .u.Err = {.tag = refusal_Refusal_TooLong}};
     }
     if (6400 < items_list_written_bytes(items)) {
-        return (struct refusal_Verdict){.tag = refusal_Verdict_Refused, .u.Refused = {.tag = refusal_Refusal_TooLong}};
+        return (struct Result_unit_Refusal){.tag = Result_unit_Refusal_Err, .u.Err = {.tag = refusal_Refusal_TooLong}};
     }
-    if (items_list_all_items(items)) return (struct refusal_Verdict){.tag = refusal_Verdict_Accepted};
-    return (struct refusal_Verdict){.tag = refusal_Verdict_Refused,
-            .u.Refused = {.tag = refusal_Refusal_NotAnItem, .u.NotAnItem = (uint32_t)items_list_find_foreign(items)}};
+    if (items_list_all_items(items)) return (struct Result_unit_Refusal){.tag = Result_unit_Refusal_Ok};
+    return (struct Result_unit_Refusal){.tag = Result_unit_Refusal_Err,
+            .u.Err = {.tag = refusal_Refusal_NotAnItem, .u.NotAnItem = (uint32_t)items_list_find_foreign(items)}};
 }
 
 /* items::Check::fresh, crates/items/src/lib.rt */
@@ -1293,12 +1599,15 @@ static uint64_t items_list_pass_eights(struct slice_u16 items) {
  * The place of the lowest check order; the length where there is none.
  */
 static uint64_t items_list_find_check(struct slice_u16 items) {
-    uint64_t k = items_list_pass_eights(items);
-    while (k < items.len) {
-        if (items_is_check(items.at[k])) return k;
+    uint64_t start = items_list_pass_eights(items);
+    struct slice_u16 rest = slice_u16(items.at + start, items.len - start);
+    uint64_t k = 0;
+    uint64_t t10 = rest.len;
+    while (k < t10) {
+        if (items_is_check(rest.at[k])) return start + k;
         k++;
     }
-    return k;
+    return items.len;
 }
 
 /* items::Check::before_mark, crates/items/src/lib.rt: The register that a mark byte passes through. */
@@ -1434,8 +1743,8 @@ static struct items_Check items_bytes_write_run(struct items_Check start, struct
     uint16_t high = items_Check_high(check);
     uint16_t low = items_Check_low(check);
     struct array_u16_2 bytes = {{high, low}};
-    lists_store(run, at, out);
-    lists_store(slice_u16(bytes.a, 2), at + run.len, out);
+    lists_store_u16(run, at, out);
+    lists_store_u16(slice_u16(bytes.a, 2), at + run.len, out);
     return items_Check_after_check(check);
 }
 
@@ -1457,7 +1766,7 @@ static struct items_bytes_Stored items_bytes_write_bytes(struct items_Check star
         run = items_list_find_check(slice_u16(items.at + from, items.len - from));
     }
     struct slice_u16 last = slice_u16(items.at + from, items.len - from);
-    lists_store(last, at, out);
+    lists_store_u16(last, at, out);
     return (struct items_bytes_Stored){.check = items_Check_after_bytes(check, last), .count = at + last.len};
 }
 
@@ -1478,15 +1787,31 @@ static ism_fifo_answer fifo_steps_given(uint16_t item, ism_fifo next) {
     return (ism_fifo_answer){.number = 0, .place = 0, .item = item, .next = next};
 }
 
-/* fifo::steps::with_fault, crates/fifo/src/steps.rt: A bit is set only while none is; a bit of 0 is no fault. */
-static ism_fifo fifo_steps_with_fault(ism_fifo fifo, uint16_t bit) {
-    uint16_t t10;
-    if (fifo.error == 0) {
-        t10 = bit;
-    } else {
-        t10 = fifo.error;
+/* fifo::steps::U16FromFault::from, crates/fifo/src/steps.rt */
+static uint16_t fifo_steps_U16FromFault_from(struct fifo_steps_Fault fault) {
+    switch (fault.tag) {
+    case fifo_steps_Fault_Chip: return 1;
+    case fifo_steps_Fault_Mark: return 2;
+    default: return 4; /* fifo_steps_Fault_Processor */
     }
-    return (ism_fifo){.mode = fifo.mode, .held = fifo.held, .first = fifo.first, .second = fifo.second, .error = t10};
+}
+
+/* fifo::steps::bit_if_any, crates/fifo/src/steps.rt: No fault sets no bit. */
+static uint16_t fifo_steps_bit_if_any(struct Option_Fault fault) {
+    if (fault.tag == Option_Fault_Some) return fifo_steps_U16FromFault_from(fault.u.Some);
+    return 0;
+}
+
+/* fifo::steps::with_fault, crates/fifo/src/steps.rt: A bit is set only while none is. */
+static ism_fifo fifo_steps_with_fault(ism_fifo fifo, struct Option_Fault fault) {
+    uint16_t bit = fifo_steps_bit_if_any(fault);
+    uint16_t t12;
+    if (fifo.error == 0) {
+        t12 = bit;
+    } else {
+        t12 = fifo.error;
+    }
+    return (ism_fifo){.mode = fifo.mode, .held = fifo.held, .first = fifo.first, .second = fifo.second, .error = t12};
 }
 
 /* fifo::steps::not_an_item, crates/fifo/src/steps.rt */
@@ -1496,29 +1821,29 @@ static ism_fifo_answer fifo_steps_not_an_item(ism_fifo next) {
     return (ism_fifo_answer){.number = t3, .place = refusal_Refusal_place(why), .item = 0, .next = next};
 }
 
-/*
- * fifo::steps::append, crates/fifo/src/steps.rt
- * An item comes last; where there is no room, `fault` is the bit.
- */
-static ism_fifo_answer fifo_steps_append(ism_fifo fifo, uint16_t item, uint16_t fault) {
+/* fifo::steps::append, crates/fifo/src/steps.rt: An item comes last; where there is no room, that is the fault. */
+static ism_fifo_answer fifo_steps_append(ism_fifo fifo, uint16_t item, struct fifo_steps_Fault fault) {
     if (items_is_item(item)) {
         if (fifo.held == 0) return fifo_steps_given(0, fifo_steps_with_items(fifo, 1, item, 0));
         if (fifo.held == 1) return fifo_steps_given(0, fifo_steps_with_items(fifo, 2, fifo.first, item));
-        return fifo_steps_given(0, fifo_steps_with_fault(fifo, fault));
+        ism_fifo t12 = fifo_steps_with_fault(fifo, (struct Option_Fault){.tag = Option_Fault_Some, .u.Some = fault});
+        return fifo_steps_given(0, t12);
     }
     return fifo_steps_not_an_item(fifo);
 }
 
 /* fifo::Fifo::put, crates/fifo/src/lib.rt: The processor puts an item. */
 static ism_fifo_answer fifo_Fifo_put(ism_fifo self, uint16_t item) {
-    if (self.mode == 0) return fifo_steps_append(self, item, 4);
+    if (self.mode == 0) {
+        return fifo_steps_append(self, item, (struct fifo_steps_Fault){.tag = fifo_steps_Fault_Processor});
+    }
     return fifo_steps_given(0, self);
 }
 
 /* fifo::Fifo::chip_put, crates/fifo/src/lib.rt: The chip puts an item. */
 static ism_fifo_answer fifo_Fifo_chip_put(ism_fifo self, uint16_t item) {
     if (self.mode == 0) return fifo_steps_given(0, self);
-    return fifo_steps_append(self, item, 1);
+    return fifo_steps_append(self, item, (struct fifo_steps_Fault){.tag = fifo_steps_Fault_Chip});
 }
 
 /* fifo::steps::without_first, crates/fifo/src/steps.rt: The first item leaves. */
@@ -1529,10 +1854,13 @@ static ism_fifo fifo_steps_without_first(ism_fifo fifo) {
 
 /*
  * fifo::steps::shift, crates/fifo/src/steps.rt
- * The first item leaves; where there is none, `fault` is the bit; where it is a mark, `mark`.
+ * The first item leaves; where there is none, that is the fault; where it is a mark, `mark` is.
  */
-static ism_fifo_answer fifo_steps_shift(ism_fifo fifo, uint16_t fault, uint16_t mark) {
-    if (fifo.held == 0) return fifo_steps_given(0, fifo_steps_with_fault(fifo, fault));
+static ism_fifo_answer fifo_steps_shift(ism_fifo fifo, struct fifo_steps_Fault fault, struct Option_Fault mark) {
+    if (fifo.held == 0) {
+        ism_fifo t6 = fifo_steps_with_fault(fifo, (struct Option_Fault){.tag = Option_Fault_Some, .u.Some = fault});
+        return fifo_steps_given(0, t6);
+    }
     if (items_is_mark(fifo.first)) {
         return fifo_steps_given(fifo.first, fifo_steps_with_fault(fifo_steps_without_first(fifo), mark));
     }
@@ -1545,18 +1873,23 @@ static ism_fifo_answer fifo_steps_shift(ism_fifo fifo, uint16_t fault, uint16_t 
  */
 static ism_fifo_answer fifo_Fifo_take_data(ism_fifo self) {
     if (self.mode == 0) return fifo_steps_given(0, self);
-    return fifo_steps_shift(self, 4, 2);
+    struct Option_Fault t6 = {.tag = Option_Fault_Some, .u.Some = {.tag = fifo_steps_Fault_Mark}};
+    return fifo_steps_shift(self, (struct fifo_steps_Fault){.tag = fifo_steps_Fault_Processor}, t6);
 }
 
 /* fifo::Fifo::take_mark, crates/fifo/src/lib.rt: The processor takes an item at the mark location. */
 static ism_fifo_answer fifo_Fifo_take_mark(ism_fifo self) {
     if (self.mode == 0) return fifo_steps_given(0, self);
-    return fifo_steps_shift(self, 4, 0);
+    struct Option_Fault t5 = {.tag = Option_Fault_None};
+    return fifo_steps_shift(self, (struct fifo_steps_Fault){.tag = fifo_steps_Fault_Processor}, t5);
 }
 
 /* fifo::Fifo::chip_take, crates/fifo/src/lib.rt: The chip takes an item. */
 static ism_fifo_answer fifo_Fifo_chip_take(ism_fifo self) {
-    if (self.mode == 0) return fifo_steps_shift(self, 1, 0);
+    if (self.mode == 0) {
+        struct Option_Fault t5 = {.tag = Option_Fault_None};
+        return fifo_steps_shift(self, (struct fifo_steps_Fault){.tag = fifo_steps_Fault_Chip}, t5);
+    }
     return fifo_steps_given(0, self);
 }
 
@@ -1603,7 +1936,7 @@ static uint32_t half_cells_cells_since(uint32_t bits, uint32_t surplus, uint32_t
  * The place of the first of so many cells, the last of which stands at this place.
  */
 static uint32_t half_cells_first_of_cells(uint32_t at, uint32_t cells) {
-    return core_num_wrapping_sub_u32(core_num_wrapping_add_u32(at, 1), cells);
+    return (uint32_t)((uint32_t)(at + 1) - cells);
 }
 
 /* half_cells::data_bits, crates/half_cells/src/lib.rt: Every second bit of a word, moved together. */
@@ -1626,10 +1959,13 @@ static uint16_t half_cells_byte_of(uint16_t word) {
 
 /* half_cells::words_to_bytes, crates/half_cells/src/lib.rt: Each word of a list replaced by its byte. */
 static void half_cells_words_to_bytes(struct slice_u16_mut words) {
-    uint64_t k = 0;
-    while (k < words.len) {
-        words.at[k] = half_cells_byte_of(words.at[k]);
-        k++;
+    struct slice_u16_mut word_items = words;
+    uint64_t word_index = 0;
+    uint64_t t5 = word_items.len;
+    while (word_index < t5) {
+        uint16_t *word = word_items.at + word_index;
+        *word = half_cells_byte_of(*word);
+        word_index++;
     }
 }
 
@@ -1658,7 +1994,7 @@ static struct symbols_Reading symbols_Reading_empty(void) {
 static struct symbols_Reading symbols_Reading_shift(struct symbols_Reading self, uint8_t units) {
     uint32_t more = (uint32_t)units;
     self.bits = (uint32_t)(self.bits << (more % 32)) | 0x1;
-    self.held = core_num_wrapping_add_u32(self.held, more);
+    self.held = (uint32_t)(self.held + more);
     return self;
 }
 
@@ -1686,7 +2022,7 @@ static struct symbols_Reading symbols_Reading_close(struct symbols_Reading self,
     uint32_t x = (self.bits >> surplus) % 131072;
     uint32_t gaps = half_cells_missing(x);
     self.held -= 16;
-    self.words = core_num_wrapping_add_u32(self.words, 1);
+    self.words = (uint32_t)(self.words + 1);
     if (gaps == 0) return self;
     if (half_cells_is_mark(x)) return self;
     if (self.stray) return self;
@@ -1726,12 +2062,6 @@ static uint16_t words_spread_word(uint16_t previous, uint16_t byte) {
     return data | (uint16_t)((uint32_t)clocks << 1);
 }
 
-/* words::either, crates/words/src/lib.rt */
-static uint16_t words_either(bool test, uint16_t yes, uint16_t no) {
-    if (test) return yes;
-    return no;
-}
-
 /*
  * words::made_word, crates/words/src/lib.rt
  * The same without the table, which is slow to copy where few words are asked for and large where all are. A mark's
@@ -1740,7 +2070,9 @@ static uint16_t words_either(bool test, uint16_t yes, uint16_t no) {
  */
 static uint16_t words_made_word(uint16_t previous, uint16_t w) {
     uint16_t word = words_spread_word(previous % 2, w % 256);
-    return words_either(w == 417, 17545, words_either(w == 450, 21028, word));
+    if (w == 417) return 17545;
+    if (w == 450) return 21028;
+    return word;
 }
 
 /*
@@ -1805,10 +2137,11 @@ static struct images_count_Tally images_count_count_byte(struct images_count_Tal
 /* images::count::count_bytes, crates/images/src/count.rt */
 static struct images_count_Tally images_count_count_bytes(struct images_count_Tally start, struct slice_u16 bytes) {
     struct images_count_Tally tally = start;
-    uint64_t k = 0;
-    while (k < bytes.len) {
-        tally = images_count_count_byte(tally, bytes.at[k]);
-        k++;
+    uint64_t byte_index = 0;
+    uint64_t t6 = bytes.len;
+    while (byte_index < t6) {
+        tally = images_count_count_byte(tally, bytes.at[byte_index]);
+        byte_index++;
     }
     return tally;
 }
@@ -1823,7 +2156,7 @@ static struct images_count_Tally images_count_count_blocks(struct slice_u16 item
     struct array_u16_128 bytes = {0};
     uint64_t from = 0;
     while (from < items.len) {
-        uint64_t end = from + lists_at_most(64, items.len - from);
+        uint64_t end = from + core_int_usize_min(64, items.len - from);
         struct items_bytes_Stored stored =
                 items_bytes_write_bytes(check, slice_u16(items.at + from, end - from), slice_u16_mut(bytes.a, 128));
         uint64_t count = stored.count;
@@ -1864,7 +2197,7 @@ static uint64_t images_count_count_cells(struct slice_u16 items, uint64_t bytes)
  */
 static void images_make_store_written(struct slice_u16 items, uint64_t bytes, struct slice_u16_mut out) {
     if (bytes == items.len) {
-        lists_store(items, 0, out);
+        lists_store_u16(items, 0, out);
         return;
     }
     items_bytes_write_bytes(items_Check_fresh(), items, out);
@@ -1876,12 +2209,14 @@ static void images_make_store_written(struct slice_u16 items, uint64_t bytes, st
  */
 static void images_make_turn_few(struct slice_u16_mut bytes) {
     uint16_t previous = 0;
-    uint64_t k = 0;
-    while (k < bytes.len) {
-        uint16_t byte = bytes.at[k];
-        bytes.at[k] = words_made_word(previous, byte);
+    uint64_t place_index = 0;
+    uint64_t t6 = bytes.len;
+    while (place_index < t6) {
+        uint16_t *place = bytes.at + place_index;
+        uint16_t byte = *place;
+        *place = words_made_word(previous, byte);
         previous = byte;
-        k++;
+        place_index++;
     }
 }
 
@@ -1889,12 +2224,14 @@ static void images_make_turn_few(struct slice_u16_mut bytes) {
 static void images_make_turn_many(struct slice_u16_mut bytes) {
     struct array_u16_512 table = words_table_code_words();
     uint16_t previous = 0;
-    uint64_t k = 0;
-    while (k < bytes.len) {
-        uint16_t byte = bytes.at[k];
-        bytes.at[k] = words_word_of(&table, previous, byte);
+    uint64_t place_index = 0;
+    uint64_t t8 = bytes.len;
+    while (place_index < t8) {
+        uint16_t *place = bytes.at + place_index;
+        uint16_t byte = *place;
+        *place = words_word_of(&table, previous, byte);
         previous = byte;
-        k++;
+        place_index++;
     }
 }
 
@@ -1908,25 +2245,26 @@ static void images_make_turn_into_words(struct slice_u16_mut bytes) {
 }
 
 /* images::make::make_words, crates/images/src/make.rt: An accepted list: 9, or its image. */
-static struct refusal_Counted images_make_make_words(struct slice_u16 items, struct slice_u16_mut out) {
+static struct Result_u64_Refusal images_make_make_words(struct slice_u16 items, struct slice_u16_mut out) {
     uint64_t n = items_list_written_bytes(items);
     if (out.len < n) {
-        return (struct refusal_Counted){.tag = refusal_Counted_Refused,
-                .u.Refused = {.tag = refusal_Refusal_OutputTooShort}};
+        return (struct Result_u64_Refusal){.tag = Result_u64_Refusal_Err,
+                .u.Err = {.tag = refusal_Refusal_OutputTooShort}};
     }
     images_make_store_written(items, n, out);
     images_make_turn_into_words(slice_u16_mut(out.at, n));
-    return (struct refusal_Counted){.tag = refusal_Counted_Count, .u.Count = n};
+    return (struct Result_u64_Refusal){.tag = Result_u64_Refusal_Ok, .u.Ok = n};
 }
 
 /*
  * images::make::make_image, crates/images/src/make.rt
  * A list of items as an image: 4, 3, 9, or the number of words stored.
  */
-static struct refusal_Counted images_make_make_image(struct slice_u16 items, struct slice_u16_mut out) {
-    struct refusal_Verdict t4 = items_list_check_list(items);
-    if (t4.tag == refusal_Verdict_Refused) {
-        return (struct refusal_Counted){.tag = refusal_Counted_Refused, .u.Refused = t4.u.Refused};
+static struct Result_u64_Refusal images_make_make_image(struct slice_u16 items, struct slice_u16_mut out) {
+    struct ControlFlow_ErrResidual_Refusal_unit t5 =
+            core_result_ResultTry_branch_unit_Refusal(items_list_check_list(items));
+    if (t5.tag != ControlFlow_ErrResidual_Refusal_unit_Continue) {
+        return core_result_ResultFromResidualErrResidual_from_residual_u64_Refusal_Refusal(t5.u.Break);
     }
     return images_make_make_words(items, out);
 }
@@ -1949,46 +2287,50 @@ static bool images_read_is_ruly(uint16_t previous, uint16_t word) {
 static bool images_read_all_ruly(struct slice_u16 words) {
     bool all = true;
     uint16_t previous = 0;
-    uint64_t k = 0;
-    while (k < words.len) {
-        uint16_t word = words.at[k];
+    uint64_t word_index = 0;
+    uint64_t t6 = words.len;
+    while (word_index < t6) {
+        uint16_t word = words.at[word_index];
         all = all & images_read_is_ruly(previous, word);
         previous = word;
-        k++;
+        word_index++;
     }
     return all;
 }
 
 /*
  * images::read::find_unruly, crates/images/src/read.rt
- * The place of the lowest word that its candidate does not have after the byte before; the length where there is none.
+ * The place of the lowest word that its candidate does not have after the byte before.
  */
-static uint64_t images_read_find_unruly(struct slice_u16 words) {
+static struct Option_u64 images_read_find_unruly(struct slice_u16 words) {
     struct array_u16_512 table = words_table_code_words();
     uint16_t previous = 0;
     uint64_t k = 0;
-    while (k < words.len) {
+    uint64_t t8 = words.len;
+    while (k < t8) {
         uint16_t word = words.at[k];
         uint16_t byte = half_cells_byte_of(word);
-        if (words_word_of(&table, previous, byte) == word) {
-            previous = byte;
-            k++;
-        } else {
-            return k;
+        if (words_word_of(&table, previous, byte) != word) {
+            return (struct Option_u64){.tag = Option_u64_Some, .u.Some = k};
         }
+        previous = byte;
+        k++;
     }
-    return k;
+    return (struct Option_u64){.tag = Option_u64_None};
 }
 
 /* images::read::check_words, crates/images/src/read.rt: Whether the words are an image: 4, then 16. */
-static struct refusal_Verdict images_read_check_words(struct slice_u16 words) {
+static struct Result_unit_Refusal images_read_check_words(struct slice_u16 words) {
     if (6400 < words.len) {
-        return (struct refusal_Verdict){.tag = refusal_Verdict_Refused, .u.Refused = {.tag = refusal_Refusal_TooLong}};
+        return (struct Result_unit_Refusal){.tag = Result_unit_Refusal_Err, .u.Err = {.tag = refusal_Refusal_TooLong}};
     }
-    if (images_read_all_ruly(words)) return (struct refusal_Verdict){.tag = refusal_Verdict_Accepted};
-    uint64_t k = images_read_find_unruly(words);
-    return (struct refusal_Verdict){.tag = refusal_Verdict_Refused,
-            .u.Refused = {.tag = refusal_Refusal_UnrulyWord, .u.UnrulyWord = (uint32_t)k}};
+    if (images_read_all_ruly(words)) return (struct Result_unit_Refusal){.tag = Result_unit_Refusal_Ok};
+    struct Option_u64 t7 = images_read_find_unruly(words);
+    if (t7.tag == Option_u64_Some) {
+        return (struct Result_unit_Refusal){.tag = Result_unit_Refusal_Err,
+                .u.Err = {.tag = refusal_Refusal_UnrulyWord, .u.UnrulyWord = (uint32_t)t7.u.Some}};
+    }
+    return (struct Result_unit_Refusal){.tag = Result_unit_Refusal_Ok};
 }
 
 /*
@@ -1996,47 +2338,42 @@ static struct refusal_Verdict images_read_check_words(struct slice_u16 words) {
  * The candidates of words, from the front of the output on.
  */
 static void images_read_store_bytes(struct slice_u16 words, struct slice_u16_mut out) {
-    lists_store(words, 0, out);
+    lists_store_u16(words, 0, out);
     uint64_t n = words.len;
     half_cells_words_to_bytes(slice_u16_mut(out.at, n));
 }
 
 /* images::read::read_words, crates/images/src/read.rt: An image: 9, or its items. */
-static struct refusal_Counted images_read_read_words(struct slice_u16 words, struct slice_u16_mut out) {
+static struct Result_u64_Refusal images_read_read_words(struct slice_u16 words, struct slice_u16_mut out) {
     if (out.len < words.len) {
-        return (struct refusal_Counted){.tag = refusal_Counted_Refused,
-                .u.Refused = {.tag = refusal_Refusal_OutputTooShort}};
+        return (struct Result_u64_Refusal){.tag = Result_u64_Refusal_Err,
+                .u.Err = {.tag = refusal_Refusal_OutputTooShort}};
     }
     images_read_store_bytes(words, out);
-    return (struct refusal_Counted){.tag = refusal_Counted_Count, .u.Count = words.len};
+    return (struct Result_u64_Refusal){.tag = Result_u64_Refusal_Ok, .u.Ok = words.len};
 }
 
 /*
  * images::read::read_image, crates/images/src/read.rt
  * An image as items: 4, 16, 9, or the number of items stored.
  */
-static struct refusal_Counted images_read_read_image(struct slice_u16 words, struct slice_u16_mut out) {
-    struct refusal_Verdict t4 = images_read_check_words(words);
-    if (t4.tag == refusal_Verdict_Refused) {
-        return (struct refusal_Counted){.tag = refusal_Counted_Refused, .u.Refused = t4.u.Refused};
+static struct Result_u64_Refusal images_read_read_image(struct slice_u16 words, struct slice_u16_mut out) {
+    struct ControlFlow_ErrResidual_Refusal_unit t5 =
+            core_result_ResultTry_branch_unit_Refusal(images_read_check_words(words));
+    if (t5.tag != ControlFlow_ErrResidual_Refusal_unit_Continue) {
+        return core_result_ResultFromResidualErrResidual_from_residual_u64_Refusal_Refusal(t5.u.Break);
     }
     return images_read_read_words(words, out);
 }
 
 /* The crate lengths */
 
-/* lengths::room, crates/lengths/src/lib.rt: How far it is up to an edge; 0 where the edge lies below. */
-static uint16_t lengths_room(uint16_t from, uint16_t to) {
-    if (to < from) return 0;
-    return to - from;
-}
-
 /*
  * lengths::room_below, crates/lengths/src/lib.rt
  * How far lengths of at most the one given are below an edge, which they must not reach.
  */
 static uint16_t lengths_room_below(uint16_t longest, uint16_t edge) {
-    return lengths_room(longest, lengths_room(1, edge));
+    return core_int_u16_saturating_sub(core_int_u16_saturating_sub(edge, 1), longest);
 }
 
 /*
@@ -2050,37 +2387,30 @@ static struct array_u16_10 lengths_rooms(struct timing_Profile p) {
     uint16_t l = timing_rule_delay(p).f0;
     uint16_t three = p.t1.f0 + p.t0.f0;
     uint16_t four = p.t1.f0 + 2 * p.t0.f0;
-    uint16_t t8 = lengths_room(p.min.f0, lengths_room(d, p.t1.f0));
+    uint16_t t8 = core_int_u16_saturating_sub(core_int_u16_saturating_sub(p.t1.f0, d), p.min.f0);
     uint16_t t10 = lengths_room_below(p.t1.f0, p.short_.b23.f0);
-    uint16_t t11 = lengths_room(p.short_.b23.f0, three + e);
-    uint16_t t13 = lengths_room_below(lengths_room(l, p.t1.f0), p.long_.b23.f0);
-    uint16_t t15 = lengths_room(p.long_.b23.f0, three);
+    uint16_t t11 = core_int_u16_saturating_sub(three + e, p.short_.b23.f0);
+    uint16_t t13 = lengths_room_below(core_int_u16_saturating_sub(p.t1.f0, l), p.long_.b23.f0);
+    uint16_t t15 = core_int_u16_saturating_sub(three, p.long_.b23.f0);
     uint16_t t16 = lengths_room_below(three + d, p.short_.b34.f0);
-    uint16_t t18 = lengths_room(p.short_.b34.f0, four + e);
+    uint16_t t18 = core_int_u16_saturating_sub(four + e, p.short_.b34.f0);
     uint16_t t20 = lengths_room_below(three + l, p.long_.b34.f0);
-    uint16_t t22 = lengths_room(p.long_.b34.f0, four);
+    uint16_t t22 = core_int_u16_saturating_sub(four, p.long_.b34.f0);
     return (struct array_u16_10){{t8, t10, t11, t13, t15, t16, t18, t20, t22, lengths_room_below(four + d, p.rpt.f0)}};
-}
-
-/* lengths::least, crates/lengths/src/lib.rt */
-static uint16_t lengths_least(uint16_t a, uint16_t b) {
-    if (a < b) return a;
-    return b;
 }
 
 /* lengths::least_room, crates/lengths/src/lib.rt: The least room of a true profile. */
 static uint16_t lengths_least_room(struct timing_Profile p) {
-    struct array_u16_10 r = lengths_rooms(p);
-    uint16_t t7 = r.a[5];
-    uint16_t t11 = r.a[6];
-    uint16_t t15 = r.a[7];
-    uint16_t in_b34 = lengths_least(t7, lengths_least(t11, lengths_least(t15, lengths_least(r.a[8], r.a[9]))));
-    t7 = r.a[0];
-    uint16_t t19 = r.a[1];
-    t15 = r.a[2];
-    t11 = r.a[3];
-    uint16_t t22 = lengths_least(t19, lengths_least(t15, lengths_least(t11, lengths_least(r.a[4], in_b34))));
-    return lengths_least(t7, t22);
+    struct array_u16_10 rooms = lengths_rooms(p);
+    uint16_t least = rooms.a[0];
+    struct slice_u16 room_items = slice_u16(rooms.a + 1, (uint64_t)10 - 1);
+    uint64_t room_index = 0;
+    uint64_t t16 = room_items.len;
+    while (room_index < t16) {
+        least = core_int_u16_min(least, room_items.at[room_index]);
+        room_index++;
+    }
+    return least;
 }
 
 /*
@@ -2088,24 +2418,22 @@ static uint16_t lengths_least_room(struct timing_Profile p) {
  * The margin operation: 1, 2, then the largest number of half clocks by which every interval may be off and keep its
  * class.
  */
-static struct refusal_Counted lengths_margin(struct timing_Profile p) {
-    struct refusal_Verdict t3 = timing_rule_check(p);
-    if (t3.tag == refusal_Verdict_Refused) {
-        return (struct refusal_Counted){.tag = refusal_Counted_Refused, .u.Refused = t3.u.Refused};
+static struct Result_u64_Refusal lengths_margin(struct timing_Profile p) {
+    struct ControlFlow_ErrResidual_Refusal_unit t4 = core_result_ResultTry_branch_unit_Refusal(timing_rule_check(p));
+    if (t4.tag != ControlFlow_ErrResidual_Refusal_unit_Continue) {
+        return core_result_ResultFromResidualErrResidual_from_residual_u64_Refusal_Refusal(t4.u.Break);
     }
-    return (struct refusal_Counted){.tag = refusal_Counted_Count, .u.Count = (uint64_t)lengths_least_room(p)};
-}
-
-/* lengths::table::either, crates/lengths/src/table.rt */
-static struct timing_Clocks lengths_table_either(bool test, struct timing_Clocks yes, struct timing_Clocks no) {
-    if (test) return yes;
-    return no;
+    return (struct Result_u64_Refusal){.tag = Result_u64_Refusal_Ok, .u.Ok = (uint64_t)lengths_least_room(p)};
 }
 
 /* lengths::table::point, crates/lengths/src/table.rt: The compare point of a transition between two symbols. */
 static struct timing_Clocks lengths_table_point(struct timing_Profile p, bool before, bool after) {
-    if (before) return lengths_table_either(after, p.normal, p.early);
-    return lengths_table_either(after, p.late, p.normal);
+    if (before) {
+        if (after) return p.normal;
+        return p.early;
+    }
+    if (after) return p.late;
+    return p.normal;
 }
 
 /*
@@ -2133,25 +2461,13 @@ static struct timing_HalfClocks lengths_table_length_between(struct timing_Profi
 
 /* The crate intervals */
 
-/* intervals::units::lesser, crates/intervals/src/units.rt */
-static uint16_t intervals_units_lesser(uint16_t a, uint16_t b) {
-    if (a < b) return a;
-    return b;
-}
-
-/* intervals::units::greater, crates/intervals/src/units.rt */
-static uint16_t intervals_units_greater(uint16_t a, uint16_t b) {
-    if (a < b) return b;
-    return a;
-}
-
 /*
  * intervals::units::is_clear, crates/intervals/src/units.rt
  * Whether an interval does not lie between two bounds. One compare for it: between them it is less past the lower than
  * the upper is; below both the difference wraps, and is no less.
  */
 static bool intervals_units_is_clear(uint16_t low, uint16_t high, uint16_t interval) {
-    return high - low <= core_num_wrapping_sub_u16(interval, low);
+    return high - low <= (uint16_t)(interval - low);
 }
 
 /*
@@ -2161,13 +2477,14 @@ static bool intervals_units_is_clear(uint16_t low, uint16_t high, uint16_t inter
  */
 static bool intervals_units_all_sure(struct timing_Bounds short_, struct timing_Bounds long_,
         struct slice_u16 intervals) {
-    uint16_t low = intervals_units_lesser(short_.b23.f0, long_.b23.f0);
-    uint16_t high = intervals_units_greater(short_.b23.f0, long_.b23.f0);
+    uint16_t low = core_int_u16_min(short_.b23.f0, long_.b23.f0);
+    uint16_t high = core_int_u16_max(short_.b23.f0, long_.b23.f0);
     bool all = true;
-    uint64_t k = 0;
-    while (k < intervals.len) {
-        all = all & intervals_units_is_clear(low, high, intervals.at[k]);
-        k++;
+    uint64_t interval_index = 0;
+    uint64_t t9 = intervals.len;
+    while (interval_index < t9) {
+        all = all & intervals_units_is_clear(low, high, intervals.at[interval_index]);
+        interval_index++;
     }
     return all;
 }
@@ -2179,10 +2496,11 @@ static bool intervals_units_all_sure(struct timing_Bounds short_, struct timing_
  */
 static bool intervals_edges_all_inside(uint16_t min, uint16_t rpt, struct slice_u16 intervals) {
     uint16_t most = 0;
-    uint64_t k = 0;
-    while (k < intervals.len) {
-        most = intervals_units_greater(most, core_num_wrapping_sub_u16(intervals.at[k], min));
-        k++;
+    uint64_t interval_index = 0;
+    uint64_t t7 = intervals.len;
+    while (interval_index < t7) {
+        most = core_int_u16_max(most, (uint16_t)(intervals.at[interval_index] - min));
+        interval_index++;
     }
     return most < rpt - min;
 }
@@ -2191,46 +2509,47 @@ static bool intervals_edges_all_inside(uint16_t min, uint16_t rpt, struct slice_
  * intervals::edges::find_outside, crates/intervals/src/edges.rt
  * The first that is none, the first of all having place `from`.
  */
-static struct refusal_Verdict intervals_edges_find_outside(uint16_t min, uint16_t rpt, uint64_t from,
+static struct Result_unit_Refusal intervals_edges_find_outside(uint16_t min, uint16_t rpt, uint64_t from,
         struct slice_u16 intervals) {
     uint64_t k = 0;
-    while (k < intervals.len) {
+    uint64_t t7 = intervals.len;
+    while (k < t7) {
         uint16_t interval = intervals.at[k];
         if (interval < min) {
-            return (struct refusal_Verdict){.tag = refusal_Verdict_Refused,
-                    .u.Refused = {.tag = refusal_Refusal_IntervalTooShort, .u.IntervalTooShort = (uint32_t)(from + k)}};
+            return (struct Result_unit_Refusal){.tag = Result_unit_Refusal_Err,
+                    .u.Err = {.tag = refusal_Refusal_IntervalTooShort, .u.IntervalTooShort = (uint32_t)(from + k)}};
         }
         if (rpt <= interval) {
-            return (struct refusal_Verdict){.tag = refusal_Verdict_Refused,
-                    .u.Refused = {.tag = refusal_Refusal_IntervalTooLong, .u.IntervalTooLong = (uint32_t)(from + k)}};
+            return (struct Result_unit_Refusal){.tag = Result_unit_Refusal_Err,
+                    .u.Err = {.tag = refusal_Refusal_IntervalTooLong, .u.IntervalTooLong = (uint32_t)(from + k)}};
         }
         k++;
     }
-    return (struct refusal_Verdict){.tag = refusal_Verdict_Accepted};
+    return (struct Result_unit_Refusal){.tag = Result_unit_Refusal_Ok};
 }
 
 /*
  * intervals::edges::check_edges_from, crates/intervals/src/edges.rt
  * It is looked for only where there is one among some.
  */
-static struct refusal_Verdict intervals_edges_check_edges_from(struct timing_cursor_Cursor start, uint64_t from,
+static struct Result_unit_Refusal intervals_edges_check_edges_from(struct timing_cursor_Cursor start, uint64_t from,
         struct slice_u16 intervals) {
     uint16_t min = start.min.f0;
     uint16_t rpt = start.rpt.f0;
     uint64_t k = 0;
     while (k < intervals.len) {
-        uint64_t next = k + lists_at_most(128, intervals.len - k);
+        uint64_t next = k + core_int_usize_min(128, intervals.len - k);
         if (intervals_edges_all_inside(min, rpt, slice_u16(intervals.at + k, next - k))) {
             k = next;
         } else {
             return intervals_edges_find_outside(min, rpt, from + k, slice_u16(intervals.at + k, intervals.len - k));
         }
     }
-    return (struct refusal_Verdict){.tag = refusal_Verdict_Accepted};
+    return (struct Result_unit_Refusal){.tag = Result_unit_Refusal_Ok};
 }
 
 /* intervals::edges::check_edges, crates/intervals/src/edges.rt: Of a whole list. */
-static struct refusal_Verdict intervals_edges_check_edges(struct timing_Profile p, struct slice_u16 intervals) {
+static struct Result_unit_Refusal intervals_edges_check_edges(struct timing_Profile p, struct slice_u16 intervals) {
     return intervals_edges_check_edges_from(timing_cursor_Cursor_start(p), 0, intervals);
 }
 
@@ -2243,7 +2562,8 @@ static uint8_t intervals_units_units_by(struct timing_Bounds bounds, uint16_t in
 static void intervals_units_fill_units(struct timing_Bounds bounds, struct slice_u16 intervals,
         struct slice_u8_mut units) {
     uint64_t k = 0;
-    while (k < intervals.len) {
+    uint64_t t6 = intervals.len;
+    while (k < t6) {
         units.at[k] = intervals_units_units_by(bounds, intervals.at[k]);
         k++;
     }
@@ -2254,7 +2574,8 @@ static struct timing_cursor_Cursor intervals_units_units_in_turn(struct timing_c
         struct slice_u16 intervals, struct slice_u8_mut units) {
     struct timing_cursor_Cursor cursor = start;
     uint64_t k = 0;
-    while (k < intervals.len) {
+    uint64_t t7 = intervals.len;
+    while (k < t7) {
         uint16_t interval = intervals.at[k];
         units.at[k] = timing_cursor_Cursor_units(cursor, interval);
         cursor = timing_cursor_Cursor_past(cursor, interval);
@@ -2288,7 +2609,8 @@ static void intervals_units_mark_kinds(struct timing_cursor_Cursor c, struct sli
         struct slice_u16_mut kinds) {
     kinds.at[0] = 0;
     uint64_t k = 0;
-    while (k < intervals.len) {
+    uint64_t t7 = intervals.len;
+    while (k < t7) {
         kinds.at[k + 1] = intervals_units_mask_of(intervals_units_is_two(c, intervals.at[k]));
         k++;
     }
@@ -2296,8 +2618,8 @@ static void intervals_units_mark_kinds(struct timing_cursor_Cursor c, struct sli
 
 /* intervals::units::choose, crates/intervals/src/units.rt */
 static uint16_t intervals_units_choose(uint16_t mask, uint16_t short_, uint16_t long_) {
-    uint16_t gap = core_num_wrapping_sub_u16(short_, long_);
-    return core_num_wrapping_add_u16(long_, gap & mask);
+    uint16_t gap = (uint16_t)(short_ - long_);
+    return (uint16_t)(long_ + (gap & mask));
 }
 
 /*
@@ -2308,10 +2630,12 @@ static uint16_t intervals_units_choose(uint16_t mask, uint16_t short_, uint16_t 
 static void intervals_units_fill_behind(struct timing_cursor_Cursor c, struct slice_u16 intervals,
         struct slice_u16 kinds, struct slice_u8_mut units) {
     uint64_t k = 0;
-    while (k < intervals.len) {
+    uint64_t t9 = intervals.len;
+    while (k < t9) {
+        uint16_t interval = intervals.at[k];
         uint16_t b34 = intervals_units_choose(kinds.at[k], c.short_.b34.f0, c.long_.b34.f0);
         struct timing_Bounds bounds = {.b23 = {.f0 = c.short_.b23.f0}, .b34 = {.f0 = b34}};
-        units.at[k] = intervals_units_units_by(bounds, intervals.at[k]);
+        units.at[k] = intervals_units_units_by(bounds, interval);
         k++;
     }
 }
@@ -2380,7 +2704,7 @@ static struct shifts_top_Top shifts_top_top_of(struct symbols_Reading m) {
 
 /* shifts::top::add_cell, crates/shifts/src/top.rt */
 static struct shifts_top_Top shifts_top_add_cell(struct shifts_top_Top t, uint8_t units) {
-    uint32_t free = core_num_wrapping_sub_u32(t.free, (uint32_t)units);
+    uint32_t free = (uint32_t)(t.free - (uint32_t)units);
     return (struct shifts_top_Top){.cells = t.cells | (uint64_t)((uint64_t)1 << (uint64_t)(free % 64)), .free = free};
 }
 
@@ -2402,7 +2726,7 @@ static uint32_t shifts_top_top_word(struct shifts_top_Top t) {
 
 /* shifts::top::past_word, crates/shifts/src/top.rt: On to the next byte. */
 static struct shifts_top_Top shifts_top_past_word(struct shifts_top_Top t) {
-    return (struct shifts_top_Top){.cells = (uint64_t)(t.cells << 16), .free = core_num_wrapping_add_u32(t.free, 16)};
+    return (struct shifts_top_Top){.cells = (uint64_t)(t.cells << 16), .free = (uint32_t)(t.free + 16)};
 }
 
 /* shifts::top::is_whole, crates/shifts/src/top.rt */
@@ -2413,8 +2737,7 @@ static bool shifts_top_is_whole(struct shifts_top_Top t) {
 /* shifts::top::ease, crates/shifts/src/top.rt: On to the next byte where one is whole, without a jump. */
 static struct shifts_top_Top shifts_top_ease(struct shifts_top_Top t) {
     uint32_t more = 16 * (uint32_t)shifts_top_is_whole(t);
-    return (struct shifts_top_Top){.cells = (uint64_t)(t.cells << (uint64_t)more),
-            .free = core_num_wrapping_add_u32(t.free, more)};
+    return (struct shifts_top_Top){.cells = (uint64_t)(t.cells << (uint64_t)more), .free = (uint32_t)(t.free + more)};
 }
 
 /* shifts::fours::shift_four, crates/shifts/src/fours.rt */
@@ -2457,7 +2780,7 @@ static struct shifts_fours_Fours shifts_fours_shift_eights(struct symbols_Readin
     struct symbols_Reading reading = start;
     reading.bits = shifts_fours_last_bits(units, units.len - 16);
     reading.held = 64 - t.free;
-    reading.words = core_num_wrapping_add_u32(start.words, (uint32_t)(count % 4294967296ull));
+    reading.words = (uint32_t)(start.words + (uint32_t)(count % 4294967296ull));
     return (struct shifts_fours_Fours){.reading = reading, .count = count};
 }
 
@@ -2467,10 +2790,11 @@ static struct shifts_fours_Fours shifts_fours_shift_eights(struct symbols_Readin
  */
 static bool shifts_fours_all_fit(struct slice_u32 words) {
     bool all = true;
-    uint64_t k = 0;
-    while (k < words.len) {
-        all = all & half_cells_fits(words.at[k]);
-        k++;
+    uint64_t word_index = 0;
+    uint64_t t5 = words.len;
+    while (word_index < t5) {
+        all = all & half_cells_fits(words.at[word_index]);
+        word_index++;
     }
     return all;
 }
@@ -2482,7 +2806,7 @@ static bool shifts_fours_all_fit(struct slice_u32 words) {
  */
 static void shifts_fours_store(struct slice_u32 words, uint64_t at, struct slice_u16_mut out) {
     if (out.len <= at) return;
-    uint64_t count = lists_at_most(out.len - at, words.len);
+    uint64_t count = core_int_usize_min(words.len, out.len - at);
     uint64_t k = 0;
     while (k < count) {
         out.at[at + k] = (uint16_t)(words.at[k] % 65536);
@@ -2501,10 +2825,10 @@ static struct shifts_Pass shifts_shift_shift_in(struct symbols_Reading start, st
     struct symbols_Reading m = start;
     uint64_t store_at = to;
     uint64_t k = 0;
-    while (k < units.len) {
+    uint64_t t13 = units.len;
+    while (k < t13) {
         struct symbols_Reading next = symbols_Reading_shift(m, units.at[k]);
         uint64_t place = from + k;
-        k++;
         if (symbols_Reading_is_whole(next)) {
             lists_put(out, store_at, symbols_Reading_word(next));
             store_at++;
@@ -2513,8 +2837,9 @@ static struct shifts_Pass shifts_shift_shift_in(struct symbols_Reading start, st
         } else {
             m = next;
         }
+        k++;
     }
-    return (struct shifts_Pass){.reading = m, .used = from + k};
+    return (struct shifts_Pass){.reading = m, .used = from + units.len};
 }
 
 /*
@@ -2584,9 +2909,9 @@ static uint64_t passes_scan_eight_at(struct slice_u8 units, uint64_t k) {
 
 /* passes::scan::sums_of, crates/passes/src/scan.rt: In each byte the sum of it and those below. */
 static uint64_t passes_scan_sums_of(uint64_t x) {
-    uint64_t two = core_num_wrapping_add_u64(x, (uint64_t)(x << 8));
-    uint64_t four = core_num_wrapping_add_u64(two, (uint64_t)(two << 16));
-    return core_num_wrapping_add_u64(four, (uint64_t)(four << 32));
+    uint64_t two = (uint64_t)(x + (uint64_t)(x << 8));
+    uint64_t four = (uint64_t)(two + (uint64_t)(two << 16));
+    return (uint64_t)(four + (uint64_t)(four << 32));
 }
 
 /*
@@ -2597,8 +2922,8 @@ static uint64_t passes_scan_sums_of(uint64_t x) {
 static struct passes_scan_Tally passes_scan_scan_eight(struct passes_scan_Tally at, uint64_t x) {
     uint64_t sums = passes_scan_sums_of(x);
     uint64_t t8 = (uint64_t)((uint64_t)289360691352306692ull << (uint64_t)(at.sum % 2));
-    uint64_t even = core_num_wrapping_add_u64((uint64_t)(sums << 2), t8);
-    return (struct passes_scan_Tally){.sum = core_num_wrapping_add_u32(at.sum, (uint32_t)(sums >> 56)),
+    uint64_t even = (uint64_t)((uint64_t)(sums << 2) + t8);
+    return (struct passes_scan_Tally){.sum = (uint32_t)(at.sum + (uint32_t)(sums >> 56)),
             .gap = at.gap | ((x & even) != 0)};
 }
 
@@ -2622,7 +2947,7 @@ static struct symbols_Reading passes_look_move_on(struct symbols_Reading m, stru
     struct symbols_Reading reading = m;
     reading.bits = shifts_fours_last_bits(units, units.len - 16);
     reading.held = last % 16 + 1;
-    reading.words = core_num_wrapping_add_u32(m.words, last / 16);
+    reading.words = (uint32_t)(m.words + last / 16);
     return reading;
 }
 
@@ -2662,7 +2987,7 @@ static struct passes_look_Look passes_look_look_block(struct passes_look_Look at
 static struct passes_look_Look passes_look_look_on(struct passes_look_Look at, struct slice_u16 intervals,
         uint32_t most) {
     uint64_t from = at.used;
-    uint64_t n = lists_at_most(128, intervals.len - from);
+    uint64_t n = core_int_usize_min(128, intervals.len - from);
     struct array_u8_128 units = {0};
     struct slice_u8_mut t14 = slice_u8_mut(units.a, n);
     return passes_look_look_block(at, slice_u16(intervals.at + from, from + n - from), t14, most);
@@ -2687,8 +3012,7 @@ static struct shifts_Pass passes_look_over(struct timing_Profile p, struct slice
  * The place of the last of so many intervals; 0 where there is none.
  */
 static uint32_t passes_last_place(uint64_t used) {
-    if (used == 0) return 0;
-    return (uint32_t)(used - 1);
+    return (uint32_t)core_int_usize_saturating_sub(used, 1);
 }
 
 /* passes::block::Progress::start, crates/passes/src/block.rt: Before the first interval. */
@@ -2723,7 +3047,7 @@ static struct passes_block_Progress passes_block_pass_block(struct passes_block_
 static struct passes_block_Progress passes_block_Progress_next_block(struct passes_block_Progress self,
         struct slice_u16 intervals, uint32_t most, uint64_t to, struct slice_u16_mut out) {
     uint64_t from = self.pass.used;
-    uint64_t n = lists_at_most(128, intervals.len - from);
+    uint64_t n = core_int_usize_min(128, intervals.len - from);
     struct array_u8_128 units = {0};
     struct slice_u8_mut t16 = slice_u8_mut(units.a, n);
     return passes_block_pass_block(self, slice_u16(intervals.at + from, from + n - from), t16, most, to, out);
@@ -2737,7 +3061,7 @@ static struct passes_block_Progress passes_block_Progress_next_block(struct pass
 static struct passes_block_Progress passes_block_Progress_pass_on(struct passes_block_Progress self,
         struct slice_u16 intervals, uint64_t count, uint32_t most, struct slice_u16_mut out) {
     uint32_t first = self.pass.reading.words;
-    uint64_t end = self.pass.used + lists_at_most(count, intervals.len - self.pass.used);
+    uint64_t end = self.pass.used + core_int_usize_min(count, intervals.len - self.pass.used);
     struct passes_block_Progress at = self;
     while (passes_block_Progress_goes_on(at, most, end)) {
         uint32_t done = at.pass.reading.words - first;
@@ -2844,7 +3168,7 @@ static uint64_t codec_pen_begin(const struct array_u16_128 *table, struct codec_
  */
 static struct codec_pen_Pen codec_pen_finish_mark(const struct array_u16_128 *table, uint64_t mark, uint64_t at,
         struct slice_u16_mut out) {
-    if (mark == 417) {
+    if (mark == (uint64_t)417) {
         uint64_t fifth = codec_pen_lay(table, 41, at, out);
         return (struct codec_pen_Pen){.previous = 9, .cells = codec_pen_lay(table, 20, fifth, out)};
     }
@@ -2873,10 +3197,11 @@ static struct codec_pen_Pen codec_pen_draw_byte(const struct array_u16_128 *tabl
 static struct codec_pen_Pen codec_pen_draw_bytes(const struct array_u16_128 *table, struct codec_pen_Pen start,
         struct slice_u16 bytes, struct slice_u16_mut out) {
     struct codec_pen_Pen pen = start;
-    uint64_t k = 0;
-    while (k < bytes.len) {
-        pen = codec_pen_draw_byte(table, pen, bytes.at[k], out);
-        k++;
+    uint64_t byte_index = 0;
+    uint64_t t8 = bytes.len;
+    while (byte_index < t8) {
+        pen = codec_pen_draw_byte(table, pen, bytes.at[byte_index], out);
+        byte_index++;
     }
     return pen;
 }
@@ -2894,7 +3219,8 @@ static struct codec_writer_Part codec_writer_write_run(const struct array_u16_12
 
 /*
  * codec::writer::write_items, crates/codec/src/writer.rt
- * Run by run, so that a check order finds the register as it is then. Behind the last no register is asked for.
+ * Run by run, so that a check order finds the register as it is then. Behind the last no register is asked for. A
+ * `while`, since a run's length comes out of the list.
  */
 static struct codec_pen_Pen codec_writer_write_items(const struct array_u16_128 *table, struct slice_u16 items,
         struct slice_u16_mut out) {
@@ -2935,30 +3261,30 @@ static uint64_t codec_writer_write_stream(struct timing_Profile p, struct slice_
  * codec::writer::write_list, crates/codec/src/writer.rt
  * An accepted list under an accepted profile: 9, or its stream.
  */
-static struct refusal_Counted codec_writer_write_list(struct timing_Profile p, struct slice_u16 items,
+static struct Result_u64_Refusal codec_writer_write_list(struct timing_Profile p, struct slice_u16 items,
         struct slice_u16_mut out) {
     uint64_t bytes = items_list_written_bytes(items);
     if (codec_writer_has_room(items, bytes, out.len)) {
         uint64_t count = codec_writer_write_stream(p, items, out);
-        return (struct refusal_Counted){.tag = refusal_Counted_Count, .u.Count = count};
+        return (struct Result_u64_Refusal){.tag = Result_u64_Refusal_Ok, .u.Ok = count};
     }
-    return (struct refusal_Counted){.tag = refusal_Counted_Refused,
-            .u.Refused = {.tag = refusal_Refusal_OutputTooShort}};
+    return (struct Result_u64_Refusal){.tag = Result_u64_Refusal_Err, .u.Err = {.tag = refusal_Refusal_OutputTooShort}};
 }
 
 /*
  * codec::writer::write, crates/codec/src/writer.rt
  * A list of items as intervals: 1, 2, 4, 3, 9, or the number of intervals stored.
  */
-static struct refusal_Counted codec_writer_write(struct timing_Profile p, struct slice_u16 items,
+static struct Result_u64_Refusal codec_writer_write(struct timing_Profile p, struct slice_u16 items,
         struct slice_u16_mut out) {
-    struct refusal_Verdict t6 = timing_rule_check(p);
-    if (t6.tag == refusal_Verdict_Refused) {
-        return (struct refusal_Counted){.tag = refusal_Counted_Refused, .u.Refused = t6.u.Refused};
+    struct ControlFlow_ErrResidual_Refusal_unit t8 = core_result_ResultTry_branch_unit_Refusal(timing_rule_check(p));
+    if (t8.tag != ControlFlow_ErrResidual_Refusal_unit_Continue) {
+        return core_result_ResultFromResidualErrResidual_from_residual_u64_Refusal_Refusal(t8.u.Break);
     }
-    struct refusal_Verdict t8 = items_list_check_list(items);
-    if (t8.tag == refusal_Verdict_Refused) {
-        return (struct refusal_Counted){.tag = refusal_Counted_Refused, .u.Refused = t8.u.Refused};
+    struct ControlFlow_ErrResidual_Refusal_unit t10 =
+            core_result_ResultTry_branch_unit_Refusal(items_list_check_list(items));
+    if (t10.tag != ControlFlow_ErrResidual_Refusal_unit_Continue) {
+        return core_result_ResultFromResidualErrResidual_from_residual_u64_Refusal_Refusal(t10.u.Break);
     }
     return codec_writer_write_list(p, items, out);
 }
@@ -2968,20 +3294,20 @@ static struct refusal_Counted codec_writer_write(struct timing_Profile p, struct
  * What the whole strip reads as, given the place of its last interval: 7, 4, 8, or the number of items. A strip of 8n
  * + 2 bits ends one bit into a byte, and that bit is 0: with the data bit before it, four half cells.
  */
-static struct refusal_Counted codec_reader_conclude(struct symbols_Reading m, uint32_t last) {
+static struct Result_u64_Refusal codec_reader_conclude(struct symbols_Reading m, uint32_t last) {
     if (m.held != 4) {
-        return (struct refusal_Counted){.tag = refusal_Counted_Refused,
-                .u.Refused = {.tag = refusal_Refusal_NotWholeBytes}};
+        return (struct Result_u64_Refusal){.tag = Result_u64_Refusal_Err,
+                .u.Err = {.tag = refusal_Refusal_NotWholeBytes}};
     }
     if (6400 < m.words) {
-        return (struct refusal_Counted){.tag = refusal_Counted_Refused, .u.Refused = {.tag = refusal_Refusal_TooLong}};
+        return (struct Result_u64_Refusal){.tag = Result_u64_Refusal_Err, .u.Err = {.tag = refusal_Refusal_TooLong}};
     }
     if (symbols_Reading_is_stray(m)) {
-        return (struct refusal_Counted){.tag = refusal_Counted_Refused,
-                .u.Refused = {.tag = refusal_Refusal_MisplacedMark,
+        return (struct Result_u64_Refusal){.tag = Result_u64_Refusal_Err,
+                .u.Err = {.tag = refusal_Refusal_MisplacedMark,
                 .u.MisplacedMark = symbols_Reading_stray_place(m, last)}};
     }
-    return (struct refusal_Counted){.tag = refusal_Counted_Count, .u.Count = (uint64_t)m.words};
+    return (struct Result_u64_Refusal){.tag = Result_u64_Refusal_Ok, .u.Ok = (uint64_t)m.words};
 }
 
 /*
@@ -2989,33 +3315,37 @@ static struct refusal_Counted codec_reader_conclude(struct symbols_Reading m, ui
  * A strip in which every interval is a cell: 7, 4, 8, 9, or all of its items. Code words are stored first, and turned
  * into items where they stand.
  */
-static struct refusal_Counted codec_reader_read_cells(struct timing_Profile p, struct slice_u16 intervals,
+static struct Result_u64_Refusal codec_reader_read_cells(struct timing_Profile p, struct slice_u16 intervals,
         struct slice_u16_mut out) {
     struct shifts_Pass pass = passes_look_over(p, intervals, (uint32_t)51202);
     struct symbols_Reading reading = pass.reading;
-    struct refusal_Counted t9 = codec_reader_conclude(reading, passes_last_place(pass.used));
-    if (t9.tag == refusal_Counted_Refused) {
-        return (struct refusal_Counted){.tag = refusal_Counted_Refused, .u.Refused = t9.u.Refused};
+    struct ControlFlow_ErrResidual_Refusal_u64 t10 =
+            core_result_ResultTry_branch_u64_Refusal(codec_reader_conclude(reading, passes_last_place(pass.used)));
+    uint64_t n;
+    if (t10.tag == ControlFlow_ErrResidual_Refusal_u64_Continue) {
+        n = t10.u.Continue;
+    } else {
+        return core_result_ResultFromResidualErrResidual_from_residual_u64_Refusal_Refusal(t10.u.Break);
     }
-    uint64_t n = t9.u.Count;
     if (out.len < n) {
-        return (struct refusal_Counted){.tag = refusal_Counted_Refused,
-                .u.Refused = {.tag = refusal_Refusal_OutputTooShort}};
+        return (struct Result_u64_Refusal){.tag = Result_u64_Refusal_Err,
+                .u.Err = {.tag = refusal_Refusal_OutputTooShort}};
     }
     passes_pass_over(p, intervals, (uint32_t)51202, out);
     half_cells_words_to_bytes(slice_u16_mut(out.at, n));
-    return (struct refusal_Counted){.tag = refusal_Counted_Count, .u.Count = n};
+    return (struct Result_u64_Refusal){.tag = Result_u64_Refusal_Ok, .u.Ok = n};
 }
 
 /*
  * codec::reader::read_strip, crates/codec/src/reader.rt
  * A strip of at most 51,202 intervals under an accepted profile: the first of 5 or 6, 7, 4, 8, 9, or all of its items.
  */
-static struct refusal_Counted codec_reader_read_strip(struct timing_Profile p, struct slice_u16 intervals,
+static struct Result_u64_Refusal codec_reader_read_strip(struct timing_Profile p, struct slice_u16 intervals,
         struct slice_u16_mut out) {
-    struct refusal_Verdict t5 = intervals_edges_check_edges(p, intervals);
-    if (t5.tag == refusal_Verdict_Refused) {
-        return (struct refusal_Counted){.tag = refusal_Counted_Refused, .u.Refused = t5.u.Refused};
+    struct ControlFlow_ErrResidual_Refusal_unit t6 =
+            core_result_ResultTry_branch_unit_Refusal(intervals_edges_check_edges(p, intervals));
+    if (t6.tag != ControlFlow_ErrResidual_Refusal_unit_Continue) {
+        return core_result_ResultFromResidualErrResidual_from_residual_u64_Refusal_Refusal(t6.u.Break);
     }
     return codec_reader_read_cells(p, intervals, out);
 }
@@ -3024,14 +3354,14 @@ static struct refusal_Counted codec_reader_read_strip(struct timing_Profile p, s
  * codec::reader::read, crates/codec/src/reader.rt
  * A strip of intervals as items: 1, 2, 4, the first of 5 or 6, 7, 4, 8, 9, or the number of items stored.
  */
-static struct refusal_Counted codec_reader_read(struct timing_Profile p, struct slice_u16 intervals,
+static struct Result_u64_Refusal codec_reader_read(struct timing_Profile p, struct slice_u16 intervals,
         struct slice_u16_mut out) {
-    struct refusal_Verdict t5 = timing_rule_check(p);
-    if (t5.tag == refusal_Verdict_Refused) {
-        return (struct refusal_Counted){.tag = refusal_Counted_Refused, .u.Refused = t5.u.Refused};
+    struct ControlFlow_ErrResidual_Refusal_unit t6 = core_result_ResultTry_branch_unit_Refusal(timing_rule_check(p));
+    if (t6.tag != ControlFlow_ErrResidual_Refusal_unit_Continue) {
+        return core_result_ResultFromResidualErrResidual_from_residual_u64_Refusal_Refusal(t6.u.Break);
     }
     if (51202 < intervals.len) {
-        return (struct refusal_Counted){.tag = refusal_Counted_Refused, .u.Refused = {.tag = refusal_Refusal_TooLong}};
+        return (struct Result_u64_Refusal){.tag = Result_u64_Refusal_Err, .u.Err = {.tag = refusal_Refusal_TooLong}};
     }
     return codec_reader_read_strip(p, intervals, out);
 }
@@ -3044,14 +3374,14 @@ static struct refusal_Counted codec_reader_read(struct timing_Profile p, struct 
  */
 static uint64_t runs_last_sure(struct timing_cursor_Cursor short_, struct timing_cursor_Cursor long_,
         struct slice_u16 intervals, uint64_t from) {
-    uint64_t i = from;
-    while (0 < i) {
+    uint64_t i = from + 1;
+    while (1 < i) {
+        i--;
         uint16_t interval = intervals.at[i];
         bool t7 = timing_cursor_Cursor_meets_two(short_, interval);
         if (t7 == timing_cursor_Cursor_meets_two(long_, interval)) return i;
-        i--;
     }
-    return i;
+    return 0;
 }
 
 /*
@@ -3063,7 +3393,8 @@ static struct timing_cursor_Cursor runs_cursor_at(struct timing_Profile p, struc
     struct timing_cursor_Cursor short_ = timing_cursor_Cursor_after(p, true);
     struct timing_cursor_Cursor long_ = timing_cursor_Cursor_after(p, false);
     struct timing_cursor_Cursor cursor = short_;
-    uint64_t i = runs_last_sure(short_, long_, intervals, from);
+    uint64_t sure = runs_last_sure(short_, long_, intervals, from);
+    uint64_t i = sure;
     while (i < from) {
         cursor = timing_cursor_Cursor_past(cursor, intervals.at[i]);
         i++;
@@ -3080,11 +3411,12 @@ static uint64_t runs_next_two(struct timing_Profile p, struct slice_u16 interval
     if (timing_cursor_Cursor_meets_two(cursor, intervals.at[from])) return from;
     struct timing_cursor_Cursor long_ = timing_cursor_Cursor_after(p, false);
     uint64_t i = from + 1;
-    while (i < intervals.len) {
+    uint64_t t11 = intervals.len;
+    while (i < t11) {
         if (timing_cursor_Cursor_meets_two(long_, intervals.at[i])) return i;
         i++;
     }
-    return i;
+    return intervals.len;
 }
 
 /*
@@ -3093,12 +3425,13 @@ static uint64_t runs_next_two(struct timing_Profile p, struct slice_u16 interval
  * in vector instructions.
  */
 static bool runs_all_follow(struct timing_cursor_Cursor short_, struct slice_u16 intervals, uint64_t from) {
-    uint64_t end = from + 32;
     bool all = true;
-    uint64_t k = from;
-    while (k < end) {
-        all = all & timing_cursor_Cursor_meets_two(short_, intervals.at[k]);
-        k++;
+    struct slice_u16 interval_items = slice_u16(intervals.at + from, from + 32 - from);
+    uint64_t interval_index = 0;
+    uint64_t t14 = interval_items.len;
+    while (interval_index < t14) {
+        all = all & timing_cursor_Cursor_meets_two(short_, interval_items.at[interval_index]);
+        interval_index++;
     }
     return all;
 }
@@ -3118,54 +3451,51 @@ static uint64_t runs_pass_stretches(struct timing_cursor_Cursor short_, struct s
 
 /* runs::pass_run, crates/runs/src/lib.rt: Passes over a run up to its end. */
 static uint64_t runs_pass_run(struct timing_cursor_Cursor short_, struct slice_u16 intervals, uint64_t from) {
-    uint64_t k = runs_pass_stretches(short_, intervals, from);
-    while (k < intervals.len) {
-        if (timing_cursor_Cursor_meets_two(short_, intervals.at[k])) {
-            k++;
-        } else {
-            return k;
-        }
+    uint64_t passed = runs_pass_stretches(short_, intervals, from);
+    uint64_t k = passed;
+    uint64_t t6 = intervals.len;
+    while (k < t6) {
+        if (!timing_cursor_Cursor_meets_two(short_, intervals.at[k])) return k;
+        k++;
     }
-    return k;
+    return intervals.len;
 }
 
 /* The crate locks */
-
-/* locks::finder::later, crates/locks/src/finder.rt: The later of two places. */
-static uint64_t locks_finder_later(uint64_t a, uint64_t b) {
-    if (a < b) return b;
-    return a;
-}
 
 /*
  * locks::finder::begins_with, crates/locks/src/finder.rt
  * Whether the intervals from a place on have the classes of a pattern at their front.
  */
 static bool locks_finder_begins_with(struct timing_cursor_Cursor start, struct slice_u16 intervals, uint64_t at,
-        struct slice_u64 pattern) {
+        struct slice_timing_Class pattern) {
     if (intervals.len - at < pattern.len) return false;
     struct timing_cursor_Cursor cursor = start;
     uint64_t i = 0;
-    while (i < pattern.len) {
+    uint64_t t13 = pattern.len;
+    while (i < t13) {
+        struct timing_Class class = pattern.at[i];
         struct timing_cursor_Classed classed = timing_cursor_Cursor_step(cursor, intervals.at[at + i]);
-        struct timing_Class class = classed.class;
-        uint64_t t13 = timing_Class_number(class);
-        if (t13 == pattern.at[i]) {
+        if (timing_ClassPartialEq_eq(&classed.class, &class)) {
             cursor = classed.next;
-            i++;
         } else {
             return false;
         }
+        i++;
     }
     return true;
 }
 
 /* locks::finder::mark_ahead, crates/locks/src/finder.rt: Whether a lock's mark stands at a place. */
 static bool locks_finder_mark_ahead(struct timing_cursor_Cursor cursor, struct slice_u16 intervals, uint64_t at) {
-    struct array_u64_5 a1 = {{3, 4, 3, 4, 3}};
-    if (locks_finder_begins_with(cursor, intervals, at, slice_u64(a1.a, 5))) return true;
-    struct array_u64_10 c2 = {{3, 2, 3, 4, 3, 4, 2, 3, 4, 3}};
-    return locks_finder_begins_with(cursor, intervals, at, slice_u64(c2.a, 10));
+    struct array_timing_Class_5 a1 = {{{.tag = timing_Class_Three}, {.tag = timing_Class_Four},
+            {.tag = timing_Class_Three}, {.tag = timing_Class_Four}, {.tag = timing_Class_Three}}};
+    if (locks_finder_begins_with(cursor, intervals, at, slice_timing_Class(a1.a, 5))) return true;
+    struct array_timing_Class_10 c2 = {{{.tag = timing_Class_Three}, {.tag = timing_Class_Two},
+            {.tag = timing_Class_Three}, {.tag = timing_Class_Four}, {.tag = timing_Class_Three},
+            {.tag = timing_Class_Four}, {.tag = timing_Class_Two}, {.tag = timing_Class_Three},
+            {.tag = timing_Class_Four}, {.tag = timing_Class_Three}}};
+    return locks_finder_begins_with(cursor, intervals, at, slice_timing_Class(c2.a, 10));
 }
 
 /*
@@ -3176,35 +3506,37 @@ static bool locks_finder_mark_ahead(struct timing_cursor_Cursor cursor, struct s
  * that has it and the one before it among its 64. Where none is ruled out, the 64 are a run if their first is of class
  * 2. Then the mark is looked for at the run's end, since no mark begins with class 2.
  */
-static struct refusal_Counted locks_finder_scan(struct timing_Profile p, struct slice_u16 intervals) {
+static struct Result_u64_Refusal locks_finder_scan(struct timing_Profile p, struct slice_u16 intervals) {
     struct timing_cursor_Cursor short_ = timing_cursor_Cursor_after(p, true);
     uint64_t first = 0;
     uint64_t seen = 1;
-    struct refusal_Counted place;
+    struct Result_u64_Refusal place;
     for (;;) {
         uint64_t k = first + 64;
         if (intervals.len <= k) {
-            place = (struct refusal_Counted){.tag = refusal_Counted_Refused,
-                    .u.Refused = {.tag = refusal_Refusal_NoLock}};
+            place = (struct Result_u64_Refusal){.tag = Result_u64_Refusal_Err,
+                    .u.Err = {.tag = refusal_Refusal_NoLock}};
             break;
         }
+        uint64_t t15 = seen;
         uint64_t i = k;
-        while (seen < i) {
+        while (t15 < i) {
             i--;
-            if (timing_cursor_Cursor_meets_two(short_, intervals.at[i])) continue;
-            first = i;
-            seen = k;
-            goto next_1;
+            if (!timing_cursor_Cursor_meets_two(short_, intervals.at[i])) {
+                first = i;
+                seen = k;
+                goto next_1;
+            }
         }
         uint64_t begin = runs_next_two(p, intervals, first);
         if (first < begin) {
             first = begin;
-            seen = locks_finder_later(k, begin + 1);
+            seen = core_int_usize_max(k, begin + 1);
             continue;
         }
         uint64_t end = runs_pass_run(short_, intervals, k);
         if (locks_finder_mark_ahead(short_, intervals, end)) {
-            place = (struct refusal_Counted){.tag = refusal_Counted_Count, .u.Count = end};
+            place = (struct Result_u64_Refusal){.tag = Result_u64_Refusal_Ok, .u.Ok = end};
             break;
         }
         first = end + 1;
@@ -3218,26 +3550,31 @@ static struct refusal_Counted locks_finder_scan(struct timing_Profile p, struct 
  * locks::finder::search, crates/locks/src/finder.rt
  * Under an accepted profile. The intervals from `start` on are searched, and the place is counted from there.
  */
-static struct refusal_Counted locks_finder_search(struct timing_Profile p, struct slice_u16 intervals, uint64_t start) {
+static struct Result_u64_Refusal locks_finder_search(struct timing_Profile p, struct slice_u16 intervals,
+        uint64_t start) {
     if (intervals.len <= start) {
-        return (struct refusal_Counted){.tag = refusal_Counted_Refused, .u.Refused = {.tag = refusal_Refusal_NoLock}};
+        return (struct Result_u64_Refusal){.tag = Result_u64_Refusal_Err, .u.Err = {.tag = refusal_Refusal_NoLock}};
     }
-    struct refusal_Counted t9 = locks_finder_scan(p, slice_u16(intervals.at + start, intervals.len - start));
-    if (t9.tag == refusal_Counted_Refused) {
-        return (struct refusal_Counted){.tag = refusal_Counted_Refused, .u.Refused = t9.u.Refused};
+    struct Result_u64_Refusal t11 = locks_finder_scan(p, slice_u16(intervals.at + start, intervals.len - start));
+    struct ControlFlow_ErrResidual_Refusal_u64 t10 = core_result_ResultTry_branch_u64_Refusal(t11);
+    uint64_t k;
+    if (t10.tag == ControlFlow_ErrResidual_Refusal_u64_Continue) {
+        k = t10.u.Continue;
+    } else {
+        return core_result_ResultFromResidualErrResidual_from_residual_u64_Refusal_Refusal(t10.u.Break);
     }
-    return (struct refusal_Counted){.tag = refusal_Counted_Count, .u.Count = start + t9.u.Count};
+    return (struct Result_u64_Refusal){.tag = Result_u64_Refusal_Ok, .u.Ok = start + k};
 }
 
 /*
  * locks::finder::find_lock, crates/locks/src/finder.rt
  * 1, 2, 10; else the smallest place at which a lock stands with all 64 at or after `start`.
  */
-static struct refusal_Counted locks_finder_find_lock(struct timing_Profile p, struct slice_u16 intervals,
+static struct Result_u64_Refusal locks_finder_find_lock(struct timing_Profile p, struct slice_u16 intervals,
         uint64_t start) {
-    struct refusal_Verdict t5 = timing_rule_check(p);
-    if (t5.tag == refusal_Verdict_Refused) {
-        return (struct refusal_Counted){.tag = refusal_Counted_Refused, .u.Refused = t5.u.Refused};
+    struct ControlFlow_ErrResidual_Refusal_unit t6 = core_result_ResultTry_branch_unit_Refusal(timing_rule_check(p));
+    if (t6.tag != ControlFlow_ErrResidual_Refusal_unit_Continue) {
+        return core_result_ResultFromResidualErrResidual_from_residual_u64_Refusal_Refusal(t6.u.Break);
     }
     return locks_finder_search(p, intervals, start);
 }
@@ -3248,11 +3585,27 @@ static struct refusal_Counted locks_finder_find_lock(struct timing_Profile p, st
  * need not be read.
  */
 static bool locks_finder_three_marks_ahead(struct timing_Profile p, struct slice_u16 intervals) {
-    struct array_u64_15 marks = {{3, 4, 3, 4, 3, 2, 4, 3, 4, 3, 2, 4, 3, 4, 3}};
-    return locks_finder_begins_with(timing_cursor_Cursor_start(p), intervals, 0, slice_u64(marks.a, 15));
+    struct timing_Class t13 = {.tag = timing_Class_Three};
+    struct timing_Class t14 = {.tag = timing_Class_Two};
+    struct timing_Class t15 = {.tag = timing_Class_Four};
+    struct timing_Class t16 = {.tag = timing_Class_Three};
+    struct timing_Class t17 = {.tag = timing_Class_Four};
+    struct timing_Class t18 = {.tag = timing_Class_Three};
+    struct array_timing_Class_15 marks = {{{.tag = timing_Class_Three}, {.tag = timing_Class_Four},
+            {.tag = timing_Class_Three}, {.tag = timing_Class_Four}, {.tag = timing_Class_Three},
+            {.tag = timing_Class_Two}, {.tag = timing_Class_Four}, {.tag = timing_Class_Three},
+            {.tag = timing_Class_Four}, t13, t14, t15, t16, t17, t18}};
+    return locks_finder_begins_with(timing_cursor_Cursor_start(p), intervals, 0, slice_timing_Class(marks.a, 15));
 }
 
 /* The crate fields */
+
+/* core::result::ResultFromResidualErrResidual::from_residual<Field, Refusal, Refusal>, of the kit's library */
+static struct Result_Field_Refusal
+        core_result_ResultFromResidualErrResidual_from_residual_Field_Refusal_Refusal(struct ErrResidual_Refusal p1) {
+    return (struct Result_Field_Refusal){.tag = Result_Field_Refusal_Err,
+            .u.Err = core_convert_AnyFrom_from_Refusal(p1.f0)};
+}
 
 /*
  * fields::gather::sum_up, crates/fields/src/gather.rt
@@ -3261,7 +3614,7 @@ static bool locks_finder_three_marks_ahead(struct timing_Profile p, struct slice
 static struct items_Check fields_gather_sum_up(struct items_Check check, struct slice_u16_mut words, uint64_t at,
         struct slice_u16_mut out) {
     half_cells_words_to_bytes(words);
-    lists_store(slice_u16(words.at, words.len), at, out);
+    lists_store_u16(slice_u16(words.at, words.len), at, out);
     return items_Check_after_bytes(check, slice_u16(words.at, words.len));
 }
 
@@ -3288,17 +3641,16 @@ static struct fields_gather_Summed fields_gather_pass_items(struct timing_Profil
  * fields::gather::conclude, crates/fields/src/gather.rt
  * How the pass over a field ends, with so many intervals used: 11, 8, or how many they are.
  */
-static struct refusal_Counted fields_gather_conclude(struct symbols_Reading m, uint64_t used, uint32_t n) {
+static struct Result_u64_Refusal fields_gather_conclude(struct symbols_Reading m, uint64_t used, uint32_t n) {
     if (m.words < n) {
-        return (struct refusal_Counted){.tag = refusal_Counted_Refused,
-                .u.Refused = {.tag = refusal_Refusal_EndsEarly}};
+        return (struct Result_u64_Refusal){.tag = Result_u64_Refusal_Err, .u.Err = {.tag = refusal_Refusal_EndsEarly}};
     }
     if (symbols_Reading_is_stray(m)) {
-        return (struct refusal_Counted){.tag = refusal_Counted_Refused,
-                .u.Refused = {.tag = refusal_Refusal_MisplacedMark,
+        return (struct Result_u64_Refusal){.tag = Result_u64_Refusal_Err,
+                .u.Err = {.tag = refusal_Refusal_MisplacedMark,
                 .u.MisplacedMark = symbols_Reading_stray_place(m, passes_last_place(used))}};
     }
-    return (struct refusal_Counted){.tag = refusal_Counted_Count, .u.Count = used};
+    return (struct Result_u64_Refusal){.tag = Result_u64_Refusal_Ok, .u.Ok = used};
 }
 
 /*
@@ -3311,9 +3663,9 @@ static struct fields_gather_Gathered fields_gather_gather(struct timing_Profile 
     struct shifts_Pass pass = read.pass;
     uint64_t used = pass.used;
     bool holds = read.check.register_ == 0;
-    struct refusal_Verdict t12 = intervals_edges_check_edges(p, slice_u16(intervals.at, used));
-    if (t12.tag == refusal_Verdict_Refused) {
-        return (struct fields_gather_Gathered){.end = {.tag = refusal_Counted_Refused, .u.Refused = t12.u.Refused},
+    struct Result_unit_Refusal t12 = intervals_edges_check_edges(p, slice_u16(intervals.at, used));
+    if (t12.tag == Result_unit_Refusal_Err) {
+        return (struct fields_gather_Gathered){.end = {.tag = Result_u64_Refusal_Err, .u.Err = t12.u.Err},
                 .holds = holds};
     }
     return (struct fields_gather_Gathered){.end = fields_gather_conclude(pass.reading, used, n), .holds = holds};
@@ -3323,36 +3675,40 @@ static struct fields_gather_Gathered fields_gather_gather(struct timing_Profile 
  * fields::reader::deliver, crates/fields/src/reader.rt
  * What was gathered, handed over where the output has room for it.
  */
-static struct fields_reader_FieldRead fields_reader_deliver(struct slice_u16 items, uint64_t used, bool holds,
+static struct Result_Field_Refusal fields_reader_deliver(struct slice_u16 items, uint64_t used, bool holds,
         struct slice_u16_mut out) {
     if (out.len < items.len) {
-        return (struct fields_reader_FieldRead){.tag = fields_reader_FieldRead_Refused,
-                .u.Refused = {.tag = refusal_Refusal_OutputTooShort}};
+        return (struct Result_Field_Refusal){.tag = Result_Field_Refusal_Err,
+                .u.Err = {.tag = refusal_Refusal_OutputTooShort}};
     }
-    lists_store(items, 0, out);
-    return (struct fields_reader_FieldRead){.tag = fields_reader_FieldRead_Field,
-            .u.Field = {.count = items.len, .used = used, .holds = holds}};
+    lists_store_u16(items, 0, out);
+    uint64_t count = items.len;
+    return (struct Result_Field_Refusal){.tag = Result_Field_Refusal_Ok,
+            .u.Ok = {.count = count, .used = used, .holds = holds}};
 }
 
 /*
  * fields::reader::read_into, crates/fields/src/reader.rt
  * The items wait in a buffer, as a refusal changes nothing that was lent.
  */
-static struct fields_reader_FieldRead fields_reader_read_into(struct timing_Profile p, struct slice_u16 intervals,
+static struct Result_Field_Refusal fields_reader_read_into(struct timing_Profile p, struct slice_u16 intervals,
         uint64_t n, struct slice_u16_mut buffer, struct slice_u16_mut out) {
     struct fields_gather_Gathered gathered = fields_gather_gather(p, intervals, (uint32_t)n, buffer);
-    struct refusal_Counted end = gathered.end;
-    if (end.tag == refusal_Counted_Refused) {
-        return (struct fields_reader_FieldRead){.tag = fields_reader_FieldRead_Refused, .u.Refused = end.u.Refused};
+    struct ControlFlow_ErrResidual_Refusal_u64 t13 = core_result_ResultTry_branch_u64_Refusal(gathered.end);
+    uint64_t used;
+    if (t13.tag == ControlFlow_ErrResidual_Refusal_u64_Continue) {
+        used = t13.u.Continue;
+    } else {
+        return core_result_ResultFromResidualErrResidual_from_residual_Field_Refusal_Refusal(t13.u.Break);
     }
-    return fields_reader_deliver(slice_u16(buffer.at, n), end.u.Count, gathered.holds, out);
+    return fields_reader_deliver(slice_u16(buffer.at, n), used, gathered.holds, out);
 }
 
 /*
  * fields::reader::read_checked, crates/fields/src/reader.rt
  * A short field has a short buffer: to clear the long one costs more than to read ten bytes.
  */
-static struct fields_reader_FieldRead fields_reader_read_checked(struct timing_Profile p, struct slice_u16 intervals,
+static struct Result_Field_Refusal fields_reader_read_checked(struct timing_Profile p, struct slice_u16 intervals,
         uint64_t n, struct slice_u16_mut out) {
     if (n <= 16) {
         struct array_u16_16 buffer = {0};
@@ -3366,17 +3722,28 @@ static struct fields_reader_FieldRead fields_reader_read_checked(struct timing_P
  * fields::reader::read_field, crates/fields/src/reader.rt
  * 1, 2, 12, then 5, 6 or 11 as first met, 8, 9. On acceptance the items fill the front of the output.
  */
-static struct fields_reader_FieldRead fields_reader_read_field(struct timing_Profile p, struct slice_u16 intervals,
+static struct Result_Field_Refusal fields_reader_read_field(struct timing_Profile p, struct slice_u16 intervals,
         uint64_t n, struct slice_u16_mut out) {
-    struct refusal_Verdict t6 = timing_rule_check(p);
-    if (t6.tag == refusal_Verdict_Refused) {
-        return (struct fields_reader_FieldRead){.tag = fields_reader_FieldRead_Refused, .u.Refused = t6.u.Refused};
+    struct ControlFlow_ErrResidual_Refusal_unit t7 = core_result_ResultTry_branch_unit_Refusal(timing_rule_check(p));
+    if (t7.tag != ControlFlow_ErrResidual_Refusal_unit_Continue) {
+        return core_result_ResultFromResidualErrResidual_from_residual_Field_Refusal_Refusal(t7.u.Break);
     }
     if ((n < 1) | (1030 < n)) {
-        return (struct fields_reader_FieldRead){.tag = fields_reader_FieldRead_Refused,
-                .u.Refused = {.tag = refusal_Refusal_CountOutOfRange}};
+        return (struct Result_Field_Refusal){.tag = Result_Field_Refusal_Err,
+                .u.Err = {.tag = refusal_Refusal_CountOutOfRange}};
     }
     return fields_reader_read_checked(p, intervals, n, out);
+}
+
+/* core::result::ResultTry::branch<Field, Refusal>, of the kit's library */
+static struct ControlFlow_ErrResidual_Refusal_Field
+        core_result_ResultTry_branch_Field_Refusal(struct Result_Field_Refusal p1) {
+    if (p1.tag == Result_Field_Refusal_Ok) {
+        return (struct ControlFlow_ErrResidual_Refusal_Field){.tag = ControlFlow_ErrResidual_Refusal_Field_Continue,
+                .u.Continue = p1.u.Ok};
+    }
+    return (struct ControlFlow_ErrResidual_Refusal_Field){.tag = ControlFlow_ErrResidual_Refusal_Field_Break,
+            .u.Break = {.f0 = p1.u.Err}};
 }
 
 /*
@@ -3384,15 +3751,18 @@ static struct fields_reader_FieldRead fields_reader_read_field(struct timing_Pro
  * Reads alike, and stores as many items as there is room for, without a buffer between: after a refusal other numbers
  * may stand there. Who reads field after field has checked the profile once.
  */
-static struct fields_reader_FieldRead fields_reader_read_in_place(struct timing_Profile p, struct slice_u16 intervals,
+static struct Result_Field_Refusal fields_reader_read_in_place(struct timing_Profile p, struct slice_u16 intervals,
         uint64_t n, struct slice_u16_mut items) {
     struct fields_gather_Gathered gathered = fields_gather_gather(p, intervals, (uint32_t)n, items);
-    struct refusal_Counted end = gathered.end;
-    if (end.tag == refusal_Counted_Refused) {
-        return (struct fields_reader_FieldRead){.tag = fields_reader_FieldRead_Refused, .u.Refused = end.u.Refused};
+    struct ControlFlow_ErrResidual_Refusal_u64 t12 = core_result_ResultTry_branch_u64_Refusal(gathered.end);
+    uint64_t used;
+    if (t12.tag == ControlFlow_ErrResidual_Refusal_u64_Continue) {
+        used = t12.u.Continue;
+    } else {
+        return core_result_ResultFromResidualErrResidual_from_residual_Field_Refusal_Refusal(t12.u.Break);
     }
-    return (struct fields_reader_FieldRead){.tag = fields_reader_FieldRead_Field,
-            .u.Field = {.count = n, .used = end.u.Count, .holds = gathered.holds}};
+    return (struct Result_Field_Refusal){.tag = Result_Field_Refusal_Ok,
+            .u.Ok = {.count = n, .used = used, .holds = gathered.holds}};
 }
 
 /*
@@ -3401,10 +3771,12 @@ static struct fields_reader_FieldRead fields_reader_read_in_place(struct timing_
  */
 static void fields_data_store_bytes(struct slice_u16 items, uint64_t at, struct slice_u8_mut out) {
     if (out.len <= at) return;
-    uint64_t count = lists_at_most(out.len - at, items.len);
+    uint64_t count = core_int_usize_min(out.len - at, items.len);
+    struct slice_u16 item_items = slice_u16(items.at, count);
     uint64_t k = 0;
-    while (k < count) {
-        out.at[at + k] = (uint8_t)(items.at[k] % 256);
+    uint64_t t14 = item_items.len;
+    while (k < t14) {
+        out.at[at + k] = (uint8_t)(item_items.at[k] % 256);
         k++;
     }
 }
@@ -3420,7 +3792,7 @@ static void fields_data_put_part(struct slice_u16_mut words, uint64_t number, ui
         fields_data_store_bytes(slice_u16(words.at, words.len), number - skip, out);
         return;
     }
-    uint64_t first = lists_at_most(skip - number, words.len);
+    uint64_t first = core_int_usize_min(skip - number, words.len);
     fields_data_store_bytes(slice_u16(words.at + first, words.len - first), 0, out);
 }
 
@@ -3463,12 +3835,9 @@ static uint64_t sectors_sector_size(uint8_t code) {
 
 /* sectors::repeat, crates/sectors/src/lib.rt */
 static uint64_t sectors_repeat(struct slice_u16_mut out, uint64_t at, uint64_t count, uint16_t item) {
-    uint64_t k = 0;
-    while (k < count) {
-        out.at[at + k] = item;
-        k++;
-    }
-    return at + count;
+    uint64_t end = at + count;
+    core_slice_edits_slice_T_fill_u16(slice_u16_mut(out.at + at, end - at), item);
+    return end;
 }
 
 /*
@@ -3496,12 +3865,14 @@ static uint64_t sectors_put_identity(struct slice_u16_mut out, uint64_t at, uint
 /* sectors::put_data, crates/sectors/src/lib.rt */
 static uint64_t sectors_put_data(struct slice_u16_mut out, uint64_t at, struct slice_u8 bytes) {
     uint64_t k = 0;
-    while (k < bytes.len) {
+    uint64_t t7 = bytes.len;
+    while (k < t7) {
         out.at[at + k] = (uint16_t)bytes.at[k];
         k++;
     }
-    out.at[at + k] = 512;
-    return at + k + 1;
+    uint64_t end = at + bytes.len;
+    out.at[end] = 512;
+    return end + 1;
 }
 
 /* sectors::put_sector, crates/sectors/src/lib.rt: The whole sector at the front of the output. */
@@ -3520,67 +3891,78 @@ static void sectors_put_sector(struct slice_u16_mut out, uint8_t track, uint8_t 
  * 13, for length code 0 too, then 9; on acceptance the items fill the front of the output and their number is
  * answered.
  */
-static struct refusal_Counted sectors_make_sector(uint8_t track, uint8_t side, uint8_t sector, uint8_t code,
+static struct Result_u64_Refusal sectors_make_sector(uint8_t track, uint8_t side, uint8_t sector, uint8_t code,
         struct slice_u8 bytes, struct slice_u16_mut out) {
     if (code < 1) {
-        return (struct refusal_Counted){.tag = refusal_Counted_Refused,
-                .u.Refused = {.tag = refusal_Refusal_SectorSizeMismatch}};
+        return (struct Result_u64_Refusal){.tag = Result_u64_Refusal_Err,
+                .u.Err = {.tag = refusal_Refusal_SectorSizeMismatch}};
     }
     if (3 < code) {
-        return (struct refusal_Counted){.tag = refusal_Counted_Refused,
-                .u.Refused = {.tag = refusal_Refusal_SectorSizeMismatch}};
+        return (struct Result_u64_Refusal){.tag = Result_u64_Refusal_Err,
+                .u.Err = {.tag = refusal_Refusal_SectorSizeMismatch}};
     }
     if (bytes.len != sectors_sector_size(code)) {
-        return (struct refusal_Counted){.tag = refusal_Counted_Refused,
-                .u.Refused = {.tag = refusal_Refusal_SectorSizeMismatch}};
+        return (struct Result_u64_Refusal){.tag = Result_u64_Refusal_Err,
+                .u.Err = {.tag = refusal_Refusal_SectorSizeMismatch}};
     }
     uint64_t count = bytes.len + 114;
     if (out.len < count) {
-        return (struct refusal_Counted){.tag = refusal_Counted_Refused,
-                .u.Refused = {.tag = refusal_Refusal_OutputTooShort}};
+        return (struct Result_u64_Refusal){.tag = Result_u64_Refusal_Err,
+                .u.Err = {.tag = refusal_Refusal_OutputTooShort}};
     }
     sectors_put_sector(out, track, side, sector, code, bytes);
-    return (struct refusal_Counted){.tag = refusal_Counted_Count, .u.Count = count};
+    return (struct Result_u64_Refusal){.tag = Result_u64_Refusal_Ok, .u.Ok = count};
 }
 
 /* The crate sets */
 
 /* sets::index::sector_end, crates/sets/src/index.rt: The place after the sector that begins at a place. */
-static struct refusal_Counted sets_index_sector_end(struct slice_u8 set, uint64_t start) {
+static struct Result_u64_Refusal sets_index_sector_end(struct slice_u8 set, uint64_t start) {
     uint64_t left = set.len - start;
     if (left < 3) {
-        return (struct refusal_Counted){.tag = refusal_Counted_Refused,
-                .u.Refused = {.tag = refusal_Refusal_SectorSizeMismatch}};
+        return (struct Result_u64_Refusal){.tag = Result_u64_Refusal_Err,
+                .u.Err = {.tag = refusal_Refusal_SectorSizeMismatch}};
     }
     uint8_t code = set.at[start + 1];
     if (3 < code) {
-        return (struct refusal_Counted){.tag = refusal_Counted_Refused,
-                .u.Refused = {.tag = refusal_Refusal_SectorSizeMismatch}};
+        return (struct Result_u64_Refusal){.tag = Result_u64_Refusal_Err,
+                .u.Err = {.tag = refusal_Refusal_SectorSizeMismatch}};
     }
     uint64_t size = sectors_sector_size(code);
     if (left - 3 < size) {
-        return (struct refusal_Counted){.tag = refusal_Counted_Refused,
-                .u.Refused = {.tag = refusal_Refusal_SectorSizeMismatch}};
+        return (struct Result_u64_Refusal){.tag = Result_u64_Refusal_Err,
+                .u.Err = {.tag = refusal_Refusal_SectorSizeMismatch}};
     }
-    return (struct refusal_Counted){.tag = refusal_Counted_Count, .u.Count = start + 3 + size};
+    return (struct Result_u64_Refusal){.tag = Result_u64_Refusal_Ok, .u.Ok = start + 3 + size};
 }
 
 /*
  * sets::index::count_sectors, crates/sets/src/index.rt
  * 13, looked for to the end of the set, or how many sectors it has.
  */
-static struct refusal_Counted sets_index_count_sectors(struct slice_u8 set) {
+static struct Result_u64_Refusal sets_index_count_sectors(struct slice_u8 set) {
     uint64_t count = 0;
     uint64_t start = 0;
     while (start < set.len) {
-        struct refusal_Counted t8 = sets_index_sector_end(set, start);
-        if (t8.tag == refusal_Counted_Refused) {
-            return (struct refusal_Counted){.tag = refusal_Counted_Refused, .u.Refused = t8.u.Refused};
+        struct ControlFlow_ErrResidual_Refusal_u64 t9 =
+                core_result_ResultTry_branch_u64_Refusal(sets_index_sector_end(set, start));
+        uint64_t end;
+        if (t9.tag == ControlFlow_ErrResidual_Refusal_u64_Continue) {
+            end = t9.u.Continue;
+        } else {
+            return core_result_ResultFromResidualErrResidual_from_residual_u64_Refusal_Refusal(t9.u.Break);
         }
         count++;
-        start = t8.u.Count;
+        start = end;
     }
-    return (struct refusal_Counted){.tag = refusal_Counted_Count, .u.Count = count};
+    return (struct Result_u64_Refusal){.tag = Result_u64_Refusal_Ok, .u.Ok = count};
+}
+
+/* core::result::ResultFromResidualErrResidual::from_residual<SetSize, Refusal, Refusal>, of the kit's library */
+static struct Result_SetSize_Refusal
+        core_result_ResultFromResidualErrResidual_from_residual_SetSize_Refusal_Refusal(struct ErrResidual_Refusal p1) {
+    return (struct Result_SetSize_Refusal){.tag = Result_SetSize_Refusal_Err,
+            .u.Err = core_convert_AnyFrom_from_Refusal(p1.f0)};
 }
 
 /* sets::index::entry, crates/sets/src/index.rt */
@@ -3589,16 +3971,10 @@ static uint16_t sets_index_entry(uint16_t old, uint16_t place) {
     return 65535;
 }
 
-/* sets::span::at_least, crates/sets/src/span.rt */
-static uint64_t sets_span_at_least(uint64_t least, uint64_t number) {
-    if (least < number) return number;
-    return least;
-}
-
 /* sets::span::join, crates/sets/src/span.rt: The span of the numbers of either. */
 static struct sets_span_Span sets_span_join(struct sets_span_Span a, struct sets_span_Span b) {
-    uint64_t t3 = lists_at_most(a.low, b.low);
-    return (struct sets_span_Span){.low = t3, .high = sets_span_at_least(a.high, b.high)};
+    uint64_t t3 = core_int_usize_min(a.low, b.low);
+    return (struct sets_span_Span){.low = t3, .high = core_int_usize_max(a.high, b.high)};
 }
 
 /*
@@ -3622,30 +3998,37 @@ static struct sets_span_Span sets_index_index_set(struct slice_u8 set, struct ar
 /* The crate merge */
 
 /* merge::check_counts, crates/merge/src/lib.rt */
-static struct refusal_Verdict merge_check_counts(uint64_t first, uint64_t second) {
+static struct Result_unit_Refusal merge_check_counts(uint64_t first, uint64_t second) {
     if (32 < first) {
-        return (struct refusal_Verdict){.tag = refusal_Verdict_Refused,
-                .u.Refused = {.tag = refusal_Refusal_TooManySectors}};
+        return (struct Result_unit_Refusal){.tag = Result_unit_Refusal_Err,
+                .u.Err = {.tag = refusal_Refusal_TooManySectors}};
     }
     if (32 < second) {
-        return (struct refusal_Verdict){.tag = refusal_Verdict_Refused,
-                .u.Refused = {.tag = refusal_Refusal_TooManySectors}};
+        return (struct Result_unit_Refusal){.tag = Result_unit_Refusal_Err,
+                .u.Err = {.tag = refusal_Refusal_TooManySectors}};
     }
-    return (struct refusal_Verdict){.tag = refusal_Verdict_Accepted};
+    return (struct Result_unit_Refusal){.tag = Result_unit_Refusal_Ok};
 }
 
 /* merge::check_sets, crates/merge/src/lib.rt: 13, then 15 for a set of more than 32 sectors. */
-static struct refusal_Verdict merge_check_sets(struct slice_u8 first, struct slice_u8 second) {
-    struct refusal_Counted t7 = sets_index_count_sectors(first);
-    if (t7.tag == refusal_Counted_Refused) {
-        return (struct refusal_Verdict){.tag = refusal_Verdict_Refused, .u.Refused = t7.u.Refused};
+static struct Result_unit_Refusal merge_check_sets(struct slice_u8 first, struct slice_u8 second) {
+    struct ControlFlow_ErrResidual_Refusal_u64 t9 =
+            core_result_ResultTry_branch_u64_Refusal(sets_index_count_sectors(first));
+    uint64_t a;
+    if (t9.tag == ControlFlow_ErrResidual_Refusal_u64_Continue) {
+        a = t9.u.Continue;
+    } else {
+        return core_result_ResultFromResidualErrResidual_from_residual_unit_Refusal_Refusal(t9.u.Break);
     }
-    uint64_t a = t7.u.Count;
-    struct refusal_Counted t9 = sets_index_count_sectors(second);
-    if (t9.tag == refusal_Counted_Refused) {
-        return (struct refusal_Verdict){.tag = refusal_Verdict_Refused, .u.Refused = t9.u.Refused};
+    struct ControlFlow_ErrResidual_Refusal_u64 t12 =
+            core_result_ResultTry_branch_u64_Refusal(sets_index_count_sectors(second));
+    uint64_t b;
+    if (t12.tag == ControlFlow_ErrResidual_Refusal_u64_Continue) {
+        b = t12.u.Continue;
+    } else {
+        return core_result_ResultFromResidualErrResidual_from_residual_unit_Refusal_Refusal(t12.u.Break);
     }
-    return merge_check_counts(a, t9.u.Count);
+    return merge_check_counts(a, b);
 }
 
 /* merge::numbers::in_either, crates/merge/src/numbers.rt */
@@ -3659,7 +4042,8 @@ static uint64_t merge_numbers_count_numbers(const struct array_u16_256 *a, const
         struct sets_span_Span span) {
     uint64_t count = 0;
     uint64_t n = span.low;
-    while (n < span.high) {
+    uint64_t t6 = span.high;
+    while (n < t6) {
         if (merge_numbers_in_either(a->a[n], b->a[n])) count++;
         n++;
     }
@@ -3674,7 +4058,8 @@ static bool merge_choice_same_bytes(struct slice_u8 a, struct slice_u8 b) {
     if (a.len != b.len) return false;
     bool same = true;
     uint64_t k = 0;
-    while (k < a.len) {
+    uint64_t t9 = a.len;
+    while (k < t9) {
         same = same & (a.at[k] == b.at[k]);
         k++;
     }
@@ -3705,37 +4090,38 @@ static bool merge_choice_at_odds(struct slice_u8 first, uint16_t a, struct slice
     return merge_choice_copies_disagree(first, (uint64_t)a, second, (uint64_t)b);
 }
 
-/*
- * merge::choice::lowest_at_odds, crates/merge/src/choice.rt
- * The lowest number at which the sets are at odds; 256 where there is none.
- */
-static uint64_t merge_choice_lowest_at_odds(struct slice_u8 first, const struct array_u16_256 *a,
+/* merge::choice::lowest_at_odds, crates/merge/src/choice.rt: The lowest number at which the sets are at odds. */
+static struct Option_u64 merge_choice_lowest_at_odds(struct slice_u8 first, const struct array_u16_256 *a,
         struct slice_u8 second, const struct array_u16_256 *b, struct sets_span_Span span) {
     uint64_t n = span.low;
-    while (n < span.high) {
-        if (merge_choice_at_odds(first, a->a[n], second, b->a[n])) return n;
+    uint64_t t7 = span.high;
+    while (n < t7) {
+        if (merge_choice_at_odds(first, a->a[n], second, b->a[n])) {
+            return (struct Option_u64){.tag = Option_u64_Some, .u.Some = n};
+        }
         n++;
     }
-    return 256;
+    return (struct Option_u64){.tag = Option_u64_None};
 }
 
 /*
  * merge::check_numbers, crates/merge/src/lib.rt
  * 15 for more than 32 different numbers, then 17; else how many there are.
  */
-static struct refusal_Counted merge_check_numbers(struct slice_u8 first, const struct array_u16_256 *a,
+static struct Result_u64_Refusal merge_check_numbers(struct slice_u8 first, const struct array_u16_256 *a,
         struct slice_u8 second, const struct array_u16_256 *b, struct sets_span_Span span) {
     uint64_t count = merge_numbers_count_numbers(a, b, span);
     if (32 < count) {
-        return (struct refusal_Counted){.tag = refusal_Counted_Refused,
-                .u.Refused = {.tag = refusal_Refusal_TooManySectors}};
+        return (struct Result_u64_Refusal){.tag = Result_u64_Refusal_Err,
+                .u.Err = {.tag = refusal_Refusal_TooManySectors}};
     }
-    uint64_t lowest = merge_choice_lowest_at_odds(first, a, second, b, span);
-    if (lowest < 256) {
-        return (struct refusal_Counted){.tag = refusal_Counted_Refused,
-                .u.Refused = {.tag = refusal_Refusal_SectorsAtOdds, .u.SectorsAtOdds = (uint32_t)lowest}};
+    struct Option_u64 t10 = merge_choice_lowest_at_odds(first, a, second, b, span);
+    if (t10.tag == Option_u64_Some) {
+        uint64_t number = t10.u.Some;
+        return (struct Result_u64_Refusal){.tag = Result_u64_Refusal_Err,
+                .u.Err = {.tag = refusal_Refusal_SectorsAtOdds, .u.SectorsAtOdds = (uint32_t)number}};
     }
-    return (struct refusal_Counted){.tag = refusal_Counted_Count, .u.Count = count};
+    return (struct Result_u64_Refusal){.tag = Result_u64_Refusal_Ok, .u.Ok = count};
 }
 
 /* merge::choice::takes_second, crates/merge/src/choice.rt: Whether it is the second set's copy that is taken. */
@@ -3769,17 +4155,26 @@ static uint64_t merge_ascending_merged_size(struct slice_u8 first, const struct 
         struct slice_u8 second, const struct array_u16_256 *b, struct sets_span_Span span) {
     uint64_t size = 0;
     uint64_t n = span.low;
-    while (n < span.high) {
+    uint64_t t8 = span.high;
+    while (n < t8) {
         size += merge_output_taken_size(first, a->a[n], second, b->a[n]);
         n++;
     }
     return size;
 }
 
-/* merge::output::sum_byte, crates/merge/src/output.rt */
-static uint8_t merge_output_sum_byte(uint8_t sum) {
-    if (sum == 0) return 0;
-    return 1;
+/*
+ * merge::output::copy, crates/merge/src/output.rt
+ * A sector's data from a place on. Not `lists::store`: the compiler knows that a sector is whole blocks of 16 bytes,
+ * and not that as many as have room are, which costs 27 instructions a sector.
+ */
+static void merge_output_copy(struct slice_u8 bytes, uint64_t at, struct slice_u8_mut out) {
+    uint64_t k = 0;
+    uint64_t t6 = bytes.len;
+    while (k < t6) {
+        out.at[at + k] = bytes.at[k];
+        k++;
+    }
 }
 
 /* merge::output::put_sector, crates/merge/src/output.rt: The sector whose length code stands at a place. */
@@ -3787,10 +4182,10 @@ static uint64_t merge_output_put_sector(struct slice_u8 set, uint64_t code, stru
     uint64_t size = sectors_sector_size(set.at[code]);
     out.at[start] = set.at[code - 1];
     out.at[start + 1] = set.at[code];
-    out.at[start + 2] = merge_output_sum_byte(set.at[code + 1]);
+    out.at[start + 2] = core_convert_others_U8FromBool_from(set.at[code + 1] != 0);
     uint64_t data = code + 2;
     uint64_t end = data + size;
-    lists_copy(slice_u8(set.at + data, end - data), start + 3, out);
+    merge_output_copy(slice_u8(set.at + data, end - data), start + 3, out);
     return start + 3 + size;
 }
 
@@ -3814,45 +4209,56 @@ static void merge_ascending_write_merged(struct slice_u8 first, const struct arr
         const struct array_u16_256 *b, struct sets_span_Span span, struct slice_u8_mut out) {
     uint64_t start = 0;
     uint64_t n = span.low;
-    while (n < span.high) {
+    uint64_t t9 = span.high;
+    while (n < t9) {
         start = merge_output_put_taken(first, a->a[n], second, b->a[n], out, start);
         n++;
     }
 }
 
 /* merge::deliver, crates/merge/src/lib.rt: 9, or the merged set at the front of the output. */
-static struct merge_Merged merge_deliver(struct slice_u8 first, const struct array_u16_256 *a, struct slice_u8 second,
-        const struct array_u16_256 *b, struct sets_span_Span span, uint64_t count, struct slice_u8_mut out) {
+static struct Result_SetSize_Refusal merge_deliver(struct slice_u8 first, const struct array_u16_256 *a,
+        struct slice_u8 second, const struct array_u16_256 *b, struct sets_span_Span span, uint64_t count,
+        struct slice_u8_mut out) {
     uint64_t bytes = merge_ascending_merged_size(first, a, second, b, span);
     if (out.len < bytes) {
-        return (struct merge_Merged){.tag = merge_Merged_Refused, .u.Refused = {.tag = refusal_Refusal_OutputTooShort}};
+        return (struct Result_SetSize_Refusal){.tag = Result_SetSize_Refusal_Err,
+                .u.Err = {.tag = refusal_Refusal_OutputTooShort}};
     }
     merge_ascending_write_merged(first, a, second, b, span, out);
-    return (struct merge_Merged){.tag = merge_Merged_Set, .u.Set = {.count = count, .bytes = bytes}};
+    return (struct Result_SetSize_Refusal){.tag = Result_SetSize_Refusal_Ok, .u.Ok = {.count = count, .bytes = bytes}};
 }
 
 /* merge::merge_checked, crates/merge/src/lib.rt: Two sets of at most 32 sectors each. */
-static struct merge_Merged merge_merge_checked(struct slice_u8 first, struct slice_u8 second, struct slice_u8_mut out) {
+static struct Result_SetSize_Refusal merge_merge_checked(struct slice_u8 first, struct slice_u8 second,
+        struct slice_u8_mut out) {
     struct array_u16_256 a = {0};
     struct array_u16_256 b = {0};
     struct sets_span_Span one = sets_index_index_set(first, &a);
     struct sets_span_Span other = sets_index_index_set(second, &b);
     struct sets_span_Span span = sets_span_join(one, other);
-    struct refusal_Counted t13 = merge_check_numbers(first, &a, second, &b, span);
-    if (t13.tag == refusal_Counted_Refused) {
-        return (struct merge_Merged){.tag = merge_Merged_Refused, .u.Refused = t13.u.Refused};
+    struct ControlFlow_ErrResidual_Refusal_u64 t14 =
+            core_result_ResultTry_branch_u64_Refusal(merge_check_numbers(first, &a, second, &b, span));
+    uint64_t count;
+    if (t14.tag == ControlFlow_ErrResidual_Refusal_u64_Continue) {
+        count = t14.u.Continue;
+    } else {
+        return core_result_ResultFromResidualErrResidual_from_residual_SetSize_Refusal_Refusal(t14.u.Break);
     }
-    return merge_deliver(first, &a, second, &b, span, t13.u.Count, out);
+    return merge_deliver(first, &a, second, &b, span, count, out);
 }
 
 /*
  * merge::merge_sets, crates/merge/src/lib.rt
- * 13, 15, 17, 9. On acceptance the merged set fills the front of the output, by ascending sector number.
+ * 13, 15, 17, 9; else the size of the merged set. On acceptance it fills the front of the output, by ascending sector
+ * number.
  */
-static struct merge_Merged merge_merge_sets(struct slice_u8 first, struct slice_u8 second, struct slice_u8_mut out) {
-    struct refusal_Verdict t5 = merge_check_sets(first, second);
-    if (t5.tag == refusal_Verdict_Refused) {
-        return (struct merge_Merged){.tag = merge_Merged_Refused, .u.Refused = t5.u.Refused};
+static struct Result_SetSize_Refusal merge_merge_sets(struct slice_u8 first, struct slice_u8 second,
+        struct slice_u8_mut out) {
+    struct ControlFlow_ErrResidual_Refusal_unit t6 =
+            core_result_ResultTry_branch_unit_Refusal(merge_check_sets(first, second));
+    if (t6.tag != ControlFlow_ErrResidual_Refusal_unit_Continue) {
+        return core_result_ResultFromResidualErrResidual_from_residual_SetSize_Refusal_Refusal(t6.u.Break);
     }
     return merge_merge_checked(first, second, out);
 }
@@ -3860,27 +4266,15 @@ static struct merge_Merged merge_merge_sets(struct slice_u8 first, struct slice_
 /* The crate report */
 
 /* report::check_list, crates/report/src/lib.rt: Whether a list of intervals has a report: 1, 2, 4. */
-static struct refusal_Verdict report_check_list(struct timing_Profile p, struct slice_u16 intervals) {
-    struct refusal_Verdict t4 = timing_rule_check(p);
-    if (t4.tag == refusal_Verdict_Refused) {
-        return (struct refusal_Verdict){.tag = refusal_Verdict_Refused, .u.Refused = t4.u.Refused};
+static struct Result_unit_Refusal report_check_list(struct timing_Profile p, struct slice_u16 intervals) {
+    struct ControlFlow_ErrResidual_Refusal_unit t5 = core_result_ResultTry_branch_unit_Refusal(timing_rule_check(p));
+    if (t5.tag != ControlFlow_ErrResidual_Refusal_unit_Continue) {
+        return core_result_ResultFromResidualErrResidual_from_residual_unit_Refusal_Refusal(t5.u.Break);
     }
     if (51202 < intervals.len) {
-        return (struct refusal_Verdict){.tag = refusal_Verdict_Refused, .u.Refused = {.tag = refusal_Refusal_TooLong}};
+        return (struct Result_unit_Refusal){.tag = Result_unit_Refusal_Err, .u.Err = {.tag = refusal_Refusal_TooLong}};
     }
-    return (struct refusal_Verdict){.tag = refusal_Verdict_Accepted};
-}
-
-/* report::row::lesser, crates/report/src/row.rt */
-static uint64_t report_row_lesser(uint64_t a, uint64_t b) {
-    if (b < a) return b;
-    return a;
-}
-
-/* report::row::greater, crates/report/src/row.rt */
-static uint64_t report_row_greater(uint64_t a, uint64_t b) {
-    if (a < b) return b;
-    return a;
+    return (struct Result_unit_Refusal){.tag = Result_unit_Refusal_Ok};
 }
 
 /* report::row::add, crates/report/src/row.rt: Two rows added. One whose count is zero is passed over. */
@@ -3891,8 +4285,8 @@ static struct array_u64_4 report_row_add(struct array_u64_4 a, struct array_u64_
     }
     if (b.a[0] == 0) return a;
     uint64_t t20 = a.a[0] + b.a[0];
-    uint64_t t21 = report_row_lesser(a.a[1], b.a[1]);
-    uint64_t t28 = report_row_greater(a.a[2], b.a[2]);
+    uint64_t t21 = core_int_u64_min(a.a[1], b.a[1]);
+    uint64_t t28 = core_int_u64_max(a.a[2], b.a[2]);
     return (struct array_u64_4){{t20, t21, t28, a.a[3] + b.a[3]}};
 }
 
@@ -3944,22 +4338,22 @@ static struct array_u64_4_5 report_list_renew(struct array_u64_4_5 rows, struct 
 static struct array_u64_4_5 report_list_gather(struct timing_cursor_Cursor start, struct slice_u16 intervals) {
     struct timing_cursor_Cursor cursor = start;
     struct array_u64_4_5 rows = {0};
-    uint64_t k = 0;
-    while (k < intervals.len) {
-        uint16_t interval = intervals.at[k];
+    uint64_t interval_index = 0;
+    uint64_t t10 = intervals.len;
+    while (interval_index < t10) {
+        uint16_t interval = intervals.at[interval_index];
         struct timing_cursor_Classed classed = timing_cursor_Cursor_step(cursor, interval);
-        struct timing_Class class = classed.class;
-        struct array_u64_4_5 next = report_list_renew(rows, class, interval);
+        struct array_u64_4_5 next = report_list_renew(rows, classed.class, interval);
         rows = next;
         cursor = classed.next;
-        k++;
+        interval_index++;
     }
     return rows;
 }
 
 /* report::report_list, crates/report/src/lib.rt: The report of a list; zeros where it has none. */
 static struct array_u64_4_5 report_report_list(struct timing_Profile p, struct slice_u16 intervals) {
-    if (report_check_list(p, intervals).tag == refusal_Verdict_Refused) {
+    if (report_check_list(p, intervals).tag == Result_unit_Refusal_Err) {
         return (struct array_u64_4_5){0};
     }
     return report_list_gather(timing_cursor_Cursor_start(p), intervals);
@@ -3967,7 +4361,8 @@ static struct array_u64_4_5 report_report_list(struct timing_Profile p, struct s
 
 /*
  * report::row::exceed, crates/report/src/row.rt
- * Whether the sum of two numbers would not fit. (A number itself does, which the caller learns.)
+ * Whether the sum of two numbers would not fit. No `checked_add` at the call: a number of an array is known to fit
+ * only in a function that is given it, and the caller learns it here.
  */
 static bool report_row_exceed(uint64_t a, uint64_t b) {
     return 18446744073709551615ull - b < a;
@@ -3983,16 +4378,16 @@ static bool report_row_overflows(struct array_u64_4 a, struct array_u64_4 b) {
 }
 
 /* report::check_sum, crates/report/src/lib.rt: Whether two reports can be added: 4. */
-static struct refusal_Verdict report_check_sum(struct array_u64_4_5 a, struct array_u64_4_5 b) {
+static struct Result_unit_Refusal report_check_sum(struct array_u64_4_5 a, struct array_u64_4_5 b) {
     uint64_t k = 0;
     while (k < 5) {
         if (report_row_overflows(a.a[k], b.a[k])) {
-            return (struct refusal_Verdict){.tag = refusal_Verdict_Refused,
-                    .u.Refused = {.tag = refusal_Refusal_TooLong}};
+            return (struct Result_unit_Refusal){.tag = Result_unit_Refusal_Err,
+                    .u.Err = {.tag = refusal_Refusal_TooLong}};
         }
         k++;
     }
-    return (struct refusal_Verdict){.tag = refusal_Verdict_Accepted};
+    return (struct Result_unit_Refusal){.tag = Result_unit_Refusal_Ok};
 }
 
 /* report::add_rows, crates/report/src/lib.rt: The rows of two reports that can be added, added. */
@@ -4008,7 +4403,7 @@ static struct array_u64_4_5 report_add_rows(struct array_u64_4_5 a, struct array
 
 /* report::add, crates/report/src/lib.rt: Two reports added; zeros where they cannot be. */
 static struct array_u64_4_5 report_add(struct array_u64_4_5 a, struct array_u64_4_5 b) {
-    if (report_check_sum(a, b).tag == refusal_Verdict_Refused) return (struct array_u64_4_5){0};
+    if (report_check_sum(a, b).tag == Result_unit_Refusal_Err) return (struct array_u64_4_5){0};
     return report_add_rows(a, b);
 }
 
@@ -4023,19 +4418,21 @@ static bool entries_opening_opens_with(struct slice_u16 items, uint16_t kind) {
  * entries::opening::read_marked, crates/entries/src/opening.rt
  * A field of n bytes, the first of which are handed over; the intervals begin at a lock.
  */
-static struct entries_opening_Opened entries_opening_read_marked(struct timing_Profile p, struct slice_u16 intervals,
-        uint64_t n, uint16_t kind, struct slice_u16_mut items) {
-    struct fields_reader_FieldRead t8 = fields_reader_read_in_place(p, intervals, n, items);
-    if (t8.tag == fields_reader_FieldRead_Refused) {
-        return (struct entries_opening_Opened){.tag = entries_opening_Opened_NoField};
+static struct Option_Opened entries_opening_read_marked(struct timing_Profile p, struct slice_u16 intervals, uint64_t n,
+        uint16_t kind, struct slice_u16_mut items) {
+    struct Result_Field_Refusal t8 = fields_reader_read_in_place(p, intervals, n, items);
+    uint64_t used;
+    bool holds;
+    if (t8.tag == Result_Field_Refusal_Ok) {
+        used = t8.u.Ok.used;
+        holds = t8.u.Ok.holds;
+    } else {
+        return (struct Option_Opened){.tag = Option_Opened_None};
     }
-    uint64_t used = t8.u.Field.used;
-    bool holds = t8.u.Field.holds;
     if (entries_opening_opens_with(slice_u16(items.at, items.len), kind)) {
-        return (struct entries_opening_Opened){.tag = entries_opening_Opened_Field,
-                .u.Field = {.used = used, .holds = holds}};
+        return (struct Option_Opened){.tag = Option_Opened_Some, .u.Some = {.used = used, .holds = holds}};
     }
-    return (struct entries_opening_Opened){.tag = entries_opening_Opened_NoField};
+    return (struct Option_Opened){.tag = Option_Opened_None};
 }
 
 /*
@@ -4043,25 +4440,38 @@ static struct entries_opening_Opened entries_opening_read_marked(struct timing_P
  * A field uses 4 n intervals at least, as a cell gives two bits at most. Where one of so many is no cell it does not
  * read, which is told in a small part of the time that reading takes.
  */
-static struct entries_opening_Opened entries_opening_read_sound(struct timing_Profile p, struct slice_u16 intervals,
-        uint64_t n, uint16_t kind, struct slice_u16_mut items) {
-    uint64_t front = lists_at_most(4 * n, intervals.len);
+static struct Option_Opened entries_opening_read_sound(struct timing_Profile p, struct slice_u16 intervals, uint64_t n,
+        uint16_t kind, struct slice_u16_mut items) {
+    uint64_t front = core_int_usize_min(4 * n, intervals.len);
     if (intervals_edges_all_cells(p, slice_u16(intervals.at, front))) {
         return entries_opening_read_marked(p, intervals, n, kind, items);
     }
-    return (struct entries_opening_Opened){.tag = entries_opening_Opened_NoField};
+    return (struct Option_Opened){.tag = Option_Opened_None};
 }
 
 /*
  * entries::opening::read_opened, crates/entries/src/opening.rt
  * Most of what a lock precedes on a worn track is seen to be no field of a sector by its first intervals.
  */
-static struct entries_opening_Opened entries_opening_read_opened(struct timing_Profile p, struct slice_u16 intervals,
-        uint64_t n, uint16_t kind, struct slice_u16_mut items) {
+static struct Option_Opened entries_opening_read_opened(struct timing_Profile p, struct slice_u16 intervals, uint64_t n,
+        uint16_t kind, struct slice_u16_mut items) {
     if (locks_finder_three_marks_ahead(p, intervals)) {
         return entries_opening_read_sound(p, intervals, n, kind, items);
     }
-    return (struct entries_opening_Opened){.tag = entries_opening_Opened_NoField};
+    return (struct Option_Opened){.tag = Option_Opened_None};
+}
+
+/* core::option::OptionTry::branch<Opened>, of the kit's library */
+static struct ControlFlow_NoValue_Opened core_option_OptionTry_branch_Opened(struct Option_Opened p1) {
+    if (p1.tag == Option_Opened_Some) {
+        return (struct ControlFlow_NoValue_Opened){.tag = ControlFlow_NoValue_Opened_Continue, .u.Continue = p1.u.Some};
+    }
+    return (struct ControlFlow_NoValue_Opened){.tag = ControlFlow_NoValue_Opened_Break};
+}
+
+/* core::option::OptionFromResidualNoValue::from_residual<Id>, of the kit's library */
+static struct Option_Id core_option_OptionFromResidualNoValue_from_residual_Id(void) {
+    return (struct Option_Id){.tag = Option_Id_None};
 }
 
 /* entries::id::is_identity, crates/entries/src/id.rt: FE and four data bytes, the last a length code. */
@@ -4071,35 +4481,41 @@ static bool entries_id_is_identity(struct slice_u16 items) {
 }
 
 /* entries::id::four_bytes, crates/entries/src/id.rt: The four bytes fit a byte each, since they are data bytes. */
-static struct entries_id_IdRead entries_id_four_bytes(struct slice_u16 items, uint64_t used) {
-    return (struct entries_id_IdRead){.tag = entries_id_IdRead_Id,
-            .u.Id = {.track = (uint8_t)items.at[4], .side = (uint8_t)items.at[5], .sector = (uint8_t)items.at[6],
-            .code = (uint8_t)items.at[7], .used = used}};
+static struct entries_id_Id entries_id_four_bytes(struct slice_u16 items, uint64_t used) {
+    return (struct entries_id_Id){.track = (uint8_t)items.at[4], .side = (uint8_t)items.at[5],
+            .sector = (uint8_t)items.at[6], .code = (uint8_t)items.at[7], .used = used};
 }
 
 /* entries::id::identify, crates/entries/src/id.rt */
-static struct entries_id_IdRead entries_id_identify(struct slice_u16 items, uint64_t used) {
-    if (entries_id_is_identity(items)) return entries_id_four_bytes(items, used);
-    return (struct entries_id_IdRead){.tag = entries_id_IdRead_NoId};
+static struct Option_Id entries_id_identify(struct slice_u16 items, uint64_t used) {
+    if (entries_id_is_identity(items)) {
+        return (struct Option_Id){.tag = Option_Id_Some, .u.Some = entries_id_four_bytes(items, used)};
+    }
+    return (struct Option_Id){.tag = Option_Id_None};
 }
 
 /* entries::id::read_id, crates/entries/src/id.rt: The intervals begin at a lock. */
-static struct entries_id_IdRead entries_id_read_id(struct timing_Profile p, struct slice_u16 intervals) {
+static struct Option_Id entries_id_read_id(struct timing_Profile p, struct slice_u16 intervals) {
     struct array_u16_10 items = {0};
-    struct entries_opening_Opened t6 = entries_opening_read_opened(p, intervals, 10, 254, slice_u16_mut(items.a, 10));
-    if (t6.tag == entries_opening_Opened_NoField) {
-        return (struct entries_id_IdRead){.tag = entries_id_IdRead_NoId};
+    struct Option_Opened t10 = entries_opening_read_opened(p, intervals, 10, 254, slice_u16_mut(items.a, 10));
+    struct ControlFlow_NoValue_Opened t9 = core_option_OptionTry_branch_Opened(t10);
+    struct entries_opening_Opened t8;
+    if (t9.tag == ControlFlow_NoValue_Opened_Continue) {
+        t8 = t9.u.Continue;
+    } else {
+        return core_option_OptionFromResidualNoValue_from_residual_Id();
     }
-    uint64_t used = t6.u.Field.used;
-    if (t6.u.Field.holds) return entries_id_identify(slice_u16(items.a, 10), used);
-    return (struct entries_id_IdRead){.tag = entries_id_IdRead_NoId};
+    uint64_t used = t8.used;
+    bool holds = t8.holds;
+    if (holds) return entries_id_identify(slice_u16(items.a, 10), used);
+    return (struct Option_Id){.tag = Option_Id_None};
 }
 
 /*
  * entries::content::read_data, crates/entries/src/content.rt
  * As many bytes as three marks, FB, the data of the code and two check bytes are. The first four tell what it is.
  */
-static struct entries_opening_Opened entries_content_read_data(struct timing_Profile p, struct slice_u16 intervals,
+static struct Option_Opened entries_content_read_data(struct timing_Profile p, struct slice_u16 intervals,
         uint8_t code) {
     uint64_t n = sectors_sector_size(code) + 6;
     struct array_u16_4 items = {0};
@@ -4112,18 +4528,26 @@ static struct entries_opening_Opened entries_content_read_data(struct timing_Pro
  */
 static struct entries_content_Sought entries_content_find_data(struct timing_Profile p, struct slice_u16 intervals,
         uint64_t start, uint8_t code) {
-    struct refusal_Counted t8 = locks_finder_search(p, intervals, start);
-    if (t8.tag == refusal_Counted_Refused) {
-        return (struct entries_content_Sought){.field = {.tag = entries_DataField_Missing}, .end = start};
+    struct entries_content_Sought none = {.field = {.tag = Option_DataField_None}, .end = start};
+    struct Result_u64_Refusal t10 = locks_finder_search(p, intervals, start);
+    uint64_t place;
+    if (t10.tag == Result_u64_Refusal_Ok) {
+        place = t10.u.Ok;
+    } else {
+        return none;
     }
-    uint64_t k = t8.u.Count;
-    struct entries_opening_Opened t11 =
-            entries_content_read_data(p, slice_u16(intervals.at + k, intervals.len - k), code);
-    if (t11.tag == entries_opening_Opened_NoField) {
-        return (struct entries_content_Sought){.field = {.tag = entries_DataField_Missing}, .end = start};
+    struct Option_Opened t11 =
+            entries_content_read_data(p, slice_u16(intervals.at + place, intervals.len - place), code);
+    uint64_t used;
+    bool holds;
+    if (t11.tag == Option_Opened_Some) {
+        used = t11.u.Some.used;
+        holds = t11.u.Some.holds;
+    } else {
+        return none;
     }
-    return (struct entries_content_Sought){.field = {.tag = entries_DataField_Found,
-            .u.Found = {.place = k, .holds = t11.u.Field.holds}}, .end = k + t11.u.Field.used};
+    return (struct entries_content_Sought){.field = {.tag = Option_DataField_Some,
+            .u.Some = {.place = place, .holds = holds}}, .end = place + used};
 }
 
 /*
@@ -4132,15 +4556,14 @@ static struct entries_content_Sought entries_content_find_data(struct timing_Pro
  * the lock.
  */
 static struct entries_Step entries_look_at(struct timing_Profile p, struct slice_u16 intervals, uint64_t k) {
-    struct entries_id_IdRead t12 = entries_id_read_id(p, slice_u16(intervals.at + k, intervals.len - k));
-    if (t12.tag == entries_id_IdRead_NoId) {
+    struct Option_Id t7 = entries_id_read_id(p, slice_u16(intervals.at + k, intervals.len - k));
+    if (t7.tag == Option_Id_None) {
         return (struct entries_Step){.tag = entries_Step_Other, .u.Other = {.next = k + 1}};
     }
-    uint8_t code = t12.u.Id.code;
-    struct entries_content_Sought sought = entries_content_find_data(p, intervals, k + t12.u.Id.used, code);
-    struct entries_DataField field = sought.field;
-    struct entries_Entry entry = {.track = t12.u.Id.track, .side = t12.u.Id.side, .sector = t12.u.Id.sector,
-            .code = code, .place = k, .field = field};
+    struct entries_id_Id id = t7.u.Some;
+    struct entries_content_Sought sought = entries_content_find_data(p, intervals, k + id.used, id.code);
+    struct entries_Entry entry = {.track = id.track, .side = id.side, .sector = id.sector, .code = id.code, .place = k,
+            .field = sought.field};
     return (struct entries_Step){.tag = entries_Step_Begins, .u.Begins = {.entry = entry, .next = sought.end}};
 }
 
@@ -4149,20 +4572,20 @@ static struct entries_Step entries_look_at(struct timing_Profile p, struct slice
  * One search, from `start` on. The next starts at least 64 intervals after this one, so that they come to an end.
  */
 static struct entries_Step entries_find_entry(struct timing_Profile p, struct slice_u16 intervals, uint64_t start) {
-    struct refusal_Counted t5 = locks_finder_search(p, intervals, start);
-    if (t5.tag == refusal_Counted_Refused) return (struct entries_Step){.tag = entries_Step_End};
-    return entries_look_at(p, intervals, t5.u.Count);
+    struct Result_u64_Refusal t5 = locks_finder_search(p, intervals, start);
+    if (t5.tag == Result_u64_Refusal_Err) return (struct entries_Step){.tag = entries_Step_End};
+    return entries_look_at(p, intervals, t5.u.Ok);
 }
 
 /* The crate track */
 
-/* track::index::converted, crates/track/src/index.rt */
-static ism_index_entry track_index_converted(struct entries_Entry entry) {
-    struct entries_DataField field = entry.field;
-    if (field.tag == entries_DataField_Found) {
-        return (ism_index_entry){.id_place = entry.place, .data_place = field.u.Found.place, .track = entry.track,
+/* track::index::IndexEntryFromEntry::from, crates/track/src/index.rt */
+static ism_index_entry track_index_IndexEntryFromEntry_from(struct entries_Entry entry) {
+    if (entry.field.tag == Option_DataField_Some) {
+        struct entries_DataField data = entry.field.u.Some;
+        return (ism_index_entry){.id_place = entry.place, .data_place = data.place, .track = entry.track,
                 .side = entry.side, .sector = entry.sector, .code = entry.code, .found = 1,
-                .holds = (uint8_t)field.u.Found.holds};
+                .holds = (uint8_t)data.holds};
     }
     return (ism_index_entry){.id_place = entry.place, .data_place = 0, .track = entry.track, .side = entry.side,
             .sector = entry.sector, .code = entry.code, .found = 0, .holds = 0};
@@ -4183,31 +4606,31 @@ static ism_index track_index_index_track(struct timing_Profile p, struct slice_u
     struct array_track_index_IndexEntry_32 entries = {0};
     uint64_t count = 0;
     uint64_t start = 0;
-    struct refusal_Verdict t15 = timing_rule_check(p);
-    struct refusal_Counted found;
-    if (t15.tag == refusal_Verdict_Refused) {
-        found = (struct refusal_Counted){.tag = refusal_Counted_Refused, .u.Refused = t15.u.Refused};
+    struct Result_unit_Refusal t16 = timing_rule_check(p);
+    struct Result_u64_Refusal found;
+    if (t16.tag == Result_unit_Refusal_Err) {
+        found = (struct Result_u64_Refusal){.tag = Result_u64_Refusal_Err, .u.Err = t16.u.Err};
     } else {
-        struct refusal_Counted t17;
+        struct Result_u64_Refusal t18;
         for (;;) {
-            struct entries_Step t18 = entries_find_entry(p, intervals, start);
-            switch (t18.tag) {
+            struct entries_Step t19 = entries_find_entry(p, intervals, start);
+            switch (t19.tag) {
             case entries_Step_End: {
-                t17 = (struct refusal_Counted){.tag = refusal_Counted_Count, .u.Count = count};
+                t18 = (struct Result_u64_Refusal){.tag = Result_u64_Refusal_Ok, .u.Ok = count};
                 goto done_1;
             }
             case entries_Step_Other: {
-                start = t18.u.Other.next;
+                start = t19.u.Other.next;
                 break;
             }
             default: { /* entries_Step_Begins */
                 if (count == 32) {
                     entries = (struct array_track_index_IndexEntry_32){0};
-                    t17 = (struct refusal_Counted){.tag = refusal_Counted_Refused,
-                            .u.Refused = {.tag = refusal_Refusal_TooManySectors}};
+                    t18 = (struct Result_u64_Refusal){.tag = Result_u64_Refusal_Err,
+                            .u.Err = {.tag = refusal_Refusal_TooManySectors}};
                     goto done_1;
                 }
-                ism_index_entry new = track_index_converted(t18.u.Begins.entry);
+                ism_index_entry new = track_index_IndexEntryFromEntry_from(t19.u.Begins.entry);
                 uint64_t at = count;
                 while (0 < at) {
                     ism_index_entry last = entries.a[at - 1];
@@ -4220,21 +4643,19 @@ static ism_index track_index_index_track(struct timing_Profile p, struct slice_u
                 }
                 entries.a[at] = new;
                 count++;
-                start = t18.u.Begins.next;
+                start = t19.u.Begins.next;
                 break;
             }
             }
         }
         done_1:;
-        found = t17;
+        found = t18;
     }
-    uint32_t t35 = refusal_Counted_number(found);
-    uint32_t t36 = refusal_Counted_place(found);
-    uint64_t t38 = refusal_Counted_count(found);
+    struct refusal_Told told = refusal_ToldFromResultUsizeRefusal_from(found);
     ism_index result;
-    result.number = t35;
-    result.place = t36;
-    result.count = t38;
+    result.number = told.number;
+    result.place = told.place;
+    result.count = told.count;
     for (uint64_t each = 0; each < 32; each++) {
         result.entries[each] = entries.a[each];
     }
@@ -4270,41 +4691,56 @@ static void track_set_store_entry(struct timing_Profile p, struct slice_u16 inte
 
 /*
  * track_set::read_track, crates/track_set/src/lib.rt
- * 1, 2, 15, 9. On acceptance the set fills the front of the output, in the index's order.
+ * 1, 2, 15, 9; else the size of the set. On acceptance it fills the front of the output, in the index's order.
  */
-static struct track_set_TrackSet track_set_read_track(struct timing_Profile p, struct slice_u16 intervals,
+static struct Result_SetSize_Refusal track_set_read_track(struct timing_Profile p, struct slice_u16 intervals,
         struct slice_u8_mut out) {
+    struct ControlFlow_ErrResidual_Refusal_unit t16 = core_result_ResultTry_branch_unit_Refusal(timing_rule_check(p));
+    if (t16.tag != ControlFlow_ErrResidual_Refusal_unit_Continue) {
+        return core_result_ResultFromResidualErrResidual_from_residual_SetSize_Refusal_Refusal(t16.u.Break);
+    }
     ism_index index = track_index_index_track(p, intervals);
     if (index.number != 0) {
-        return (struct track_set_TrackSet){.number = index.number, .place = index.place, .count = index.count,
-                .bytes = 0};
+        return (struct Result_SetSize_Refusal){.tag = Result_SetSize_Refusal_Err,
+                .u.Err = {.tag = refusal_Refusal_TooManySectors}};
     }
     uint64_t count = 0;
     uint64_t bytes = 0;
-    uint64_t k = 0;
-    while (k < 32) {
-        ism_index_entry entry = index.entries[k];
-        count += (uint64_t)entry.found;
-        bytes += track_set_entry_size(entry);
-        k++;
+    struct slice_track_index_IndexEntry entry_items = slice_track_index_IndexEntry(index.entries, 32);
+    uint64_t entry_index = 0;
+    uint64_t t24 = entry_items.len;
+    while (entry_index < t24) {
+        const ism_index_entry *entry = entry_items.at + entry_index;
+        count += (uint64_t)entry->found;
+        bytes += track_set_entry_size(*entry);
+        entry_index++;
     }
     if (out.len < bytes) {
-        struct refusal_Refusal full = {.tag = refusal_Refusal_OutputTooShort};
-        uint32_t t26 = refusal_Refusal_number(full);
-        return (struct track_set_TrackSet){.number = t26, .place = refusal_Refusal_place(full), .count = 0, .bytes = 0};
+        return (struct Result_SetSize_Refusal){.tag = Result_SetSize_Refusal_Err,
+                .u.Err = {.tag = refusal_Refusal_OutputTooShort}};
     }
     uint64_t at = 0;
-    uint64_t j = 0;
-    while (j < 32) {
-        ism_index_entry entry_2 = index.entries[j];
-        track_set_store_entry(p, intervals, entry_2, at, out);
-        at += track_set_entry_size(entry_2);
-        j++;
+    struct slice_track_index_IndexEntry entry_items_2 = slice_track_index_IndexEntry(index.entries, 32);
+    uint64_t entry_index_2 = 0;
+    uint64_t t35 = entry_items_2.len;
+    while (entry_index_2 < t35) {
+        const ism_index_entry *entry_2 = entry_items_2.at + entry_index_2;
+        track_set_store_entry(p, intervals, *entry_2, at, out);
+        at += track_set_entry_size(*entry_2);
+        entry_index_2++;
     }
-    return (struct track_set_TrackSet){.number = 0, .place = 0, .count = count, .bytes = bytes};
+    return (struct Result_SetSize_Refusal){.tag = Result_SetSize_Refusal_Ok, .u.Ok = {.count = count, .bytes = bytes}};
 }
 
 /* The crate clearance */
+
+/* core::result::ResultFromResidualErrResidual::from_residual<Clear_u64, Refusal, Refusal>, of the kit's library */
+static struct Result_Clear_u64_Refusal
+        core_result_ResultFromResidualErrResidual_from_residual_Clear_u64_Refusal_Refusal(
+        struct ErrResidual_Refusal p1) {
+    return (struct Result_Clear_u64_Refusal){.tag = Result_Clear_u64_Refusal_Err,
+            .u.Err = core_convert_AnyFrom_from_Refusal(p1.f0)};
+}
 
 /* clearance::extremes::Extremes::none, crates/clearance/src/extremes.rt: Before any interval. */
 static struct clearance_extremes_Extremes clearance_extremes_Extremes_none(void) {
@@ -4318,7 +4754,7 @@ static struct clearance_extremes_Extremes clearance_extremes_Extremes_none(void)
  * it.
  */
 static uint16_t clearance_extremes_turned(uint16_t x) {
-    return core_num_wrapping_add_u16(x, 32768);
+    return (uint16_t)(x + 32768);
 }
 
 /* clearance::extremes::first, crates/clearance/src/extremes.rt */
@@ -4340,7 +4776,7 @@ static uint16_t clearance_extremes_last(uint16_t a, uint16_t b) {
  * How far an interval is past a bound, in that order: first those from the bound up, last the one just below it.
  */
 static uint16_t clearance_extremes_past(uint16_t bound, uint16_t interval) {
-    return core_num_wrapping_sub_u16(interval, clearance_extremes_turned(bound));
+    return (uint16_t)(interval - clearance_extremes_turned(bound));
 }
 
 /*
@@ -4365,28 +4801,30 @@ static struct clearance_extremes_Extremes clearance_blocks_extremes_alike(struct
     uint16_t longest = start.longest;
     uint16_t from = start.from;
     uint16_t below = start.below;
-    uint64_t k = 0;
-    while (k < intervals.len) {
-        uint16_t interval = intervals.at[k];
+    uint64_t interval_index = 0;
+    uint64_t t10 = intervals.len;
+    while (interval_index < t10) {
+        uint16_t interval = intervals.at[interval_index];
         shortest = clearance_extremes_first(shortest, interval);
         longest = clearance_extremes_last(longest, interval);
         from = clearance_extremes_first(from, clearance_extremes_first_past(bounds, interval));
         below = clearance_extremes_last(below, clearance_extremes_last_past(bounds, interval));
-        k++;
+        interval_index++;
     }
     return (struct clearance_extremes_Extremes){.shortest = shortest, .longest = longest, .from = from, .below = below};
 }
 
 /* clearance::masks::mask_of, crates/clearance/src/masks.rt */
 static uint16_t clearance_masks_mask_of(bool two) {
-    return core_num_wrapping_sub_u16(0, (uint16_t)two);
+    return (uint16_t)(0 - (uint16_t)two);
 }
 
 /* clearance::masks::fill_alike, crates/clearance/src/masks.rt: All where the classing stands the same. */
 static void clearance_masks_fill_alike(struct timing_cursor_Cursor cursor, struct slice_u16 intervals,
         struct slice_u16_mut masks) {
     uint64_t k = 0;
-    while (k < intervals.len) {
+    uint64_t t6 = intervals.len;
+    while (k < t6) {
         masks.at[k] = clearance_masks_mask_of(timing_cursor_Cursor_meets_two(cursor, intervals.at[k]));
         k++;
     }
@@ -4398,20 +4836,20 @@ static void clearance_masks_fill_alike(struct timing_cursor_Cursor cursor, struc
  * next turn waits for it.
  */
 static uint16_t clearance_masks_below(uint16_t a, uint16_t b) {
-    return (uint16_t)(core_num_wrapping_sub_u32((uint32_t)a, (uint32_t)b) >> 16);
+    return (uint16_t)((uint32_t)((uint32_t)a - (uint32_t)b) >> 16);
 }
 
 /* clearance::masks::mask_in, crates/clearance/src/masks.rt: Of an interval where the classing stands. */
 static uint16_t clearance_masks_mask_in(struct timing_cursor_Cursor cursor, uint16_t interval) {
-    uint16_t past = core_num_wrapping_sub_u16(interval, cursor.min.f0);
+    uint16_t past = (uint16_t)(interval - cursor.min.f0);
     return clearance_masks_below(past, cursor.bounds.b23.f0 - cursor.min.f0);
 }
 
 /* clearance::masks::chosen, crates/clearance/src/masks.rt */
 static struct timing_HalfClocks clearance_masks_chosen(uint16_t mask, struct timing_HalfClocks short_,
         struct timing_HalfClocks long_) {
-    uint16_t change = core_num_wrapping_sub_u16(short_.f0, long_.f0);
-    return (struct timing_HalfClocks){.f0 = core_num_wrapping_add_u16(long_.f0, change & mask)};
+    uint16_t change = (uint16_t)(short_.f0 - long_.f0);
+    return (struct timing_HalfClocks){.f0 = (uint16_t)(long_.f0 + (change & mask))};
 }
 
 /*
@@ -4438,7 +4876,8 @@ static void clearance_masks_fill_in_turn(struct timing_cursor_Cursor start, stru
         struct slice_u16_mut masks) {
     struct timing_cursor_Cursor cursor = start;
     uint64_t k = 0;
-    while (k < intervals.len) {
+    uint64_t t8 = intervals.len;
+    while (k < t8) {
         uint16_t mask = clearance_masks_mask_in(cursor, intervals.at[k]);
         masks.at[k] = mask;
         cursor = clearance_masks_behind_mask(cursor, mask);
@@ -4494,7 +4933,8 @@ static struct clearance_extremes_Extremes clearance_blocks_extremes_by(struct cl
     uint16_t from = start.from;
     uint16_t below = start.below;
     uint64_t k = 0;
-    while (k < intervals.len) {
+    uint64_t t13 = intervals.len;
+    while (k < t13) {
         uint16_t interval = intervals.at[k];
         struct timing_Bounds bounds = clearance_masks_bounds_by(masks.at[k], short_, long_);
         shortest = clearance_extremes_first(shortest, interval);
@@ -4545,7 +4985,7 @@ static struct clearance_seen_Seen clearance_seen_Seen_all(struct clearance_seen_
     struct clearance_seen_Seen seen = self;
     uint64_t from = 0;
     while (from < intervals.len) {
-        uint64_t n = lists_at_most(129, intervals.len - from);
+        uint64_t n = core_int_usize_min(129, intervals.len - from);
         seen = clearance_seen_Seen_block(seen, slice_u16(intervals.at + from, from + n - from));
         from += n;
     }
@@ -4568,27 +5008,14 @@ static struct clearance_seen_Seen clearance_seen_Seen_with_all(struct clearance_
     return clearance_seen_Seen_all(self, intervals);
 }
 
-/* clearance::extremes::lesser, crates/clearance/src/extremes.rt */
-static uint16_t clearance_extremes_lesser(uint16_t a, uint16_t b) {
-    if (b < a) return b;
-    return a;
-}
-
-/*
- * clearance::extremes::above, crates/clearance/src/extremes.rt
- * How much a number is above another; 0 where it is not.
- */
-static uint16_t clearance_extremes_above(uint16_t a, uint16_t b) {
-    return a - clearance_extremes_lesser(a, b);
-}
-
 /*
  * clearance::extremes::room, crates/clearance/src/extremes.rt
  * How far the places of a first and a last number are inside two others; 0 where one is outside.
  */
 static uint16_t clearance_extremes_room(uint16_t from, uint16_t to, uint16_t first, uint16_t last) {
-    uint16_t t5 = clearance_extremes_above(clearance_extremes_turned(first), from);
-    return clearance_extremes_lesser(t5, clearance_extremes_above(to, clearance_extremes_turned(last)));
+    uint16_t up = core_int_u16_saturating_sub(clearance_extremes_turned(first), from);
+    uint16_t down = core_int_u16_saturating_sub(to, clearance_extremes_turned(last));
+    return core_int_u16_min(up, down);
 }
 
 /*
@@ -4598,7 +5025,7 @@ static uint16_t clearance_extremes_room(uint16_t from, uint16_t to, uint16_t fir
 static uint16_t clearance_extremes_Extremes_least(struct clearance_extremes_Extremes self, uint16_t min, uint16_t rpt) {
     uint16_t t5 = clearance_extremes_turned(min);
     uint16_t outer = clearance_extremes_room(t5, clearance_extremes_turned(rpt - 1), self.shortest, self.longest);
-    return clearance_extremes_lesser(outer, clearance_extremes_room(0, 65535, self.from, self.below));
+    return core_int_u16_min(outer, clearance_extremes_room(0, 65535, self.from, self.below));
 }
 
 /*
@@ -4621,14 +5048,18 @@ static uint16_t clearance_least_of_interval(struct timing_Profile p, uint16_t in
  * clearance::class_number, crates/clearance/src/lib.rt
  * 1, 2; else the class of an interval, told whether the one before was of class 2.
  */
-static struct clearance_ClearCount clearance_class_number(struct timing_Profile p, uint16_t interval, bool two) {
-    struct refusal_Counted t6 = timing_class_number(p, interval, two);
-    if (t6.tag == refusal_Counted_Refused) {
-        return (struct clearance_ClearCount){.counted = {.tag = refusal_Counted_Refused, .u.Refused = t6.u.Refused},
-                .clearance = 0};
+static struct Result_Clear_u64_Refusal clearance_class_number(struct timing_Profile p, uint16_t interval, bool two) {
+    struct ControlFlow_ErrResidual_Refusal_u64 t8 =
+            core_result_ResultTry_branch_u64_Refusal(timing_class_number(p, interval, two));
+    uint64_t read;
+    if (t8.tag == ControlFlow_ErrResidual_Refusal_u64_Continue) {
+        read = t8.u.Continue;
+    } else {
+        return core_result_ResultFromResidualErrResidual_from_residual_Clear_u64_Refusal_Refusal(t8.u.Break);
     }
-    return (struct clearance_ClearCount){.counted = {.tag = refusal_Counted_Count, .u.Count = t6.u.Count},
-            .clearance = clearance_least_of_interval(p, interval, two)};
+    uint16_t clearance = clearance_least_of_interval(p, interval, two);
+    return (struct Result_Clear_u64_Refusal){.tag = Result_Clear_u64_Refusal_Ok,
+            .u.Ok = {.read = read, .clearance = clearance}};
 }
 
 /* clearance::least::of_list, crates/clearance/src/least.rt: The least over a list; 0 for no interval. */
@@ -4638,29 +5069,54 @@ static uint16_t clearance_least_of_list(struct timing_Profile p, struct slice_u1
 }
 
 /* clearance::read, crates/clearance/src/lib.rt: As `codec::reader::read`. */
-static struct clearance_ClearCount clearance_read(struct timing_Profile p, struct slice_u16 intervals,
+static struct Result_Clear_u64_Refusal clearance_read(struct timing_Profile p, struct slice_u16 intervals,
         struct slice_u16_mut out) {
-    struct refusal_Counted t6 = codec_reader_read(p, intervals, out);
-    if (t6.tag == refusal_Counted_Refused) {
-        return (struct clearance_ClearCount){.counted = {.tag = refusal_Counted_Refused, .u.Refused = t6.u.Refused},
-                .clearance = 0};
+    struct ControlFlow_ErrResidual_Refusal_u64 t8 =
+            core_result_ResultTry_branch_u64_Refusal(codec_reader_read(p, intervals, out));
+    uint64_t read;
+    if (t8.tag == ControlFlow_ErrResidual_Refusal_u64_Continue) {
+        read = t8.u.Continue;
+    } else {
+        return core_result_ResultFromResidualErrResidual_from_residual_Clear_u64_Refusal_Refusal(t8.u.Break);
     }
-    return (struct clearance_ClearCount){.counted = {.tag = refusal_Counted_Count, .u.Count = t6.u.Count},
-            .clearance = clearance_least_of_list(p, intervals)};
+    uint16_t clearance = clearance_least_of_list(p, intervals);
+    return (struct Result_Clear_u64_Refusal){.tag = Result_Clear_u64_Refusal_Ok,
+            .u.Ok = {.read = read, .clearance = clearance}};
+}
+
+/* core::result::ResultFromResidualErrResidual::from_residual<Clear_Field, Refusal, Refusal>, of the kit's library */
+static struct Result_Clear_Field_Refusal
+        core_result_ResultFromResidualErrResidual_from_residual_Clear_Field_Refusal_Refusal(
+        struct ErrResidual_Refusal p1) {
+    return (struct Result_Clear_Field_Refusal){.tag = Result_Clear_Field_Refusal_Err,
+            .u.Err = core_convert_AnyFrom_from_Refusal(p1.f0)};
 }
 
 /* clearance::read_field, crates/clearance/src/lib.rt: As `fields::reader::read_field`. */
-static struct clearance_ClearFieldRead clearance_read_field(struct timing_Profile p, struct slice_u16 intervals,
+static struct Result_Clear_Field_Refusal clearance_read_field(struct timing_Profile p, struct slice_u16 intervals,
         uint64_t n, struct slice_u16_mut out) {
-    struct fields_reader_FieldRead t9 = fields_reader_read_field(p, intervals, n, out);
-    if (t9.tag == fields_reader_FieldRead_Refused) {
-        return (struct clearance_ClearFieldRead){.read = {.tag = fields_reader_FieldRead_Refused,
-                .u.Refused = t9.u.Refused}, .clearance = 0};
+    struct ControlFlow_ErrResidual_Refusal_Field t9 =
+            core_result_ResultTry_branch_Field_Refusal(fields_reader_read_field(p, intervals, n, out));
+    struct fields_reader_Field read;
+    if (t9.tag == ControlFlow_ErrResidual_Refusal_Field_Continue) {
+        read = t9.u.Continue;
+    } else {
+        return core_result_ResultFromResidualErrResidual_from_residual_Clear_Field_Refusal_Refusal(t9.u.Break);
     }
-    uint64_t used = t9.u.Field.used;
-    return (struct clearance_ClearFieldRead){.read = {.tag = fields_reader_FieldRead_Field,
-            .u.Field = {.count = t9.u.Field.count, .used = used, .holds = t9.u.Field.holds}},
-            .clearance = clearance_least_of_list(p, slice_u16(intervals.at, used))};
+    uint16_t clearance = clearance_least_of_list(p, slice_u16(intervals.at, read.used));
+    return (struct Result_Clear_Field_Refusal){.tag = Result_Clear_Field_Refusal_Ok,
+            .u.Ok = {.read = read, .clearance = clearance}};
+}
+
+/* core::result::ResultTry::branch<Clear_Field, Refusal>, of the kit's library */
+static struct ControlFlow_ErrResidual_Refusal_Clear_Field
+        core_result_ResultTry_branch_Clear_Field_Refusal(struct Result_Clear_Field_Refusal p1) {
+    if (p1.tag == Result_Clear_Field_Refusal_Ok) {
+        return (struct ControlFlow_ErrResidual_Refusal_Clear_Field){
+                .tag = ControlFlow_ErrResidual_Refusal_Clear_Field_Continue, .u.Continue = p1.u.Ok};
+    }
+    return (struct ControlFlow_ErrResidual_Refusal_Clear_Field){
+            .tag = ControlFlow_ErrResidual_Refusal_Clear_Field_Break, .u.Break = {.f0 = p1.u.Err}};
 }
 
 /* The crate pace */
@@ -4669,39 +5125,37 @@ static struct clearance_ClearFieldRead clearance_read_field(struct timing_Profil
 static struct pace_Pace pace_Pace_measured(struct timing_HalfClocks t1, struct slice_u16 run) {
     uint32_t even = 0;
     uint32_t odd = 0;
-    uint64_t k = 0;
-    while (k < 64) {
-        even += (uint32_t)run.at[k];
-        odd += (uint32_t)run.at[k + 1];
-        k += 2;
+    uint64_t pair = 0;
+    while (pair < 32) {
+        even += (uint32_t)run.at[2 * pair];
+        odd += (uint32_t)run.at[2 * pair + 1];
+        pair++;
     }
     return (struct pace_Pace){.nominal = 32 * (uint32_t)t1.f0, .even = even, .odd = odd};
 }
 
 /* pace::off_speed, crates/pace/src/lib.rt: 16 × the difference, sign dropped, exceeds 32 × T1. */
 static bool pace_off_speed(uint32_t nominal, uint32_t sum) {
-    if (sum < nominal) return nominal < 16 * (nominal - sum);
-    return nominal < 16 * (sum - nominal);
+    return nominal < 16 * core_int_u32_abs_diff(sum, nominal);
 }
 
 /* pace::Pace::check, crates/pace/src/lib.rt: 18, off speed: the even ones, then the odd. */
-static struct refusal_Verdict pace_Pace_check(struct pace_Pace self) {
+static struct Result_unit_Refusal pace_Pace_check(struct pace_Pace self) {
     if (pace_off_speed(self.nominal, self.even)) {
-        return (struct refusal_Verdict){.tag = refusal_Verdict_Refused,
-                .u.Refused = {.tag = refusal_Refusal_OffSpeed, .u.OffSpeed = 0}};
+        return (struct Result_unit_Refusal){.tag = Result_unit_Refusal_Err,
+                .u.Err = {.tag = refusal_Refusal_OffSpeed, .u.OffSpeed = 0}};
     }
     if (pace_off_speed(self.nominal, self.odd)) {
-        return (struct refusal_Verdict){.tag = refusal_Verdict_Refused,
-                .u.Refused = {.tag = refusal_Refusal_OffSpeed, .u.OffSpeed = 1}};
+        return (struct Result_unit_Refusal){.tag = Result_unit_Refusal_Err,
+                .u.Err = {.tag = refusal_Refusal_OffSpeed, .u.OffSpeed = 1}};
     }
-    return (struct refusal_Verdict){.tag = refusal_Verdict_Accepted};
+    return (struct Result_unit_Refusal){.tag = Result_unit_Refusal_Ok};
 }
 
 /* pace::corrected, crates/pace/src/lib.rt: An interval at the pace of a sum, cut off. */
 static uint16_t pace_corrected(uint32_t nominal, uint32_t sum, uint16_t interval) {
     uint32_t number = ((uint32_t)interval * nominal) / sum;
-    if (65535 < number) return 65535;
-    return (uint16_t)number;
+    return (uint16_t)core_int_u32_min(number, 65535);
 }
 
 /* pace::Pace::correct, crates/pace/src/lib.rt: Intervals of which the first is even: the two sums take turns. */
@@ -4710,7 +5164,8 @@ static void pace_Pace_correct(struct pace_Pace self, struct slice_u16 intervals,
     uint32_t own = self.even;
     uint32_t other = self.odd;
     uint64_t k = 0;
-    while (k < intervals.len) {
+    uint64_t t10 = intervals.len;
+    while (k < t10) {
         out.at[k] = pace_corrected(nominal, own, intervals.at[k]);
         uint32_t next = other;
         other = own;
@@ -4726,25 +5181,12 @@ static uint32_t pace_difference(uint32_t nominal, uint32_t sum) {
 
 /* The crate speed */
 
-/* speed::reader::turn_away, crates/speed/src/reader.rt */
-static struct speed_reader_Corrected speed_reader_turn_away(struct refusal_Refusal refusal) {
-    return (struct speed_reader_Corrected){.read = {.tag = fields_reader_FieldRead_Refused, .u.Refused = refusal},
-            .clearance = 0, .lock = 0, .even = 0, .odd = 0};
-}
-
-/*
- * speed::reader::with_clearance, crates/speed/src/reader.rt
- * A field comes with its clearance, a refusal without.
- */
-static struct clearance_ClearFieldRead speed_reader_with_clearance(struct fields_reader_FieldRead read,
-        uint16_t clearance) {
-    if (read.tag == fields_reader_FieldRead_Refused) {
-        return (struct clearance_ClearFieldRead){.read = {.tag = fields_reader_FieldRead_Refused,
-                .u.Refused = read.u.Refused}, .clearance = 0};
-    }
-    return (struct clearance_ClearFieldRead){.read = {.tag = fields_reader_FieldRead_Field,
-            .u.Field = {.count = read.u.Field.count, .used = read.u.Field.used, .holds = read.u.Field.holds}},
-            .clearance = clearance};
+/* core::result::ResultFromResidualErrResidual::from_residual<Corrected, Refusal, Refusal>, of the kit's library */
+static struct Result_Corrected_Refusal
+        core_result_ResultFromResidualErrResidual_from_residual_Corrected_Refusal_Refusal(
+        struct ErrResidual_Refusal p1) {
+    return (struct Result_Corrected_Refusal){.tag = Result_Corrected_Refusal_Err,
+            .u.Err = core_convert_AnyFrom_from_Refusal(p1.f0)};
 }
 
 /* speed::gather::Along::start, crates/speed/src/gather.rt: Before the first interval. */
@@ -4752,7 +5194,7 @@ static struct speed_gather_Along speed_gather_Along_start(struct timing_Profile 
     struct passes_block_Progress t2 = passes_block_Progress_start(p);
     struct items_Check t3 = items_Check_fresh();
     struct clearance_extremes_Extremes t5 = clearance_extremes_Extremes_none();
-    return (struct speed_gather_Along){.at = t2, .check = t3, .edges = {.tag = refusal_Verdict_Accepted},
+    return (struct speed_gather_Along){.at = t2, .check = t3, .edges = {.tag = Result_unit_Refusal_Ok},
             .seen = {.extremes = t5, .cursor = timing_cursor_Cursor_start(p)}};
 }
 
@@ -4777,10 +5219,11 @@ static struct speed_gather_BlockRead speed_gather_read_block(struct passes_block
  * speed::gather::edges_after, crates/speed/src/gather.rt
  * The first interval that is no cell, in all before or in these.
  */
-static struct refusal_Verdict speed_gather_edges_after(struct refusal_Verdict before, struct timing_cursor_Cursor start,
-        uint64_t from, struct slice_u16 intervals) {
-    if (before.tag == refusal_Verdict_Refused) {
-        return (struct refusal_Verdict){.tag = refusal_Verdict_Refused, .u.Refused = before.u.Refused};
+static struct Result_unit_Refusal speed_gather_edges_after(struct Result_unit_Refusal before,
+        struct timing_cursor_Cursor start, uint64_t from, struct slice_u16 intervals) {
+    struct ControlFlow_ErrResidual_Refusal_unit t7 = core_result_ResultTry_branch_unit_Refusal(before);
+    if (t7.tag != ControlFlow_ErrResidual_Refusal_unit_Continue) {
+        return core_result_ResultFromResidualErrResidual_from_residual_unit_Refusal_Refusal(t7.u.Break);
     }
     return intervals_edges_check_edges_from(start, from, intervals);
 }
@@ -4789,7 +5232,7 @@ static struct refusal_Verdict speed_gather_edges_after(struct refusal_Verdict be
 static struct speed_gather_Along speed_gather_Along_next(struct speed_gather_Along self, struct slice_u16 block,
         uint32_t n, struct slice_u16_mut out) {
     struct passes_block_Progress start = self.at;
-    struct refusal_Verdict edges = self.edges;
+    struct Result_unit_Refusal edges = self.edges;
     struct clearance_seen_Seen seen = self.seen;
     struct timing_cursor_Cursor cursor = start.cursor;
     uint64_t from = start.pass.used;
@@ -4797,7 +5240,7 @@ static struct speed_gather_Along speed_gather_Along_next(struct speed_gather_Alo
     struct passes_block_Progress at = read.at;
     struct items_Check check = read.check;
     uint64_t used = at.pass.used - from;
-    struct refusal_Verdict t17 = speed_gather_edges_after(edges, cursor, from, slice_u16(block.at, used));
+    struct Result_unit_Refusal t17 = speed_gather_edges_after(edges, cursor, from, slice_u16(block.at, used));
     return (struct speed_gather_Along){.at = at, .check = check, .edges = t17,
             .seen = clearance_seen_Seen_with_all(seen, slice_u16(block.at, used))};
 }
@@ -4807,7 +5250,7 @@ static struct speed_gather_Along speed_gather_Along_advance(struct speed_gather_
         struct slice_u16 intervals, uint32_t n, struct slice_u16_mut out) {
     struct array_u16_64 block = {0};
     uint64_t from = self.at.pass.used;
-    uint64_t count = lists_at_most(64, intervals.len - from);
+    uint64_t count = core_int_usize_min(64, intervals.len - from);
     pace_Pace_correct(pace, slice_u16(intervals.at + from, from + count - from), slice_u16_mut(block.a, count));
     return speed_gather_Along_next(self, slice_u16(block.a, count), n, out);
 }
@@ -4834,12 +5277,12 @@ static struct speed_gather_Gathered speed_gather_gather(struct timing_Profile p,
     struct speed_gather_Along along = speed_gather_pass_over(p, pace, intervals, n, out);
     struct shifts_Pass pass = along.at.pass;
     bool holds = along.check.register_ == 0;
-    struct refusal_Verdict edges = along.edges;
-    if (edges.tag == refusal_Verdict_Refused) {
-        return (struct speed_gather_Gathered){.end = {.tag = refusal_Counted_Refused, .u.Refused = edges.u.Refused},
+    struct Result_unit_Refusal edges = along.edges;
+    if (edges.tag == Result_unit_Refusal_Err) {
+        return (struct speed_gather_Gathered){.end = {.tag = Result_u64_Refusal_Err, .u.Err = edges.u.Err},
                 .holds = holds, .clearance = 0};
     }
-    struct refusal_Counted t15 = fields_gather_conclude(pass.reading, pass.used, n);
+    struct Result_u64_Refusal t15 = fields_gather_conclude(pass.reading, pass.used, n);
     return (struct speed_gather_Gathered){.end = t15, .holds = holds,
             .clearance = clearance_extremes_Extremes_least(along.seen.extremes, p.min.f0, p.rpt.f0)};
 }
@@ -4848,21 +5291,31 @@ static struct speed_gather_Gathered speed_gather_gather(struct timing_Profile p,
  * speed::reader::read_into, crates/speed/src/reader.rt
  * The items wait in a buffer, as a refusal changes nothing that was lent.
  */
-static struct clearance_ClearFieldRead speed_reader_read_into(struct timing_Profile p, struct pace_Pace pace,
+static struct Result_Clear_Field_Refusal speed_reader_read_into(struct timing_Profile p, struct pace_Pace pace,
         struct slice_u16 intervals, uint64_t n, struct slice_u16_mut buffer, struct slice_u16_mut out) {
     struct speed_gather_Gathered gathered = speed_gather_gather(p, pace, intervals, (uint32_t)n, buffer);
-    struct refusal_Counted end = gathered.end;
-    if (end.tag == refusal_Counted_Refused) {
-        struct fields_reader_FieldRead t16 = {.tag = fields_reader_FieldRead_Refused, .u.Refused = end.u.Refused};
-        return speed_reader_with_clearance(t16, 0);
+    struct ControlFlow_ErrResidual_Refusal_u64 t18 = core_result_ResultTry_branch_u64_Refusal(gathered.end);
+    uint64_t used;
+    if (t18.tag == ControlFlow_ErrResidual_Refusal_u64_Continue) {
+        used = t18.u.Continue;
+    } else {
+        return core_result_ResultFromResidualErrResidual_from_residual_Clear_Field_Refusal_Refusal(t18.u.Break);
     }
-    struct fields_reader_FieldRead read =
-            fields_reader_deliver(slice_u16(buffer.at, n), end.u.Count, gathered.holds, out);
-    return speed_reader_with_clearance(read, gathered.clearance);
+    struct Result_Field_Refusal t22 = fields_reader_deliver(slice_u16(buffer.at, n), used, gathered.holds, out);
+    struct ControlFlow_ErrResidual_Refusal_Field t21 = core_result_ResultTry_branch_Field_Refusal(t22);
+    struct fields_reader_Field read;
+    if (t21.tag == ControlFlow_ErrResidual_Refusal_Field_Continue) {
+        read = t21.u.Continue;
+    } else {
+        return core_result_ResultFromResidualErrResidual_from_residual_Clear_Field_Refusal_Refusal(t21.u.Break);
+    }
+    uint16_t clearance = gathered.clearance;
+    return (struct Result_Clear_Field_Refusal){.tag = Result_Clear_Field_Refusal_Ok,
+            .u.Ok = {.read = read, .clearance = clearance}};
 }
 
 /* speed::reader::read_checked, crates/speed/src/reader.rt: A short field has a short buffer. */
-static struct clearance_ClearFieldRead speed_reader_read_checked(struct timing_Profile p, struct pace_Pace pace,
+static struct Result_Clear_Field_Refusal speed_reader_read_checked(struct timing_Profile p, struct pace_Pace pace,
         struct slice_u16 intervals, uint64_t n, struct slice_u16_mut out) {
     if (n <= 16) {
         struct array_u16_16 buffer = {0};
@@ -4876,51 +5329,64 @@ static struct clearance_ClearFieldRead speed_reader_read_checked(struct timing_P
  * speed::reader::read_slowed, crates/speed/src/reader.rt
  * 12, then as the field reader over the corrected intervals.
  */
-static struct clearance_ClearFieldRead speed_reader_read_slowed(struct timing_Profile p, struct pace_Pace pace,
+static struct Result_Clear_Field_Refusal speed_reader_read_slowed(struct timing_Profile p, struct pace_Pace pace,
         struct slice_u16 intervals, uint64_t n, struct slice_u16_mut out) {
     if ((n < 1) | (1030 < n)) {
-        struct fields_reader_FieldRead t10 =
-                {.tag = fields_reader_FieldRead_Refused, .u.Refused = {.tag = refusal_Refusal_CountOutOfRange}};
-        return speed_reader_with_clearance(t10, 0);
+        return (struct Result_Clear_Field_Refusal){.tag = Result_Clear_Field_Refusal_Err,
+                .u.Err = {.tag = refusal_Refusal_CountOutOfRange}};
     }
     return speed_reader_read_checked(p, pace, intervals, n, out);
 }
 
-/* speed::reader::told, crates/speed/src/reader.rt: A field with the lock's place and the differences. */
-static struct speed_reader_Corrected speed_reader_told(struct pace_Pace pace, uint64_t lock,
-        struct clearance_ClearFieldRead field) {
-    struct fields_reader_FieldRead read = field.read;
-    if (read.tag == fields_reader_FieldRead_Refused) return speed_reader_turn_away(read.u.Refused);
-    uint32_t t11 = pace_difference(pace.nominal, pace.even);
-    return (struct speed_reader_Corrected){.read = {.tag = fields_reader_FieldRead_Field,
-            .u.Field = {.count = read.u.Field.count, .used = read.u.Field.used, .holds = read.u.Field.holds}},
-            .clearance = field.clearance, .lock = lock, .even = t11, .odd = pace_difference(pace.nominal, pace.odd)};
-}
-
 /* speed::reader::read_at, crates/speed/src/reader.rt: At a lock: 18, then as the field reader. */
-static struct speed_reader_Corrected speed_reader_read_at(struct timing_Profile p, struct slice_u16 intervals,
+static struct Result_Corrected_Refusal speed_reader_read_at(struct timing_Profile p, struct slice_u16 intervals,
         uint64_t lock, uint64_t n, struct slice_u16_mut out) {
-    uint64_t t10 = lock - 64;
-    struct pace_Pace pace = pace_Pace_measured(p.t1, slice_u16(intervals.at + t10, lock - t10));
-    struct refusal_Verdict t16 = pace_Pace_check(pace);
-    if (t16.tag == refusal_Verdict_Refused) return speed_reader_turn_away(t16.u.Refused);
-    struct clearance_ClearFieldRead field =
+    uint64_t t15 = lock - 64;
+    struct pace_Pace pace = pace_Pace_measured(p.t1, slice_u16(intervals.at + t15, lock - t15));
+    struct ControlFlow_ErrResidual_Refusal_unit t21 = core_result_ResultTry_branch_unit_Refusal(pace_Pace_check(pace));
+    if (t21.tag != ControlFlow_ErrResidual_Refusal_unit_Continue) {
+        return core_result_ResultFromResidualErrResidual_from_residual_Corrected_Refusal_Refusal(t21.u.Break);
+    }
+    struct Result_Clear_Field_Refusal t24 =
             speed_reader_read_slowed(p, pace, slice_u16(intervals.at + lock, intervals.len - lock), n, out);
-    return speed_reader_told(pace, lock, field);
+    struct ControlFlow_ErrResidual_Refusal_Clear_Field t23 = core_result_ResultTry_branch_Clear_Field_Refusal(t24);
+    struct clearance_Clear_Field field;
+    if (t23.tag == ControlFlow_ErrResidual_Refusal_Clear_Field_Continue) {
+        field = t23.u.Continue;
+    } else {
+        return core_result_ResultFromResidualErrResidual_from_residual_Corrected_Refusal_Refusal(t23.u.Break);
+    }
+    uint32_t even = pace_difference(pace.nominal, pace.even);
+    uint32_t odd = pace_difference(pace.nominal, pace.odd);
+    return (struct Result_Corrected_Refusal){.tag = Result_Corrected_Refusal_Ok,
+            .u.Ok = {.field = field, .lock = lock, .even = even, .odd = odd}};
 }
 
 /*
  * speed::reader::read_corrected, crates/speed/src/reader.rt
  * 1, 2, 10, 18, 12, then 5, 6 or 11 as first met, 8, 9; places of 5, 6 and 8 count from the lock.
  */
-static struct speed_reader_Corrected speed_reader_read_corrected(struct timing_Profile p, struct slice_u16 intervals,
+static struct Result_Corrected_Refusal speed_reader_read_corrected(struct timing_Profile p, struct slice_u16 intervals,
         uint64_t start, uint64_t n, struct slice_u16_mut out) {
-    struct refusal_Counted t8 = locks_finder_find_lock(p, intervals, start);
-    if (t8.tag == refusal_Counted_Refused) return speed_reader_turn_away(t8.u.Refused);
-    return speed_reader_read_at(p, intervals, t8.u.Count, n, out);
+    struct ControlFlow_ErrResidual_Refusal_u64 t9 =
+            core_result_ResultTry_branch_u64_Refusal(locks_finder_find_lock(p, intervals, start));
+    uint64_t lock;
+    if (t9.tag == ControlFlow_ErrResidual_Refusal_u64_Continue) {
+        lock = t9.u.Continue;
+    } else {
+        return core_result_ResultFromResidualErrResidual_from_residual_Corrected_Refusal_Refusal(t9.u.Break);
+    }
+    return speed_reader_read_at(p, intervals, lock, n, out);
 }
 
 /* The crate limits */
+
+/* core::result::ResultFromResidualErrResidual::from_residual<Limits, Refusal, Refusal>, of the kit's library */
+static struct Result_Limits_Refusal
+        core_result_ResultFromResidualErrResidual_from_residual_Limits_Refusal_Refusal(struct ErrResidual_Refusal p1) {
+    return (struct Result_Limits_Refusal){.tag = Result_Limits_Refusal_Err,
+            .u.Err = core_convert_AnyFrom_from_Refusal(p1.f0)};
+}
 
 /*
  * limits::side::counts, crates/limits/src/side.rt
@@ -4978,51 +5444,56 @@ static bool limits_side_crosses(struct timing_Profile p, struct limits_side_Side
 
 /* limits::side::is_two, crates/limits/src/side.rt: Whether the next interval is of class 2. */
 static bool limits_side_is_two(struct timing_Profile p, bool two, uint16_t length) {
-    struct timing_Class class = timing_cursor_Cursor_step(timing_cursor_Cursor_after(p, two), length).class;
-    return timing_Class_number(class) == 2;
+    struct timing_cursor_Classed t6 = timing_cursor_Cursor_step(timing_cursor_Cursor_after(p, two), length);
+    return timing_ClassPartialEq_eq(&t6.class, &limits_side_is_two_constant);
 }
 
 /* limits::search::first_seen, crates/limits/src/search.rt: The first of some intervals that crosses. */
-static struct limits_search_Seen limits_search_first_seen(struct timing_Profile p, struct limits_side_Side s,
-        uint16_t n, uint16_t item, struct slice_u16 intervals) {
+static struct Option_Evidence limits_search_first_seen(struct timing_Profile p, struct limits_side_Side s, uint16_t n,
+        uint16_t item, struct slice_u16 intervals) {
     bool two = true;
     uint64_t k = 0;
-    while (k < intervals.len) {
+    uint64_t t9 = intervals.len;
+    while (k < t9) {
         uint16_t d = intervals.at[k];
         if (limits_side_crosses(p, s, n, two, d)) {
-            return (struct limits_search_Seen){.tag = limits_search_Seen_At,
-                    .u.At = {.item = item, .interval = (uint16_t)k}};
+            return (struct Option_Evidence){.tag = Option_Evidence_Some,
+                    .u.Some = {.item = item, .interval = (uint16_t)k}};
         }
         two = limits_side_is_two(p, two, d);
         k++;
     }
-    return (struct limits_search_Seen){.tag = limits_search_Seen_Nowhere};
+    return (struct Option_Evidence){.tag = Option_Evidence_None};
 }
 
 /* limits::search::seen_in, crates/limits/src/search.rt: A byte ends eight cells at most and the closing 0s two. */
-static struct limits_search_Seen limits_search_seen_in(struct timing_Profile p, struct limits_side_Side s, uint16_t n,
+static struct Option_Evidence limits_search_seen_in(struct timing_Profile p, struct limits_side_Side s, uint16_t n,
         uint16_t item) {
     struct array_u16_1 items = {{item}};
     struct array_u16_10 out = {0};
-    struct refusal_Counted t8 = codec_writer_write(p, slice_u16(items.a, 1), slice_u16_mut(out.a, 10));
-    if (t8.tag == refusal_Counted_Refused) {
-        return (struct limits_search_Seen){.tag = limits_search_Seen_Nowhere};
-    }
-    return limits_search_first_seen(p, s, n, item, slice_u16(out.a, t8.u.Count));
+    struct Result_u64_Refusal t8 = codec_writer_write(p, slice_u16(items.a, 1), slice_u16_mut(out.a, 10));
+    if (t8.tag == Result_u64_Refusal_Err) return (struct Option_Evidence){.tag = Option_Evidence_None};
+    return limits_search_first_seen(p, s, n, item, slice_u16(out.a, t8.u.Ok));
+}
+
+/* core::option::Option::is_some<Evidence>, of the kit's library */
+static bool core_option_Option_is_some_Evidence(const struct Option_Evidence *p1) {
+    if (p1->tag == Option_Evidence_Some) return true;
+    return false;
 }
 
 /*
  * limits::search::search, crates/limits/src/search.rt
  * Of all lengths that any list can have, those nearest to the edges stand in the lists up to 1B: no side is missed.
  */
-static struct limits_search_Seen limits_search_search(struct timing_Profile p, struct limits_side_Side s, uint16_t n) {
+static struct Option_Evidence limits_search_search(struct timing_Profile p, struct limits_side_Side s, uint16_t n) {
     uint16_t item = 0;
     while (item <= 27) {
-        struct limits_search_Seen seen = limits_search_seen_in(p, s, n, item);
-        if (seen.tag == limits_search_Seen_At) return seen;
+        struct Option_Evidence seen = limits_search_seen_in(p, s, n, item);
+        if (core_option_Option_is_some_Evidence(&seen)) return seen;
         item++;
     }
-    return (struct limits_search_Seen){.tag = limits_search_Seen_Nowhere};
+    return (struct Option_Evidence){.tag = Option_Evidence_None};
 }
 
 /* limits::side::beyond, crates/limits/src/side.rt: The first length on the other side of the edge. */
@@ -5030,10 +5501,7 @@ static uint16_t limits_side_beyond(struct timing_Profile p, struct limits_side_S
     struct limits_side_Edge edge = s.edge;
     struct limits_side_Kind after = s.after;
     uint16_t there = limits_side_edge_of(p, edge, after);
-    if (s.above) {
-        if (there < 1) return 0;
-        return there - 1;
-    }
+    if (s.above) return core_int_u16_saturating_sub(there, 1);
     return there;
 }
 
@@ -5043,13 +5511,13 @@ static struct limits_Limits limits_push(struct timing_Profile p, uint16_t n, str
     struct limits_side_Side side = {.edge = edge, .after = after, .above = above};
     uint64_t at = made.count;
     struct array_limits_Limit_10 limits = made.limits;
-    struct limits_search_Seen t13 = limits_search_search(p, side, n);
-    if (t13.tag == limits_search_Seen_Nowhere) return made;
-    uint16_t item = t13.u.At.item;
-    uint16_t interval = t13.u.At.interval;
+    struct Option_Evidence t12 = limits_search_search(p, side, n);
+    if (t12.tag == Option_Evidence_None) return made;
+    struct limits_search_Evidence shown = t12.u.Some;
     if (at < 10) {
         uint16_t moved = limits_side_beyond(p, side);
-        limits.a[at] = (struct limits_Limit){.side = side, .item = item, .interval = interval, .moved = moved};
+        limits.a[at] =
+                (struct limits_Limit){.side = side, .item = shown.item, .interval = shown.interval, .moved = moved};
         return (struct limits_Limits){.count = at + 1, .limits = limits};
     }
     return made;
@@ -5094,21 +5562,15 @@ static struct limits_Limits limits_gather(struct timing_Profile p, uint16_t n) {
 }
 
 /* limits::margin_limits, crates/limits/src/lib.rt: 1, 2, as for the margin; else the sides that hold it down. */
-static struct limits_Held limits_margin_limits(struct timing_Profile p) {
-    struct refusal_Counted t6 = lengths_margin(p);
-    if (t6.tag == refusal_Counted_Refused) {
-        struct limits_Limit t12 = {.side = {.edge = {.tag = limits_side_Edge_Min},
-                .after = {.tag = limits_side_Kind_Both}, .above = false}, .item = 0, .interval = 0, .moved = 0};
-        struct array_limits_Limit_10 t13;
-        for (uint64_t each = 0; each < 10; each++) {
-            t13.a[each] = t12;
-        }
-        return (struct limits_Held){.answer = {.tag = refusal_Counted_Refused, .u.Refused = t6.u.Refused},
-                .limits = t13};
+static struct Result_Limits_Refusal limits_margin_limits(struct timing_Profile p) {
+    struct ControlFlow_ErrResidual_Refusal_u64 t5 = core_result_ResultTry_branch_u64_Refusal(lengths_margin(p));
+    uint64_t m;
+    if (t5.tag == ControlFlow_ErrResidual_Refusal_u64_Continue) {
+        m = t5.u.Continue;
+    } else {
+        return core_result_ResultFromResidualErrResidual_from_residual_Limits_Refusal_Refusal(t5.u.Break);
     }
-    struct limits_Limits found = limits_gather(p, (uint16_t)t6.u.Count + 1);
-    struct array_limits_Limit_10 limits = found.limits;
-    return (struct limits_Held){.answer = {.tag = refusal_Counted_Count, .u.Count = found.count}, .limits = limits};
+    return (struct Result_Limits_Refusal){.tag = Result_Limits_Refusal_Ok, .u.Ok = limits_gather(p, (uint16_t)m + 1)};
 }
 
 /* The crate best */
@@ -5124,16 +5586,15 @@ static struct timing_Profile best_trial_trial(struct best_Writing w) {
             .rpt = {.f0 = 1}};
 }
 
-/*
- * best::trial::lowest_unset, crates/best/src/trial.rt
- * Which of the five is the first out of range, from 1; 0 for none.
- */
-static uint32_t best_trial_lowest_unset(struct best_Writing w) {
-    struct refusal_Verdict t3 = timing_rule_check(best_trial_trial(w));
-    if (t3.tag == refusal_Verdict_Accepted) return 0;
-    struct refusal_Refusal refusal = t3.u.Refused;
-    if (refusal_Refusal_number(refusal) == 1) return refusal_Refusal_place(refusal);
-    return 0;
+/* best::trial::lowest_unset, crates/best/src/trial.rt: Which of the five is the first out of range, from 1. */
+static struct Option_u32 best_trial_lowest_unset(struct best_Writing w) {
+    struct Result_unit_Refusal t4 = timing_rule_check(best_trial_trial(w));
+    if (t4.tag == Result_unit_Refusal_Ok) return (struct Option_u32){.tag = Option_u32_None};
+    struct refusal_Refusal refusal = t4.u.Err;
+    if (refusal.tag == refusal_Refusal_ProfileOutOfRange) {
+        return (struct Option_u32){.tag = Option_u32_Some, .u.Some = refusal.u.ProfileOutOfRange};
+    }
+    return (struct Option_u32){.tag = Option_u32_None};
 }
 
 /* best::windows::shifts_of, crates/best/src/windows.rt */
@@ -5150,16 +5611,10 @@ static bool best_windows_has_windows(struct best_Writing w) {
     return (w.early.f0 <= w.normal.f0) & (w.normal.f0 <= w.late.f0) & (s.d < w.t1.f0) & (s.l < w.t0.f0);
 }
 
-/* best::windows::least, crates/best/src/windows.rt */
-static uint16_t best_windows_least(uint16_t a, uint16_t b) {
-    if (a < b) return a;
-    return b;
-}
-
 /* best::windows::best_margin, crates/best/src/windows.rt: The largest margin that any windows have. */
 static uint16_t best_windows_best_margin(struct best_Writing w) {
     struct best_windows_Shifts s = best_windows_shifts_of(w);
-    return best_windows_least(w.t1.f0 - s.d - 1, (w.t0.f0 - s.l - 1) / 2);
+    return core_int_u16_min(w.t1.f0 - s.d - 1, (w.t0.f0 - s.l - 1) / 2);
 }
 
 /*
@@ -5191,49 +5646,51 @@ static struct timing_Profile best_windows_centred(struct best_Writing w, uint16_
 }
 
 /* best::best_windows, crates/best/src/lib.rt: 1, 2; else the profile with the largest margin. */
-static struct best_Best best_best_windows(struct best_Writing w) {
-    uint32_t which = best_trial_lowest_unset(w);
-    struct best_Best result;
-    if (which != 0) {
-        result = (struct best_Best){.answer = {.tag = refusal_Counted_Refused,
-                .u.Refused = {.tag = refusal_Refusal_ProfileOutOfRange, .u.ProfileOutOfRange = which}},
-                .profile = {.t1 = {.f0 = 0}, .t0 = {.f0 = 0}, .early = {.f0 = 0}, .normal = {.f0 = 0},
-                .late = {.f0 = 0}, .min = {.f0 = 0}, .short_ = {.b23 = {.f0 = 0}, .b34 = {.f0 = 0}},
-                .long_ = {.b23 = {.f0 = 0}, .b34 = {.f0 = 0}}, .rpt = {.f0 = 0}}};
-        return result;
+static struct Result_Best_Refusal best_best_windows(struct best_Writing w) {
+    struct Option_u32 t5 = best_trial_lowest_unset(w);
+    if (t5.tag == Option_u32_Some) {
+        uint32_t which = t5.u.Some;
+        return (struct Result_Best_Refusal){.tag = Result_Best_Refusal_Err,
+                .u.Err = {.tag = refusal_Refusal_ProfileOutOfRange, .u.ProfileOutOfRange = which}};
     }
     if (best_windows_has_windows(w)) {
         uint16_t margin = best_windows_best_margin(w);
         struct timing_Profile profile = best_windows_centred(w, margin);
-        return (struct best_Best){.answer = {.tag = refusal_Counted_Count, .u.Count = (uint64_t)margin},
-                .profile = profile};
+        return (struct Result_Best_Refusal){.tag = Result_Best_Refusal_Ok,
+                .u.Ok = {.margin = margin, .profile = profile}};
     }
-    result = (struct best_Best){.answer = {.tag = refusal_Counted_Refused,
-            .u.Refused = {.tag = refusal_Refusal_ProfileInconsistent}},
-            .profile = {.t1 = {.f0 = 0}, .t0 = {.f0 = 0}, .early = {.f0 = 0}, .normal = {.f0 = 0}, .late = {.f0 = 0},
-            .min = {.f0 = 0}, .short_ = {.b23 = {.f0 = 0}, .b34 = {.f0 = 0}},
-            .long_ = {.b23 = {.f0 = 0}, .b34 = {.f0 = 0}}, .rpt = {.f0 = 0}}};
-    return result;
+    return (struct Result_Best_Refusal){.tag = Result_Best_Refusal_Err,
+            .u.Err = {.tag = refusal_Refusal_ProfileInconsistent}};
 }
 
 /* The crate answers */
 
-/* answers::profile, crates/answers/src/lib.rt */
-static struct timing_Profile answers_profile(ism_profile p) {
-    struct array_u16_11 numbers =
-            {{p.t1, p.t0, p.early, p.normal, p.late, p.min, p.b23_short, p.b23_long, p.b34_short, p.b34_long, p.rpt}};
-    return timing_Profile_from_numbers(&numbers);
+/* answers::ProfileFromIsmProfile::from, crates/answers/src/lib.rt */
+static struct timing_Profile answers_ProfileFromIsmProfile_from(ism_profile given) {
+    struct array_u16_11 numbers = {{given.t1, given.t0, given.early, given.normal, given.late, given.min,
+            given.b23_short, given.b23_long, given.b34_short, given.b34_long, given.rpt}};
+    return timing_ProfileFromRefArrayU16PROFILENUMBERS_from(&numbers);
 }
 
-/* answers::answer, crates/answers/src/lib.rt */
-static ism_answer answers_answer(struct refusal_Counted counted) {
-    uint32_t t2 = refusal_Counted_number(counted);
-    uint32_t t3 = refusal_Counted_place(counted);
-    return (ism_answer){.number = t2, .place = t3, .count = refusal_Counted_count(counted), .used = 0, .holds = 0,
+/* answers::IsmAnswer::refused, crates/answers/src/lib.rt: A refusal, by its number and place. */
+static ism_answer answers_IsmAnswer_refused(struct refusal_Refusal refusal) {
+    uint32_t t2 = refusal_Refusal_number(refusal);
+    return (ism_answer){.number = t2, .place = refusal_Refusal_place(refusal), .count = 0, .used = 0, .holds = 0,
             .clearance = 0};
 }
 
-/* answers::card::edge_number, crates/answers/src/card.rt */
+/* answers::IsmAnswerFromResultUsizeRefusal::from, crates/answers/src/lib.rt */
+static ism_answer answers_IsmAnswerFromResultUsizeRefusal_from(struct Result_u64_Refusal counted) {
+    if (counted.tag == Result_u64_Refusal_Ok) {
+        return (ism_answer){.number = 0, .place = 0, .count = counted.u.Ok, .used = 0, .holds = 0, .clearance = 0};
+    }
+    return answers_IsmAnswer_refused(counted.u.Err);
+}
+
+/*
+ * answers::card::edge_number, crates/answers/src/card.rt
+ * Functions, since an impl for u16 would stand where `Edge` and `Kind` do, and these know no numbers of the interface.
+ */
 static uint16_t answers_card_edge_number(struct limits_side_Edge edge) {
     switch (edge.tag) {
     case limits_side_Edge_Min: return 1;
@@ -5252,13 +5709,12 @@ static uint16_t answers_card_kind_number(struct limits_side_Kind after) {
     }
 }
 
-/* answers::card::numbers_of, crates/answers/src/card.rt */
-static ism_limit answers_card_numbers_of(struct limits_Limit limit) {
+/* answers::card::IsmLimitFromLimit::from, crates/answers/src/card.rt */
+static ism_limit answers_card_IsmLimitFromLimit_from(struct limits_Limit limit) {
     struct limits_side_Side side = limit.side;
-    struct limits_side_Edge edge = side.edge;
-    struct limits_side_Kind after = side.after;
-    uint16_t t5 = answers_card_edge_number(edge);
-    return (ism_limit){.edge = t5, .after = answers_card_kind_number(after), .above = (uint16_t)side.above,
+    uint16_t t3 = answers_card_edge_number(side.edge);
+    uint16_t t5 = answers_card_kind_number(side.after);
+    return (ism_limit){.edge = t3, .after = t5, .above = core_convert_others_U16FromBool_from(side.above),
             .item = limit.item, .interval = limit.interval, .moved = limit.moved};
 }
 
@@ -5267,85 +5723,129 @@ static struct array_answers_card_IsmLimit_10 answers_card_converted(struct array
         uint64_t count) {
     struct array_answers_card_IsmLimit_10 made = {0};
     uint64_t k = 0;
-    while (k < count) {
-        made.a[k] = answers_card_numbers_of(limits.a[k]);
+    uint64_t t7 = core_int_usize_min(count, 10);
+    while (k < t7) {
+        made.a[k] = answers_card_IsmLimitFromLimit_from(limits.a[k]);
         k++;
     }
     return made;
 }
 
-/* answers::windows::numbers, crates/answers/src/windows.rt: A profile as it crosses the interface. */
-static ism_profile answers_windows_numbers(struct timing_Profile p) {
+/* answers::card::IsmLimitsFromResultLimitsRefusal::from, crates/answers/src/card.rt */
+static ism_limits answers_card_IsmLimitsFromResultLimitsRefusal_from(struct Result_Limits_Refusal given) {
+    ism_limits t6;
+    if (given.tag == Result_Limits_Refusal_Ok) {
+        struct limits_Limits found = given.u.Ok;
+        struct array_limits_Limit_10 limits = found.limits;
+        struct array_answers_card_IsmLimit_10 made = answers_card_converted(limits, found.count);
+        t6.number = 0;
+        t6.place = 0;
+        t6.count = found.count;
+        for (uint64_t each = 0; each < 10; each++) {
+            t6.limits[each] = made.a[each];
+        }
+        return t6;
+    }
+    struct refusal_Refusal refusal = given.u.Err;
+    uint32_t t8 = refusal_Refusal_number(refusal);
+    t6.number = t8;
+    t6.place = refusal_Refusal_place(refusal);
+    t6.count = 0;
+    for (uint64_t each = 0; each < 10; each++) {
+        t6.limits[each] = (struct array_answers_card_IsmLimit_10){0}.a[each];
+    }
+    return t6;
+}
+
+/* answers::windows::IsmProfileFromProfile::from, crates/answers/src/windows.rt */
+static ism_profile answers_windows_IsmProfileFromProfile_from(struct timing_Profile p) {
     return (ism_profile){.t1 = p.t1.f0, .t0 = p.t0.f0, .early = p.early.f0, .normal = p.normal.f0, .late = p.late.f0,
             .min = p.min.f0, .b23_short = p.short_.b23.f0, .b23_long = p.long_.b23.f0, .b34_short = p.short_.b34.f0,
             .b34_long = p.long_.b34.f0, .rpt = p.rpt.f0};
 }
 
-/* answers::clear_answer, crates/answers/src/lib.rt: A class or a strip, with its clearance. */
-static ism_answer answers_clear_answer(struct clearance_ClearCount given) {
-    struct refusal_Counted counted = given.counted;
-    uint32_t t3 = refusal_Counted_number(counted);
-    uint32_t t4 = refusal_Counted_place(counted);
-    return (ism_answer){.number = t3, .place = t4, .count = refusal_Counted_count(counted), .used = 0, .holds = 0,
-            .clearance = (uint32_t)given.clearance};
-}
-
-/* answers::field_answer, crates/answers/src/lib.rt */
-static ism_answer answers_field_answer(struct clearance_ClearFieldRead field) {
-    struct fields_reader_FieldRead read = field.read;
-    if (read.tag == fields_reader_FieldRead_Field) {
-        return (ism_answer){.number = 0, .place = 0, .count = read.u.Field.count, .used = read.u.Field.used,
-                .holds = (uint32_t)read.u.Field.holds, .clearance = (uint32_t)field.clearance};
+/* answers::windows::IsmBestFromResultBestRefusal::from, crates/answers/src/windows.rt */
+static ism_best answers_windows_IsmBestFromResultBestRefusal_from(struct Result_Best_Refusal given) {
+    if (given.tag == Result_Best_Refusal_Ok) {
+        uint64_t t6 = core_convert_U64FromU16_from(given.u.Ok.margin);
+        return (ism_best){.number = 0, .place = 0, .margin = t6,
+                .profile = answers_windows_IsmProfileFromProfile_from(given.u.Ok.profile)};
     }
-    struct refusal_Refusal refusal = read.u.Refused;
-    uint32_t t12 = refusal_Refusal_number(refusal);
-    return (ism_answer){.number = t12, .place = refusal_Refusal_place(refusal), .count = 0, .used = 0, .holds = 0,
-            .clearance = (uint32_t)field.clearance};
-}
-
-/* answers::slow::corrected_answer, crates/answers/src/slow.rt */
-static ism_corrected answers_slow_corrected_answer(struct speed_reader_Corrected corrected) {
-    struct fields_reader_FieldRead read = corrected.read;
-    if (read.tag == fields_reader_FieldRead_Field) {
-        return (ism_corrected){.number = 0, .place = 0, .lock = corrected.lock, .count = read.u.Field.count,
-                .used = read.u.Field.used, .holds = (uint32_t)read.u.Field.holds,
-                .clearance = (uint32_t)corrected.clearance, .even = as_int32(corrected.even),
-                .odd = as_int32(corrected.odd)};
-    }
-    struct refusal_Refusal refusal = read.u.Refused;
-    uint32_t t13 = refusal_Refusal_number(refusal);
-    return (ism_corrected){.number = t13, .place = refusal_Refusal_place(refusal), .lock = corrected.lock, .count = 0,
-            .used = 0, .holds = 0, .clearance = (uint32_t)corrected.clearance, .even = as_int32(corrected.even),
-            .odd = as_int32(corrected.odd)};
-}
-
-/* answers::merged_answer, crates/answers/src/lib.rt */
-static ism_answer answers_merged_answer(struct merge_Merged merged) {
-    if (merged.tag == merge_Merged_Set) {
-        return (ism_answer){.number = 0, .place = 0, .count = merged.u.Set.count, .used = merged.u.Set.bytes,
-                .holds = 0, .clearance = 0};
-    }
-    struct refusal_Refusal refusal = merged.u.Refused;
+    struct refusal_Refusal refusal = given.u.Err;
     uint32_t t8 = refusal_Refusal_number(refusal);
-    return (ism_answer){.number = t8, .place = refusal_Refusal_place(refusal), .count = 0, .used = 0, .holds = 0,
-            .clearance = 0};
+    return (ism_best){.number = t8, .place = refusal_Refusal_place(refusal), .margin = 0,
+            .profile = {.t1 = 0, .t0 = 0, .early = 0, .normal = 0, .late = 0, .min = 0, .b23_short = 0, .b23_long = 0,
+            .b34_short = 0, .b34_long = 0, .rpt = 0}};
 }
 
-/* answers::drive::row, crates/answers/src/drive.rt */
-static ism_report_row answers_drive_row(struct array_u64_4 numbers) {
-    return (ism_report_row){.count = numbers.a[0], .least = numbers.a[1], .greatest = numbers.a[2],
-            .sum = numbers.a[3]};
+/* answers::IsmAnswerFromResultClearUsizeRefusal::from, crates/answers/src/lib.rt */
+static ism_answer answers_IsmAnswerFromResultClearUsizeRefusal_from(struct Result_Clear_u64_Refusal given) {
+    if (given.tag == Result_Clear_u64_Refusal_Ok) {
+        return (ism_answer){.number = 0, .place = 0, .count = given.u.Ok.read, .used = 0, .holds = 0,
+                .clearance = core_convert_U32FromU16_from(given.u.Ok.clearance)};
+    }
+    return answers_IsmAnswer_refused(given.u.Err);
+}
+
+/* answers::IsmAnswerFromResultClearFieldRefusal::from, crates/answers/src/lib.rt */
+static ism_answer answers_IsmAnswerFromResultClearFieldRefusal_from(struct Result_Clear_Field_Refusal given) {
+    if (given.tag == Result_Clear_Field_Refusal_Ok) {
+        struct fields_reader_Field read = given.u.Ok.read;
+        uint32_t t8 = core_convert_others_U32FromBool_from(read.holds);
+        return (ism_answer){.number = 0, .place = 0, .count = read.count, .used = read.used, .holds = t8,
+                .clearance = core_convert_U32FromU16_from(given.u.Ok.clearance)};
+    }
+    return answers_IsmAnswer_refused(given.u.Err);
+}
+
+/* answers::slow::IsmCorrectedFromResultCorrectedRefusal::from, crates/answers/src/slow.rt */
+static ism_corrected answers_slow_IsmCorrectedFromResultCorrectedRefusal_from(struct Result_Corrected_Refusal given) {
+    if (given.tag == Result_Corrected_Refusal_Ok) {
+        struct fields_reader_Field read = given.u.Ok.field.read;
+        uint32_t t12 = core_convert_others_U32FromBool_from(read.holds);
+        return (ism_corrected){.number = 0, .place = 0, .lock = given.u.Ok.lock, .count = read.count, .used = read.used,
+                .holds = t12, .clearance = core_convert_U32FromU16_from(given.u.Ok.field.clearance),
+                .even = as_int32(given.u.Ok.even), .odd = as_int32(given.u.Ok.odd)};
+    }
+    struct refusal_Refusal refusal = given.u.Err;
+    uint32_t t14 = refusal_Refusal_number(refusal);
+    return (ism_corrected){.number = t14, .place = refusal_Refusal_place(refusal), .lock = 0, .count = 0, .used = 0,
+            .holds = 0, .clearance = 0, .even = 0, .odd = 0};
+}
+
+/* answers::IsmAnswerFromResultSetSizeRefusal::from, crates/answers/src/lib.rt */
+static ism_answer answers_IsmAnswerFromResultSetSizeRefusal_from(struct Result_SetSize_Refusal given) {
+    if (given.tag == Result_SetSize_Refusal_Ok) {
+        return (ism_answer){.number = 0, .place = 0, .count = given.u.Ok.count, .used = given.u.Ok.bytes, .holds = 0,
+                .clearance = 0};
+    }
+    return answers_IsmAnswer_refused(given.u.Err);
+}
+
+/* answers::drive::IsmReportRowFromArrayU644::from, crates/answers/src/drive.rt */
+static ism_report_row answers_drive_IsmReportRowFromArrayU644_from(struct array_u64_4 numbers) {
+    uint64_t count = numbers.a[0];
+    uint64_t least = numbers.a[1];
+    uint64_t greatest = numbers.a[2];
+    uint64_t sum = numbers.a[3];
+    return (ism_report_row){.count = count, .least = least, .greatest = greatest, .sum = sum};
 }
 
 /* answers::drive::given, crates/answers/src/drive.rt */
-static ism_report answers_drive_given(struct refusal_Verdict verdict, struct array_u64_4_5 report) {
-    ism_report_row t6 = answers_drive_row(report.a[0]);
-    ism_report_row t10 = answers_drive_row(report.a[1]);
-    ism_report_row t14 = answers_drive_row(report.a[2]);
-    ism_report_row t18 = answers_drive_row(report.a[3]);
-    struct array_answers_drive_IsmReportRow_5 rows = {{t6, t10, t14, t18, answers_drive_row(report.a[4])}};
+static ism_report answers_drive_given(struct Result_unit_Refusal verdict, struct array_u64_4_5 report) {
+    struct array_u64_4 narrow = report.a[0];
+    struct array_u64_4 two = report.a[1];
+    struct array_u64_4 three = report.a[2];
+    struct array_u64_4 four = report.a[3];
+    struct array_u64_4 wide = report.a[4];
+    ism_report_row t21 = answers_drive_IsmReportRowFromArrayU644_from(narrow);
+    ism_report_row t22 = answers_drive_IsmReportRowFromArrayU644_from(two);
+    ism_report_row t23 = answers_drive_IsmReportRowFromArrayU644_from(three);
+    ism_report_row t24 = answers_drive_IsmReportRowFromArrayU644_from(four);
+    struct array_answers_drive_IsmReportRow_5 rows =
+            {{t21, t22, t23, t24, answers_drive_IsmReportRowFromArrayU644_from(wide)}};
     ism_report t26;
-    if (verdict.tag == refusal_Verdict_Accepted) {
+    if (verdict.tag == Result_unit_Refusal_Ok) {
         t26.number = 0;
         t26.place = 0;
         for (uint64_t each = 0; each < 5; each++) {
@@ -5353,7 +5853,7 @@ static ism_report answers_drive_given(struct refusal_Verdict verdict, struct arr
         }
         return t26;
     }
-    struct refusal_Refusal refusal = verdict.u.Refused;
+    struct refusal_Refusal refusal = verdict.u.Err;
     uint32_t t27 = refusal_Refusal_number(refusal);
     t26.number = t27;
     t26.place = refusal_Refusal_place(refusal);
@@ -5363,25 +5863,23 @@ static ism_report answers_drive_given(struct refusal_Verdict verdict, struct arr
     return t26;
 }
 
-/* answers::drive::numbers, crates/answers/src/drive.rt */
-static struct array_u64_4 answers_drive_numbers(ism_report_row row) {
+/* answers::drive::ArrayU644FromIsmReportRow::from, crates/answers/src/drive.rt */
+static struct array_u64_4 answers_drive_ArrayU644FromIsmReportRow_from(ism_report_row row) {
     return (struct array_u64_4){{row.count, row.least, row.greatest, row.sum}};
 }
 
-/*
- * answers::drive::rows, crates/answers/src/drive.rt
- * The rows of a report that came in, whatever its number and place.
- */
-static struct array_u64_4_5 answers_drive_rows(ism_report report) {
-    struct array_answers_drive_IsmReportRow_5 rows;
-    for (uint64_t each = 0; each < 5; each++) {
-        rows.a[each] = report.rows[each];
-    }
-    struct array_u64_4 t3 = answers_drive_numbers(rows.a[0]);
-    struct array_u64_4 t7 = answers_drive_numbers(rows.a[1]);
-    struct array_u64_4 t11 = answers_drive_numbers(rows.a[2]);
-    struct array_u64_4 t15 = answers_drive_numbers(rows.a[3]);
-    return (struct array_u64_4_5){{t3, t7, t11, t15, answers_drive_numbers(rows.a[4])}};
+/* answers::drive::ReportFromIsmReport::from, crates/answers/src/drive.rt */
+static struct array_u64_4_5 answers_drive_ReportFromIsmReport_from(ism_report given) {
+    ism_report_row narrow = given.rows[0];
+    ism_report_row two = given.rows[1];
+    ism_report_row three = given.rows[2];
+    ism_report_row four = given.rows[3];
+    ism_report_row wide = given.rows[4];
+    struct array_u64_4 t18 = answers_drive_ArrayU644FromIsmReportRow_from(narrow);
+    struct array_u64_4 t19 = answers_drive_ArrayU644FromIsmReportRow_from(two);
+    struct array_u64_4 t20 = answers_drive_ArrayU644FromIsmReportRow_from(three);
+    struct array_u64_4 t21 = answers_drive_ArrayU644FromIsmReportRow_from(four);
+    return (struct array_u64_4_5){{t18, t19, t20, t21, answers_drive_ArrayU644FromIsmReportRow_from(wide)}};
 }
 
 /* The crate ism */
@@ -5401,24 +5899,13 @@ static uint32_t ism_version_ism_interface_9(void) {
 
 /* ism::ism_margin, crates/ism/src/lib.rt */
 static ism_answer ism_ism_margin(ism_profile p) {
-    return answers_answer(lengths_margin(answers_profile(p)));
+    return answers_IsmAnswerFromResultUsizeRefusal_from(lengths_margin(answers_ProfileFromIsmProfile_from(p)));
 }
 
 /* ism::card::ism_margin_limits, crates/ism/src/card.rt: 1, 2; else the sides that hold the margin down. */
 static ism_limits ism_card_ism_margin_limits(ism_profile p) {
-    struct limits_Held held = limits_margin_limits(answers_profile(p));
-    struct refusal_Counted counted = held.answer;
-    struct array_limits_Limit_10 found = held.limits;
-    ism_answer told = answers_answer(counted);
-    struct array_answers_card_IsmLimit_10 limits = answers_card_converted(found, told.count);
-    ism_limits result;
-    result.number = told.number;
-    result.place = told.place;
-    result.count = told.count;
-    for (uint64_t each = 0; each < 10; each++) {
-        result.limits[each] = limits.a[each];
-    }
-    return result;
+    struct Result_Limits_Refusal t2 = limits_margin_limits(answers_ProfileFromIsmProfile_from(p));
+    return answers_card_IsmLimitsFromResultLimitsRefusal_from(t2);
 }
 
 /*
@@ -5426,101 +5913,100 @@ static ism_limits ism_card_ism_margin_limits(ism_profile p) {
  * 1, 2; else the profile with the largest margin that the five numbers allow, and that margin.
  */
 static ism_best ism_windows_ism_best_windows(uint16_t t1, uint16_t t0, uint16_t early, uint16_t normal, uint16_t late) {
-    struct best_Writing t15 = {.t1 = {.f0 = t1}, .t0 = {.f0 = t0}, .early = {.f0 = early}, .normal = {.f0 = normal},
+    struct best_Writing t12 = {.t1 = {.f0 = t1}, .t0 = {.f0 = t0}, .early = {.f0 = early}, .normal = {.f0 = normal},
             .late = {.f0 = late}};
-    struct best_Best best = best_best_windows(t15);
-    struct refusal_Counted counted = best.answer;
-    struct timing_Profile found = best.profile;
-    ism_answer told = answers_answer(counted);
-    return (ism_best){.number = told.number, .place = told.place, .margin = told.count,
-            .profile = answers_windows_numbers(found)};
+    struct Result_Best_Refusal best = best_best_windows(t12);
+    return answers_windows_IsmBestFromResultBestRefusal_from(best);
 }
 
 /* ism::ism_class, crates/ism/src/lib.rt */
 static ism_answer ism_ism_class(ism_profile p, uint16_t interval, uint32_t two) {
-    return answers_clear_answer(clearance_class_number(answers_profile(p), interval, 0 < two));
+    struct Result_Clear_u64_Refusal t4 =
+            clearance_class_number(answers_ProfileFromIsmProfile_from(p), interval, 0 < two);
+    return answers_IsmAnswerFromResultClearUsizeRefusal_from(t4);
 }
 
 /* ism::ism_write, crates/ism/src/lib.rt */
 static ism_answer ism_ism_write(ism_profile p, struct slice_u16 items, struct slice_u16_mut out) {
-    struct refusal_Counted counted = codec_writer_write(answers_profile(p), items, out);
-    return answers_answer(counted);
+    struct Result_u64_Refusal counted = codec_writer_write(answers_ProfileFromIsmProfile_from(p), items, out);
+    return answers_IsmAnswerFromResultUsizeRefusal_from(counted);
 }
 
 /* ism::ism_read, crates/ism/src/lib.rt */
 static ism_answer ism_ism_read(ism_profile p, struct slice_u16 intervals, struct slice_u16_mut out) {
-    struct clearance_ClearCount strip = clearance_read(answers_profile(p), intervals, out);
-    return answers_clear_answer(strip);
+    struct Result_Clear_u64_Refusal strip = clearance_read(answers_ProfileFromIsmProfile_from(p), intervals, out);
+    return answers_IsmAnswerFromResultClearUsizeRefusal_from(strip);
 }
 
 /* ism::disk::ism_find, crates/ism/src/disk.rt */
 static ism_answer ism_disk_ism_find(ism_profile p, struct slice_u16 intervals, uint64_t start) {
-    return answers_answer(locks_finder_find_lock(answers_profile(p), intervals, start));
+    struct Result_u64_Refusal t4 = locks_finder_find_lock(answers_ProfileFromIsmProfile_from(p), intervals, start);
+    return answers_IsmAnswerFromResultUsizeRefusal_from(t4);
 }
 
 /* ism::disk::ism_read_field, crates/ism/src/disk.rt */
 static ism_answer ism_disk_ism_read_field(ism_profile p, struct slice_u16 intervals, uint64_t bytes,
         struct slice_u16_mut out) {
-    struct clearance_ClearFieldRead field = clearance_read_field(answers_profile(p), intervals, bytes, out);
-    return answers_field_answer(field);
+    struct Result_Clear_Field_Refusal field =
+            clearance_read_field(answers_ProfileFromIsmProfile_from(p), intervals, bytes, out);
+    return answers_IsmAnswerFromResultClearFieldRefusal_from(field);
 }
 
 /* ism::slow::ism_read_corrected, crates/ism/src/slow.rt */
 static ism_corrected ism_slow_ism_read_corrected(ism_profile p, struct slice_u16 intervals, uint64_t start,
         uint64_t bytes, struct slice_u16_mut out) {
-    struct speed_reader_Corrected corrected =
-            speed_reader_read_corrected(answers_profile(p), intervals, start, bytes, out);
-    return answers_slow_corrected_answer(corrected);
+    struct Result_Corrected_Refusal corrected =
+            speed_reader_read_corrected(answers_ProfileFromIsmProfile_from(p), intervals, start, bytes, out);
+    return answers_slow_IsmCorrectedFromResultCorrectedRefusal_from(corrected);
 }
 
 /* ism::disk::ism_make_sector, crates/ism/src/disk.rt */
 static ism_answer ism_disk_ism_make_sector(uint8_t track, uint8_t side, uint8_t sector, uint8_t code,
         struct slice_u8 bytes, struct slice_u16_mut out) {
-    struct refusal_Counted counted = sectors_make_sector(track, side, sector, code, bytes, out);
-    return answers_answer(counted);
+    struct Result_u64_Refusal counted = sectors_make_sector(track, side, sector, code, bytes, out);
+    return answers_IsmAnswerFromResultUsizeRefusal_from(counted);
 }
 
 /* ism::index::ism_index_track, crates/ism/src/index.rt */
 static ism_index ism_index_ism_index_track(ism_profile p, struct slice_u16 intervals) {
-    return track_index_index_track(answers_profile(p), intervals);
+    return track_index_index_track(answers_ProfileFromIsmProfile_from(p), intervals);
 }
 
 /* ism::image::ism_make_image, crates/ism/src/image.rt */
 static ism_answer ism_image_ism_make_image(struct slice_u16 items, struct slice_u16_mut out) {
-    struct refusal_Counted counted = images_make_make_image(items, out);
-    return answers_answer(counted);
+    struct Result_u64_Refusal counted = images_make_make_image(items, out);
+    return answers_IsmAnswerFromResultUsizeRefusal_from(counted);
 }
 
 /* ism::image::ism_read_image, crates/ism/src/image.rt */
 static ism_answer ism_image_ism_read_image(struct slice_u16 words, struct slice_u16_mut out) {
-    struct refusal_Counted counted = images_read_read_image(words, out);
-    return answers_answer(counted);
+    struct Result_u64_Refusal counted = images_read_read_image(words, out);
+    return answers_IsmAnswerFromResultUsizeRefusal_from(counted);
 }
 
 /* ism::merging::ism_merge, crates/ism/src/merging.rt */
 static ism_answer ism_merging_ism_merge(struct slice_u8 first, struct slice_u8 second, struct slice_u8_mut out) {
-    struct merge_Merged merged = merge_merge_sets(first, second, out);
-    return answers_merged_answer(merged);
+    struct Result_SetSize_Refusal merged = merge_merge_sets(first, second, out);
+    return answers_IsmAnswerFromResultSetSizeRefusal_from(merged);
 }
 
 /* ism::index::ism_read_track, crates/ism/src/index.rt: The set of a track's sectors, for the merge. */
 static ism_answer ism_index_ism_read_track(ism_profile p, struct slice_u16 intervals, struct slice_u8_mut set) {
-    struct track_set_TrackSet read = track_set_read_track(answers_profile(p), intervals, set);
-    return (ism_answer){.number = read.number, .place = read.place, .count = read.count, .used = read.bytes, .holds = 0,
-            .clearance = 0};
+    struct Result_SetSize_Refusal read = track_set_read_track(answers_ProfileFromIsmProfile_from(p), intervals, set);
+    return answers_IsmAnswerFromResultSetSizeRefusal_from(read);
 }
 
 /* ism::drive::ism_drive_report, crates/ism/src/drive.rt */
 static ism_report ism_drive_ism_drive_report(ism_profile p, struct slice_u16 intervals) {
-    struct refusal_Verdict verdict = report_check_list(answers_profile(p), intervals);
-    return answers_drive_given(verdict, report_report_list(answers_profile(p), intervals));
+    struct Result_unit_Refusal verdict = report_check_list(answers_ProfileFromIsmProfile_from(p), intervals);
+    return answers_drive_given(verdict, report_report_list(answers_ProfileFromIsmProfile_from(p), intervals));
 }
 
 /* ism::drive::ism_add_reports, crates/ism/src/drive.rt */
 static ism_report ism_drive_ism_add_reports(ism_report a, ism_report b) {
-    struct array_u64_4_5 first = answers_drive_rows(a);
-    struct array_u64_4_5 second = answers_drive_rows(b);
-    struct refusal_Verdict verdict = report_check_sum(first, second);
+    struct array_u64_4_5 first = answers_drive_ReportFromIsmReport_from(a);
+    struct array_u64_4_5 second = answers_drive_ReportFromIsmReport_from(b);
+    struct Result_unit_Refusal verdict = report_check_sum(first, second);
     return answers_drive_given(verdict, report_add(first, second));
 }
 

@@ -41,13 +41,22 @@ FIELD(ism_pages, count, 8, 8);
 FIELD(ism_pages, used, 16, 8);
 FIELD(ism_pages, dots, 24, 64);
 
-struct slice_u8 {
-    const uint8_t *at;
-    uint64_t len;
+/* core::result::Result<u8, AllocError>, of the kit's library */
+enum { Result_u8_AllocError_Ok, Result_u8_AllocError_Err };
+struct Result_u8_AllocError {
+    uint8_t tag;
+    union {
+        uint8_t Ok;
+    } u;
 };
 
 struct slice_u8_mut {
     uint8_t *at;
+    uint64_t len;
+};
+
+struct slice_u8 {
+    const uint8_t *at;
     uint64_t len;
 };
 
@@ -76,14 +85,36 @@ struct refusal_Refusal {
     } u;
 };
 
-/* refusal::Counted, crates/refusal/src/lib.rt */
-enum { refusal_Counted_Count, refusal_Counted_Refused };
-struct refusal_Counted {
+/* core::result::ErrResidual<Refusal>, of the kit's library */
+struct ErrResidual_Refusal {
+    struct refusal_Refusal f0;
+};
+
+/* core::ops::ControlFlow<ErrResidual_Refusal, u64>, of the kit's library */
+enum { ControlFlow_ErrResidual_Refusal_u64_Continue, ControlFlow_ErrResidual_Refusal_u64_Break };
+struct ControlFlow_ErrResidual_Refusal_u64 {
     uint8_t tag;
     union {
-        uint64_t Count;
-        struct refusal_Refusal Refused;
+        uint64_t Continue;
+        struct ErrResidual_Refusal Break;
     } u;
+};
+
+/* core::result::Result<u64, Refusal>, of the kit's library */
+enum { Result_u64_Refusal_Ok, Result_u64_Refusal_Err };
+struct Result_u64_Refusal {
+    uint8_t tag;
+    union {
+        uint64_t Ok;
+        struct refusal_Refusal Err;
+    } u;
+};
+
+/* refusal::Told, crates/refusal/src/lib.rt */
+struct refusal_Told {
+    uint32_t number;
+    uint32_t place;
+    uint64_t count;
 };
 
 /* sets::span::Span, crates/sets/src/span.rt */
@@ -96,6 +127,15 @@ struct array_u16_256 {
     uint16_t a[256];
 };
 
+/* core::option::Option<u64>, of the kit's library */
+enum { Option_u64_None, Option_u64_Some };
+struct Option_u64 {
+    uint8_t tag;
+    union {
+        uint64_t Some;
+    } u;
+};
+
 struct array_u8_32 {
     uint8_t a[32];
 };
@@ -104,25 +144,28 @@ struct array_u32_16 {
     uint32_t a[16];
 };
 
-/* page::making::Made, crates/page/src/making.rt */
-enum { page_making_Made_Set, page_making_Made_Refused };
-struct page_making_Made {
+/* sets::SetSize, crates/sets/src/lib.rt */
+struct sets_SetSize {
+    uint64_t count;
+    uint64_t bytes;
+};
+
+/* core::result::Result<SetSize, Refusal>, of the kit's library */
+enum { Result_SetSize_Refusal_Ok, Result_SetSize_Refusal_Err };
+struct Result_SetSize_Refusal {
     uint8_t tag;
     union {
-        struct {
-            uint64_t count;
-            uint64_t bytes;
-        } Set;
-        struct refusal_Refusal Refused;
+        struct sets_SetSize Ok;
+        struct refusal_Refusal Err;
     } u;
 };
 
-static struct slice_u8 slice_u8(const uint8_t *at, uint64_t len) {
-    return (struct slice_u8){.at = at, .len = len};
-}
-
 static struct slice_u8_mut slice_u8_mut(uint8_t *at, uint64_t len) {
     return (struct slice_u8_mut){.at = at, .len = len};
+}
+
+static struct slice_u8 slice_u8(const uint8_t *at, uint64_t len) {
+    return (struct slice_u8){.at = at, .len = len};
 }
 
 /* The ones of each two bits, of each four, of each eight, and of all. */
@@ -133,29 +176,80 @@ static uint32_t count_ones(uint32_t bits) {
     return (uint32_t)(bits * 0x01010101) >> 24;
 }
 
-/* The crate lists */
+/* The crate core */
 
-/* lists::at_most, crates/lists/src/lib.rt: As many as there are, or so many. */
-static uint64_t lists_at_most(uint64_t most, uint64_t count) {
-    if (count < most) return count;
-    return most;
+/* core::int::usize::min, of the kit's library */
+static uint64_t core_int_usize_min(uint64_t p1, uint64_t p2) {
+    if (p2 < p1) return p2;
+    return p1;
 }
 
-/* lists::copy, crates/lists/src/lib.rt: Bytes from a place on, where all have room. */
-static void lists_copy(struct slice_u8 bytes, uint64_t at, struct slice_u8_mut out) {
+/* core::int::usize::max, of the kit's library */
+static uint64_t core_int_usize_max(uint64_t p1, uint64_t p2) {
+    if (p2 < p1) return p1;
+    return p2;
+}
+
+/* core::clone::U8Clone::clone, of the kit's library */
+static struct Result_u8_AllocError core_clone_U8Clone_clone(const uint8_t *p1) {
+    return (struct Result_u8_AllocError){.tag = Result_u8_AllocError_Ok, .u.Ok = *p1};
+}
+
+/* core::clone::surely<u8>, of the kit's library */
+static uint8_t core_clone_surely_u8(const uint8_t *p1) {
+    return core_clone_U8Clone_clone(p1).u.Ok;
+}
+
+/* core::slice::edits::slice+T::fill<u8>, of the kit's library */
+static void core_slice_edits_slice_T_fill_u8(struct slice_u8_mut p1, uint8_t p2) {
+    uint64_t t4 = p1.len;
+    if (t4 == 0) return;
+    uint64_t t5 = 0;
+    while (t5 < t4 - 1) {
+        p1.at[t5] = core_clone_surely_u8(&p2);
+        t5++;
+    }
+    p1.at[t4 - 1] = p2;
+}
+
+/* The crate lists */
+
+/* lists::store<u8>, crates/lists/src/lib.rt: Values from a place on, as many as there is room for. */
+static void lists_store_u8(struct slice_u8 values, uint64_t at, struct slice_u8_mut out) {
+    if (out.len <= at) return;
+    uint64_t count = core_int_usize_min(values.len, out.len - at);
+    struct slice_u8 value_items = slice_u8(values.at, count);
     uint64_t k = 0;
-    while (k < bytes.len) {
-        out.at[at + k] = bytes.at[k];
+    uint64_t t14 = value_items.len;
+    while (k < t14) {
+        out.at[at + k] = value_items.at[k];
         k++;
     }
 }
 
 /* The crate refusal */
 
-/* refusal::Counted::count, crates/refusal/src/lib.rt: What was counted; 0 for a refusal. */
-static uint64_t refusal_Counted_count(struct refusal_Counted self) {
-    if (self.tag == refusal_Counted_Count) return self.u.Count;
-    return 0;
+/* core::result::ResultTry::branch<u64, Refusal>, of the kit's library */
+static struct ControlFlow_ErrResidual_Refusal_u64
+        core_result_ResultTry_branch_u64_Refusal(struct Result_u64_Refusal p1) {
+    if (p1.tag == Result_u64_Refusal_Ok) {
+        return (struct ControlFlow_ErrResidual_Refusal_u64){.tag = ControlFlow_ErrResidual_Refusal_u64_Continue,
+                .u.Continue = p1.u.Ok};
+    }
+    return (struct ControlFlow_ErrResidual_Refusal_u64){.tag = ControlFlow_ErrResidual_Refusal_u64_Break,
+            .u.Break = {.f0 = p1.u.Err}};
+}
+
+/* core::convert::AnyFrom::from<Refusal>, of the kit's library */
+static struct refusal_Refusal core_convert_AnyFrom_from_Refusal(struct refusal_Refusal p1) {
+    return p1;
+}
+
+/* core::result::ResultFromResidualErrResidual::from_residual<u64, Refusal, Refusal>, of the kit's library */
+static struct Result_u64_Refusal
+        core_result_ResultFromResidualErrResidual_from_residual_u64_Refusal_Refusal(struct ErrResidual_Refusal p1) {
+    return (struct Result_u64_Refusal){.tag = Result_u64_Refusal_Err,
+            .u.Err = core_convert_AnyFrom_from_Refusal(p1.f0)};
 }
 
 /* refusal::Refusal::number, crates/refusal/src/lib.rt: The number in document 01's table. */
@@ -182,12 +276,6 @@ static uint32_t refusal_Refusal_number(struct refusal_Refusal self) {
     case refusal_Refusal_PageLost: return 19;
     default: return 20; /* refusal_Refusal_FillSoiled */
     }
-}
-
-/* refusal::Counted::number, crates/refusal/src/lib.rt: The number in document 01's table; 0 for a count. */
-static uint32_t refusal_Counted_number(struct refusal_Counted self) {
-    if (self.tag == refusal_Counted_Count) return 0;
-    return refusal_Refusal_number(self.u.Refused);
 }
 
 /*
@@ -219,10 +307,14 @@ static uint32_t refusal_Refusal_place(struct refusal_Refusal self) {
     }
 }
 
-/* refusal::Counted::place, crates/refusal/src/lib.rt: The place in document 01's table; 0 for a count. */
-static uint32_t refusal_Counted_place(struct refusal_Counted self) {
-    if (self.tag == refusal_Counted_Count) return 0;
-    return refusal_Refusal_place(self.u.Refused);
+/* refusal::ToldFromResultUsizeRefusal::from, crates/refusal/src/lib.rt */
+static struct refusal_Told refusal_ToldFromResultUsizeRefusal_from(struct Result_u64_Refusal counted) {
+    if (counted.tag == Result_u64_Refusal_Ok) {
+        return (struct refusal_Told){.number = 0, .place = 0, .count = counted.u.Ok};
+    }
+    struct refusal_Refusal refusal = counted.u.Err;
+    uint32_t t5 = refusal_Refusal_number(refusal);
+    return (struct refusal_Told){.number = t5, .place = refusal_Refusal_place(refusal), .count = 0};
 }
 
 /* The crate sectors */
@@ -240,41 +332,45 @@ static uint64_t sectors_sector_size(uint8_t code) {
 /* The crate sets */
 
 /* sets::index::sector_end, crates/sets/src/index.rt: The place after the sector that begins at a place. */
-static struct refusal_Counted sets_index_sector_end(struct slice_u8 set, uint64_t start) {
+static struct Result_u64_Refusal sets_index_sector_end(struct slice_u8 set, uint64_t start) {
     uint64_t left = set.len - start;
     if (left < 3) {
-        return (struct refusal_Counted){.tag = refusal_Counted_Refused,
-                .u.Refused = {.tag = refusal_Refusal_SectorSizeMismatch}};
+        return (struct Result_u64_Refusal){.tag = Result_u64_Refusal_Err,
+                .u.Err = {.tag = refusal_Refusal_SectorSizeMismatch}};
     }
     uint8_t code = set.at[start + 1];
     if (3 < code) {
-        return (struct refusal_Counted){.tag = refusal_Counted_Refused,
-                .u.Refused = {.tag = refusal_Refusal_SectorSizeMismatch}};
+        return (struct Result_u64_Refusal){.tag = Result_u64_Refusal_Err,
+                .u.Err = {.tag = refusal_Refusal_SectorSizeMismatch}};
     }
     uint64_t size = sectors_sector_size(code);
     if (left - 3 < size) {
-        return (struct refusal_Counted){.tag = refusal_Counted_Refused,
-                .u.Refused = {.tag = refusal_Refusal_SectorSizeMismatch}};
+        return (struct Result_u64_Refusal){.tag = Result_u64_Refusal_Err,
+                .u.Err = {.tag = refusal_Refusal_SectorSizeMismatch}};
     }
-    return (struct refusal_Counted){.tag = refusal_Counted_Count, .u.Count = start + 3 + size};
+    return (struct Result_u64_Refusal){.tag = Result_u64_Refusal_Ok, .u.Ok = start + 3 + size};
 }
 
 /*
  * sets::index::count_sectors, crates/sets/src/index.rt
  * 13, looked for to the end of the set, or how many sectors it has.
  */
-static struct refusal_Counted sets_index_count_sectors(struct slice_u8 set) {
+static struct Result_u64_Refusal sets_index_count_sectors(struct slice_u8 set) {
     uint64_t count = 0;
     uint64_t start = 0;
     while (start < set.len) {
-        struct refusal_Counted t8 = sets_index_sector_end(set, start);
-        if (t8.tag == refusal_Counted_Refused) {
-            return (struct refusal_Counted){.tag = refusal_Counted_Refused, .u.Refused = t8.u.Refused};
+        struct ControlFlow_ErrResidual_Refusal_u64 t9 =
+                core_result_ResultTry_branch_u64_Refusal(sets_index_sector_end(set, start));
+        uint64_t end;
+        if (t9.tag == ControlFlow_ErrResidual_Refusal_u64_Continue) {
+            end = t9.u.Continue;
+        } else {
+            return core_result_ResultFromResidualErrResidual_from_residual_u64_Refusal_Refusal(t9.u.Break);
         }
         count++;
-        start = t8.u.Count;
+        start = end;
     }
-    return (struct refusal_Counted){.tag = refusal_Counted_Count, .u.Count = count};
+    return (struct Result_u64_Refusal){.tag = Result_u64_Refusal_Ok, .u.Ok = count};
 }
 
 /* sets::index::entry, crates/sets/src/index.rt */
@@ -283,16 +379,10 @@ static uint16_t sets_index_entry(uint16_t old, uint16_t place) {
     return 65535;
 }
 
-/* sets::span::at_least, crates/sets/src/span.rt */
-static uint64_t sets_span_at_least(uint64_t least, uint64_t number) {
-    if (least < number) return number;
-    return least;
-}
-
 /* sets::span::join, crates/sets/src/span.rt: The span of the numbers of either. */
 static struct sets_span_Span sets_span_join(struct sets_span_Span a, struct sets_span_Span b) {
-    uint64_t t3 = lists_at_most(a.low, b.low);
-    return (struct sets_span_Span){.low = t3, .high = sets_span_at_least(a.high, b.high)};
+    uint64_t t3 = core_int_usize_min(a.low, b.low);
+    return (struct sets_span_Span){.low = t3, .high = core_int_usize_max(a.high, b.high)};
 }
 
 /*
@@ -313,40 +403,42 @@ static struct sets_span_Span sets_index_index_set(struct slice_u8 set, struct ar
     return span;
 }
 
-/*
- * sets::alone::lowest_twice, crates/sets/src/alone.rt
- * The lowest number that an index shows twice; 256 where there is none.
- */
-static uint64_t sets_alone_lowest_twice(const struct array_u16_256 *index, struct sets_span_Span span) {
+/* sets::alone::lowest_twice, crates/sets/src/alone.rt: The lowest number that an index shows twice. */
+static struct Option_u64 sets_alone_lowest_twice(const struct array_u16_256 *index, struct sets_span_Span span) {
     uint64_t n = span.low;
-    while (n < span.high) {
-        if (index->a[n] == 65535) return n;
+    uint64_t t4 = span.high;
+    while (n < t4) {
+        if (index->a[n] == 65535) return (struct Option_u64){.tag = Option_u64_Some, .u.Some = n};
         n++;
     }
-    return 256;
+    return (struct Option_u64){.tag = Option_u64_None};
 }
 
 /*
  * sets::alone::index_alone, crates/sets/src/alone.rt
  * 13, 15, 17; else how many sectors there are, and their index.
  */
-static struct refusal_Counted sets_alone_index_alone(struct slice_u8 set, struct array_u16_256 *index) {
-    struct refusal_Counted t7 = sets_index_count_sectors(set);
-    if (t7.tag == refusal_Counted_Refused) {
-        return (struct refusal_Counted){.tag = refusal_Counted_Refused, .u.Refused = t7.u.Refused};
+static struct Result_u64_Refusal sets_alone_index_alone(struct slice_u8 set, struct array_u16_256 *index) {
+    struct ControlFlow_ErrResidual_Refusal_u64 t8 =
+            core_result_ResultTry_branch_u64_Refusal(sets_index_count_sectors(set));
+    uint64_t count;
+    if (t8.tag == ControlFlow_ErrResidual_Refusal_u64_Continue) {
+        count = t8.u.Continue;
+    } else {
+        return core_result_ResultFromResidualErrResidual_from_residual_u64_Refusal_Refusal(t8.u.Break);
     }
-    uint64_t count = t7.u.Count;
     if (32 < count) {
-        return (struct refusal_Counted){.tag = refusal_Counted_Refused,
-                .u.Refused = {.tag = refusal_Refusal_TooManySectors}};
+        return (struct Result_u64_Refusal){.tag = Result_u64_Refusal_Err,
+                .u.Err = {.tag = refusal_Refusal_TooManySectors}};
     }
     struct sets_span_Span span = sets_index_index_set(set, index);
-    uint64_t lowest = sets_alone_lowest_twice(index, span);
-    if (lowest < 256) {
-        return (struct refusal_Counted){.tag = refusal_Counted_Refused,
-                .u.Refused = {.tag = refusal_Refusal_SectorsAtOdds, .u.SectorsAtOdds = (uint32_t)lowest}};
+    struct Option_u64 t14 = sets_alone_lowest_twice(index, span);
+    if (t14.tag == Option_u64_Some) {
+        uint64_t number = t14.u.Some;
+        return (struct Result_u64_Refusal){.tag = Result_u64_Refusal_Err,
+                .u.Err = {.tag = refusal_Refusal_SectorsAtOdds, .u.SectorsAtOdds = (uint32_t)number}};
     }
-    return (struct refusal_Counted){.tag = refusal_Counted_Count, .u.Count = count};
+    return (struct Result_u64_Refusal){.tag = Result_u64_Refusal_Ok, .u.Ok = count};
 }
 
 /* The crate page */
@@ -363,13 +455,16 @@ static bool page_search_is_lost(struct slice_u8 set, uint16_t entry) {
 }
 
 /* page::search::lowest_lost, crates/page/src/search.rt */
-static uint64_t page_search_lowest_lost(struct slice_u8 set, const struct array_u16_256 *index, uint64_t pages) {
+static struct Option_u64 page_search_lowest_lost(struct slice_u8 set, const struct array_u16_256 *index,
+        uint64_t pages) {
     uint64_t k = 0;
     while (k < pages) {
-        if (page_search_is_lost(set, index->a[k + 1])) return k;
+        if (page_search_is_lost(set, index->a[k + 1])) {
+            return (struct Option_u64){.tag = Option_u64_Some, .u.Some = k};
+        }
         k++;
     }
-    return k;
+    return (struct Option_u64){.tag = Option_u64_None};
 }
 
 /*
@@ -378,10 +473,11 @@ static uint64_t page_search_lowest_lost(struct slice_u8 set, const struct array_
  */
 static bool page_search_is_soiled(struct slice_u8 fill) {
     bool soiled = false;
-    uint64_t k = 0;
-    while (k < 24) {
-        soiled = soiled | (fill.at[k] != 0);
-        k++;
+    uint64_t byte_index = 0;
+    uint64_t t5 = fill.len;
+    while (byte_index < t5) {
+        soiled = soiled | (fill.at[byte_index] != 0);
+        byte_index++;
     }
     return soiled;
 }
@@ -390,15 +486,18 @@ static bool page_search_is_soiled(struct slice_u8 fill) {
  * page::search::lowest_soiled, crates/page/src/search.rt
  * None of the pages is lost, so that the index has the place of each.
  */
-static uint64_t page_search_lowest_soiled(struct slice_u8 set, const struct array_u16_256 *index, uint64_t pages) {
+static struct Option_u64 page_search_lowest_soiled(struct slice_u8 set, const struct array_u16_256 *index,
+        uint64_t pages) {
     uint64_t k = 0;
     while (k < pages) {
         uint64_t fill = (uint64_t)index->a[k + 1] + 1002;
         uint64_t end = fill + 24;
-        if (page_search_is_soiled(slice_u8(set.at + fill, end - fill))) return k;
+        if (page_search_is_soiled(slice_u8(set.at + fill, end - fill))) {
+            return (struct Option_u64){.tag = Option_u64_Some, .u.Some = k};
+        }
         k++;
     }
-    return k;
+    return (struct Option_u64){.tag = Option_u64_None};
 }
 
 /* page::dots::halves, crates/page/src/dots.rt: Ones of pairs of bits, then of four. */
@@ -422,7 +521,8 @@ static uint8_t page_dots_grow(uint8_t column, uint8_t a, uint8_t b, uint8_t c) {
 static void page_dots_add_rows(struct slice_u8 rows, struct array_u8_32 *columns) {
     uint64_t k = 0;
     while (k < 32) {
-        columns->a[k] = page_dots_grow(columns->a[k], rows.at[k], rows.at[32 + k], rows.at[64 + k]);
+        uint8_t *column = columns->a + k;
+        *column = page_dots_grow(*column, rows.at[k], rows.at[32 + k], rows.at[64 + k]);
         k++;
     }
 }
@@ -430,10 +530,10 @@ static void page_dots_add_rows(struct slice_u8 rows, struct array_u8_32 *columns
 /* page::dots::sum_columns, crates/page/src/dots.rt */
 static uint32_t page_dots_sum_columns(const struct array_u8_32 *columns) {
     uint32_t sum = 0;
-    uint64_t k = 0;
-    while (k < 32) {
-        sum += (uint32_t)columns->a[k];
-        k++;
+    uint64_t column_index = 0;
+    while (column_index < 32) {
+        sum += (uint32_t)columns->a[column_index];
+        column_index++;
     }
     return sum;
 }
@@ -441,10 +541,11 @@ static uint32_t page_dots_sum_columns(const struct array_u8_32 *columns) {
 /* page::dots::count_line, crates/page/src/dots.rt: The last line by itself. */
 static uint32_t page_dots_count_line(struct slice_u8 line) {
     uint32_t dots = 0;
-    uint64_t k = 0;
-    while (k < 40) {
-        dots += count_ones(line.at[k]);
-        k++;
+    uint64_t cell_index = 0;
+    uint64_t t5 = line.len;
+    while (cell_index < t5) {
+        dots += count_ones(line.at[cell_index]);
+        cell_index++;
     }
     return dots;
 }
@@ -473,48 +574,51 @@ static void page_reading_put_pages(struct slice_u8 set, const struct array_u16_2
     while (k < pages) {
         uint64_t start = (uint64_t)index->a[k + 1] + 2;
         uint64_t end = start + 1000;
-        lists_copy(slice_u8(set.at + start, end - start), 1000 * k, cells);
+        lists_store_u8(slice_u8(set.at + start, end - start), 1000 * k, cells);
         dots->a[k] = page_dots_count_dots(slice_u8(set.at + start, end - start));
         k++;
     }
 }
 
 /* page::reading::deliver, crates/page/src/reading.rt: 19, 20, 9. */
-static struct refusal_Counted page_reading_deliver(struct slice_u8 set, const struct array_u16_256 *index,
+static struct Result_u64_Refusal page_reading_deliver(struct slice_u8 set, const struct array_u16_256 *index,
         uint64_t pages, struct slice_u8_mut cells, struct array_u32_16 *dots) {
-    uint64_t lost = page_search_lowest_lost(set, index, pages);
-    if (lost < pages) {
-        return (struct refusal_Counted){.tag = refusal_Counted_Refused,
-                .u.Refused = {.tag = refusal_Refusal_PageLost, .u.PageLost = (uint32_t)lost + 1}};
+    struct Option_u64 t8 = page_search_lowest_lost(set, index, pages);
+    if (t8.tag == Option_u64_Some) {
+        uint64_t lost = t8.u.Some;
+        return (struct Result_u64_Refusal){.tag = Result_u64_Refusal_Err,
+                .u.Err = {.tag = refusal_Refusal_PageLost, .u.PageLost = (uint32_t)lost + 1}};
     }
-    uint64_t soiled = page_search_lowest_soiled(set, index, pages);
-    if (soiled < pages) {
-        return (struct refusal_Counted){.tag = refusal_Counted_Refused,
-                .u.Refused = {.tag = refusal_Refusal_FillSoiled, .u.FillSoiled = (uint32_t)soiled + 1}};
+    struct Option_u64 t12 = page_search_lowest_soiled(set, index, pages);
+    if (t12.tag == Option_u64_Some) {
+        uint64_t soiled = t12.u.Some;
+        return (struct Result_u64_Refusal){.tag = Result_u64_Refusal_Err,
+                .u.Err = {.tag = refusal_Refusal_FillSoiled, .u.FillSoiled = (uint32_t)soiled + 1}};
     }
     if (cells.len < 1000 * pages) {
-        return (struct refusal_Counted){.tag = refusal_Counted_Refused,
-                .u.Refused = {.tag = refusal_Refusal_OutputTooShort}};
+        return (struct Result_u64_Refusal){.tag = Result_u64_Refusal_Err,
+                .u.Err = {.tag = refusal_Refusal_OutputTooShort}};
     }
     page_reading_put_pages(set, index, pages, cells, dots);
-    return (struct refusal_Counted){.tag = refusal_Counted_Count, .u.Count = pages};
+    return (struct Result_u64_Refusal){.tag = Result_u64_Refusal_Ok, .u.Ok = pages};
 }
 
 /* page::reading::gather, crates/page/src/reading.rt: 12, then 13, 15 and 17, then the others. */
-static struct refusal_Counted page_reading_gather(struct slice_u8 set, uint64_t pages, struct slice_u8_mut cells,
+static struct Result_u64_Refusal page_reading_gather(struct slice_u8 set, uint64_t pages, struct slice_u8_mut cells,
         struct array_u32_16 *dots) {
     if (pages < 1) {
-        return (struct refusal_Counted){.tag = refusal_Counted_Refused,
-                .u.Refused = {.tag = refusal_Refusal_CountOutOfRange}};
+        return (struct Result_u64_Refusal){.tag = Result_u64_Refusal_Err,
+                .u.Err = {.tag = refusal_Refusal_CountOutOfRange}};
     }
     if (16 < pages) {
-        return (struct refusal_Counted){.tag = refusal_Counted_Refused,
-                .u.Refused = {.tag = refusal_Refusal_CountOutOfRange}};
+        return (struct Result_u64_Refusal){.tag = Result_u64_Refusal_Err,
+                .u.Err = {.tag = refusal_Refusal_CountOutOfRange}};
     }
     struct array_u16_256 index = {0};
-    struct refusal_Counted t10 = sets_alone_index_alone(set, &index);
-    if (t10.tag == refusal_Counted_Refused) {
-        return (struct refusal_Counted){.tag = refusal_Counted_Refused, .u.Refused = t10.u.Refused};
+    struct ControlFlow_ErrResidual_Refusal_u64 t11 =
+            core_result_ResultTry_branch_u64_Refusal(sets_alone_index_alone(set, &index));
+    if (t11.tag != ControlFlow_ErrResidual_Refusal_u64_Continue) {
+        return core_result_ResultFromResidualErrResidual_from_residual_u64_Refusal_Refusal(t11.u.Break);
     }
     return page_reading_deliver(set, &index, pages, cells, dots);
 }
@@ -525,28 +629,16 @@ static struct refusal_Counted page_reading_gather(struct slice_u8 set, uint64_t 
  */
 static ism_pages page_reading_read_pages(struct slice_u8 set, uint64_t pages, struct slice_u8_mut cells) {
     struct array_u32_16 dots = {0};
-    struct refusal_Counted read = page_reading_gather(set, pages, cells, &dots);
-    uint64_t count = refusal_Counted_count(read);
-    uint32_t t10 = refusal_Counted_number(read);
-    uint32_t t11 = refusal_Counted_place(read);
+    struct refusal_Told read = refusal_ToldFromResultUsizeRefusal_from(page_reading_gather(set, pages, cells, &dots));
     ism_pages result;
-    result.number = t10;
-    result.place = t11;
-    result.count = count;
-    result.used = 1000 * count;
+    result.number = read.number;
+    result.place = read.place;
+    result.count = read.count;
+    result.used = 1000 * read.count;
     for (uint64_t each = 0; each < 16; each++) {
         result.dots[each] = dots.a[each];
     }
     return result;
-}
-
-/* page::making::put_fill, crates/page/src/making.rt: 24 bytes of 00. */
-static void page_making_put_fill(struct slice_u8_mut set, uint64_t start) {
-    uint64_t k = 0;
-    while (k < 24) {
-        set.at[start + k] = 0;
-        k++;
-    }
 }
 
 /* page::making::put_sector, crates/page/src/making.rt */
@@ -554,8 +646,10 @@ static void page_making_put_sector(uint8_t number, struct slice_u8 page, struct 
     set.at[start] = number;
     set.at[start + 1] = 3;
     set.at[start + 2] = 1;
-    lists_copy(page, start + 3, set);
-    page_making_put_fill(set, start + 1003);
+    lists_store_u8(page, start + 3, set);
+    uint64_t behind = start + 1003;
+    uint64_t end = behind + 24;
+    core_slice_edits_slice_T_fill_u8(slice_u8_mut(set.at + behind, end - behind), 0);
 }
 
 /* page::making::put_sectors, crates/page/src/making.rt */
@@ -571,28 +665,30 @@ static void page_making_put_sectors(struct slice_u8 cells, uint64_t pages, struc
 
 /*
  * page::making::make_pages, crates/page/src/making.rt
- * 12, 13, 9. On acceptance sectors 1 to p of code 3 fill the front of the output, 1,027 bytes each.
+ * 12, 13, 9; else the size of the set. On acceptance sectors 1 to p of code 3 fill the front of the output, 1,027
+ * bytes each.
  */
-static struct page_making_Made page_making_make_pages(struct slice_u8 cells, uint64_t pages, struct slice_u8_mut set) {
+static struct Result_SetSize_Refusal page_making_make_pages(struct slice_u8 cells, uint64_t pages,
+        struct slice_u8_mut set) {
     if (pages < 1) {
-        return (struct page_making_Made){.tag = page_making_Made_Refused,
-                .u.Refused = {.tag = refusal_Refusal_CountOutOfRange}};
+        return (struct Result_SetSize_Refusal){.tag = Result_SetSize_Refusal_Err,
+                .u.Err = {.tag = refusal_Refusal_CountOutOfRange}};
     }
     if (16 < pages) {
-        return (struct page_making_Made){.tag = page_making_Made_Refused,
-                .u.Refused = {.tag = refusal_Refusal_CountOutOfRange}};
+        return (struct Result_SetSize_Refusal){.tag = Result_SetSize_Refusal_Err,
+                .u.Err = {.tag = refusal_Refusal_CountOutOfRange}};
     }
     if (cells.len != 1000 * pages) {
-        return (struct page_making_Made){.tag = page_making_Made_Refused,
-                .u.Refused = {.tag = refusal_Refusal_SectorSizeMismatch}};
+        return (struct Result_SetSize_Refusal){.tag = Result_SetSize_Refusal_Err,
+                .u.Err = {.tag = refusal_Refusal_SectorSizeMismatch}};
     }
     uint64_t bytes = 1027 * pages;
     if (set.len < bytes) {
-        return (struct page_making_Made){.tag = page_making_Made_Refused,
-                .u.Refused = {.tag = refusal_Refusal_OutputTooShort}};
+        return (struct Result_SetSize_Refusal){.tag = Result_SetSize_Refusal_Err,
+                .u.Err = {.tag = refusal_Refusal_OutputTooShort}};
     }
     page_making_put_sectors(cells, pages, set);
-    return (struct page_making_Made){.tag = page_making_Made_Set, .u.Set = {.count = pages, .bytes = bytes}};
+    return (struct Result_SetSize_Refusal){.tag = Result_SetSize_Refusal_Ok, .u.Ok = {.count = pages, .bytes = bytes}};
 }
 
 /* The crate ism_page */
@@ -602,13 +698,13 @@ static ism_pages ism_page_ism_read_pages(struct slice_u8 set, uint64_t pages, st
     return page_reading_read_pages(set, pages, cells);
 }
 
-/* ism_page::answer, crates/ism_page/src/lib.rt */
-static ism_answer ism_page_answer(struct page_making_Made made) {
-    if (made.tag == page_making_Made_Set) {
-        return (ism_answer){.number = 0, .place = 0, .count = made.u.Set.count, .used = made.u.Set.bytes, .holds = 0,
+/* ism_page::IsmAnswerFromResultSetSizeRefusal::from, crates/ism_page/src/lib.rt */
+static ism_answer ism_page_IsmAnswerFromResultSetSizeRefusal_from(struct Result_SetSize_Refusal made) {
+    if (made.tag == Result_SetSize_Refusal_Ok) {
+        return (ism_answer){.number = 0, .place = 0, .count = made.u.Ok.count, .used = made.u.Ok.bytes, .holds = 0,
                 .clearance = 0};
     }
-    struct refusal_Refusal refusal = made.u.Refused;
+    struct refusal_Refusal refusal = made.u.Err;
     uint32_t t8 = refusal_Refusal_number(refusal);
     return (ism_answer){.number = t8, .place = refusal_Refusal_place(refusal), .count = 0, .used = 0, .holds = 0,
             .clearance = 0};
@@ -616,8 +712,8 @@ static ism_answer ism_page_answer(struct page_making_Made made) {
 
 /* ism_page::ism_make_pages, crates/ism_page/src/lib.rt */
 static ism_answer ism_page_ism_make_pages(struct slice_u8 cells, uint64_t pages, struct slice_u8_mut set) {
-    struct page_making_Made made = page_making_make_pages(cells, pages, set);
-    return ism_page_answer(made);
+    struct Result_SetSize_Refusal made = page_making_make_pages(cells, pages, set);
+    return ism_page_IsmAnswerFromResultSetSizeRefusal_from(made);
 }
 
 /*

@@ -201,8 +201,6 @@ def point1():
         derive = src.lines[number - 2]
         if "PartialEq" not in derive and not (refusing or name in own):
             add(1, "no-derives", src, number, f"enum {name}: {derive.strip()}")
-    if not own:
-        return
     crate_of = defaultdict(set)
     for (crate, name) in enums():
         crate_of[name].add(crate)
@@ -235,7 +233,7 @@ def point1():
                         break
                     body.append(l)
                 text = " ".join(body)
-                if re.search(r"\b(?:Counted|Verdict|FieldRead|Result<[^>]*>)\b", text) and text.count("pub ") > 1:
+                if re.search(r"\b(?:Counted|Verdict|FieldRead)\b|\bResult<", text) and text.count("pub ") > 1:
                     add(1, "flag-beside", src, number, line)
                 elif re.search(r"\bnumber: u32\b.*\bplace: u32\b", text):
                     add(1, "number-for-kind", src, number, line)
@@ -251,9 +249,10 @@ def point1():
     for src in SOURCES:
         for name, number, head in src.heads:
             full = f"{src.crate}::{name}"
-            if full in sentinel:
+            if full in sentinel and "-> Option<" not in head:
                 add(1, "sentinel", src, number, head)
-            if full in kinds and src.crate in ("fifo", "locks", "limits"):
+            by_number = {"fifo": "fault: u16", "locks": "&[usize]", "limits": ".number() == 2"}.get(src.crate)
+            if full in kinds and by_number and by_number in head + "\n".join(src.lines):
                 add(1, "number-for-kind", src, number, head)
 
 

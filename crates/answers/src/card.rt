@@ -1,9 +1,11 @@
 // What holds the margin down, for the card of a drive type.
-ghost use Rattle.std.specs.Prelude.{◌≤◌, ◌≡◌, map, take, replicate};
+ghost use Rattle.std.specs.Prelude.{◌≡◌, map, take, replicate};
 ghost use Rattle.lists.specs.Filled.{filled};
-ghost use Rattle.answers.specs.Cards.{edge_number, kind_number, limit_numbers, no_limit};
+ghost use Rattle.limits.specs.Limits.{limits_answer, limits_given};
+ghost use Rattle.answers.specs.Cards.{edge_number, kind_number, limit_numbers, no_limit, limits_answer_of};
 
-use limits::{Edge, Kind, Limit};
+use limits::{Edge, Kind, Limit, Limits};
+use refusal::Refusal;
 
 // Edge 1 Min, 2 B23, 3 B34, 4 Rpt; after 0 both kinds, 1 short, 2 long; above 1 or 0.
 #[repr(C)]
@@ -37,6 +39,7 @@ const NONE: IsmLimit = IsmLimit {
     moved: 0,
 };
 
+// Functions, since an impl for u16 would stand where `Edge` and `Kind` do, and these know no numbers of the interface.
 fn edge_number(edge: Edge) -> u16
     ensures { result ≡ edge_number edge }
 {
@@ -58,32 +61,54 @@ fn kind_number(after: Kind) -> u16
     }
 }
 
-fn numbers_of(limit: Limit) -> IsmLimit
-    ensures { result ≡ limit_numbers limit }
-{
-    let side = limit.side;
-    let edge = side.edge;
-    let after = side.after;
-    IsmLimit {
-        edge: edge_number(edge),
-        after: kind_number(after),
-        above: side.above as u16,
-        item: limit.item,
-        interval: limit.interval,
-        moved: limit.moved,
+impl From<Limit> for IsmLimit {
+    ghost from_gives = { λ limit numbers. numbers ≡ limit_numbers limit };
+
+    fn from(limit: Limit) -> IsmLimit {
+        let side = limit.side;
+        IsmLimit {
+            edge: edge_number(side.edge),
+            after: kind_number(side.after),
+            above: u16::from(side.above),
+            item: limit.item,
+            interval: limit.interval,
+            moved: limit.moved,
+        }
     }
 }
 
 // As many as are counted, in their places.
-pub fn converted(limits: [Limit; 10], count: usize) -> [IsmLimit; 10]
-    requires { count ≤ 10 }
+fn converted(limits: [Limit; 10], count: usize) -> [IsmLimit; 10]
     ensures { result ≡ filled (map limit_numbers (take count limits)) (replicate 10 no_limit) }
 {
     let mut made = [NONE; 10];
-    let mut k: usize = 0;
-    while k < count {
-        made[k] = numbers_of(limits[k]);
-        k += 1;
+    for k in 0..count.min(10) {
+        made[k] = IsmLimit::from(limits[k]);
     }
     made
+}
+
+impl From<Result<Limits, Refusal>> for IsmLimits {
+    ghost from_gives = { λ given made. made ≡ limits_answer_of (limits_answer given) (limits_given given) };
+
+    fn from(given: Result<Limits, Refusal>) -> IsmLimits {
+        match given {
+            Ok(found) => {
+                let limits = found.limits;
+                let made = converted(limits, found.count);
+                IsmLimits {
+                    number: 0,
+                    place: 0,
+                    count: found.count as u64,
+                    limits: made,
+                }
+            }
+            Err(refusal) => IsmLimits {
+                number: refusal.number(),
+                place: refusal.place(),
+                count: 0,
+                limits: [NONE; 10],
+            },
+        }
+    }
 }

@@ -3,7 +3,7 @@ ghost use Rattle.std.specs.Prelude.{◌≡◌};
 ghost use Rattle.refusal.specs.Answer.{verdict_answer};
 ghost use Rattle.answers.specs.Reports.{report_row_of, numbers_in, report_in, report_answer_of};
 
-use refusal::Verdict;
+use refusal::Refusal;
 use report::Report;
 
 #[repr(C)]
@@ -24,54 +24,62 @@ pub struct IsmReport {
     pub rows: [IsmReportRow; 5],
 }
 
-fn row(numbers: [u64; 4]) -> IsmReportRow
-    ensures { result ≡ report_row_of numbers }
-{
-    IsmReportRow {
-        count: numbers[0],
-        least: numbers[1],
-        greatest: numbers[2],
-        sum: numbers[3],
+impl From<[u64; 4]> for IsmReportRow {
+    ghost from_gives = { λ numbers row. row ≡ report_row_of numbers };
+
+    fn from(numbers: [u64; 4]) -> IsmReportRow {
+        let [count, least, greatest, sum] = numbers;
+        IsmReportRow {
+            count,
+            least,
+            greatest,
+            sum,
+        }
     }
 }
 
-fn numbers(row: IsmReportRow) -> [u64; 4]
-    ensures { result ≡ numbers_in row }
-{
-    [row.count, row.least, row.greatest, row.sum]
+impl From<IsmReportRow> for [u64; 4] {
+    ghost from_gives = { λ row numbers. numbers ≡ numbers_in row };
+
+    fn from(row: IsmReportRow) -> [u64; 4] {
+        [row.count, row.least, row.greatest, row.sum]
+    }
 }
 
 // The rows of a report that came in, whatever its number and place.
-pub fn rows(report: IsmReport) -> Report
-    ensures { result ≡ report_in report }
-{
-    let rows = report.rows;
-    [
-        numbers(rows[0]),
-        numbers(rows[1]),
-        numbers(rows[2]),
-        numbers(rows[3]),
-        numbers(rows[4]),
-    ]
+impl From<IsmReport> for Report {
+    ghost from_gives = { λ given report. report ≡ report_in given };
+
+    fn from(given: IsmReport) -> Report {
+        let [narrow, two, three, four, wide] = given.rows;
+        [
+            <[u64; 4]>::from(narrow),
+            <[u64; 4]>::from(two),
+            <[u64; 4]>::from(three),
+            <[u64; 4]>::from(four),
+            <[u64; 4]>::from(wide),
+        ]
+    }
 }
 
-pub fn given(verdict: Verdict, report: Report) -> IsmReport
+pub fn given(verdict: Result<(), Refusal>, report: Report) -> IsmReport
     ensures { result ≡ report_answer_of (verdict_answer verdict) report }
 {
+    let [narrow, two, three, four, wide] = report;
     let rows = [
-        row(report[0]),
-        row(report[1]),
-        row(report[2]),
-        row(report[3]),
-        row(report[4]),
+        IsmReportRow::from(narrow),
+        IsmReportRow::from(two),
+        IsmReportRow::from(three),
+        IsmReportRow::from(four),
+        IsmReportRow::from(wide),
     ];
     match verdict {
-        Verdict::Accepted => IsmReport {
+        Ok(()) => IsmReport {
             number: 0,
             place: 0,
             rows,
         },
-        Verdict::Refused(refusal) => IsmReport {
+        Err(refusal) => IsmReport {
             number: refusal.number(),
             place: refusal.place(),
             rows,

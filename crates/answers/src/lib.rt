@@ -2,15 +2,16 @@
 #![tactic(auto)]
 
 ghost use Rattle.std.specs.Prelude.{◌≡◌};
-ghost use Rattle.refusal.specs.Answer.{counted_answer};
+ghost use Rattle.refusal.specs.Table.{number_of, place_of};
+ghost use Rattle.refusal.specs.Answer.{refused, counted_answer};
 ghost use Rattle.merge.specs.Rule.{merged_answer};
 ghost use Rattle.clearance.specs.Answers.{clear_answer, clear_field_answer};
 ghost use Rattle.answers.specs.Answers.{profile_of, answer_of, clear_answer_of, clear_field_answer_of, given_merge};
 
-use clearance::{ClearCount, ClearFieldRead};
-use fields::reader::FieldRead;
-use merge::Merged;
-use refusal::Counted;
+use clearance::Clear;
+use fields::reader::Field;
+use refusal::Refusal;
+use sets::SetSize;
 use timing::Profile;
 
 pub mod card;
@@ -46,96 +47,114 @@ pub struct IsmAnswer {
     pub clearance: u32,
 }
 
-pub fn profile(p: IsmProfile) -> Profile
-    ensures { result ≡ profile_of p }
-{
-    let numbers = [
-        p.t1,
-        p.t0,
-        p.early,
-        p.normal,
-        p.late,
-        p.min,
-        p.b23_short,
-        p.b23_long,
-        p.b34_short,
-        p.b34_long,
-        p.rpt,
-    ];
-    Profile::from_numbers(&numbers)
+impl From<IsmProfile> for Profile {
+    ghost from_gives = { λ given p. p ≡ profile_of given };
+
+    fn from(given: IsmProfile) -> Profile {
+        let numbers = [
+            given.t1,
+            given.t0,
+            given.early,
+            given.normal,
+            given.late,
+            given.min,
+            given.b23_short,
+            given.b23_long,
+            given.b34_short,
+            given.b34_long,
+            given.rpt,
+        ];
+        Profile::from(&numbers)
+    }
 }
 
-pub fn answer(counted: Counted) -> IsmAnswer
-    ensures { result ≡ answer_of (counted_answer counted) }
-{
-    IsmAnswer {
-        number: counted.number(),
-        place: counted.place(),
-        count: counted.count() as u64,
-        used: 0,
-        holds: 0,
-        clearance: 0,
+impl IsmAnswer {
+    // A refusal, by its number and place.
+    fn refused(refusal: Refusal) -> IsmAnswer
+        ensures { result ≡ answer_of (refused (number_of refusal) (place_of refusal)) }
+    {
+        IsmAnswer {
+            number: refusal.number(),
+            place: refusal.place(),
+            count: 0,
+            used: 0,
+            holds: 0,
+            clearance: 0,
+        }
+    }
+}
+
+impl From<Result<usize, Refusal>> for IsmAnswer {
+    ghost from_gives = { λ counted answer. answer ≡ answer_of (counted_answer counted) };
+
+    fn from(counted: Result<usize, Refusal>) -> IsmAnswer {
+        match counted {
+            Ok(count) => IsmAnswer {
+                number: 0,
+                place: 0,
+                count: count as u64,
+                used: 0,
+                holds: 0,
+                clearance: 0,
+            },
+            Err(refusal) => IsmAnswer::refused(refusal),
+        }
     }
 }
 
 // A class or a strip, with its clearance.
-pub fn clear_answer(given: ClearCount) -> IsmAnswer
-    ensures { result ≡ clear_answer_of (clear_answer given) }
-{
-    let counted = given.counted;
-    IsmAnswer {
-        number: counted.number(),
-        place: counted.place(),
-        count: counted.count() as u64,
-        used: 0,
-        holds: 0,
-        clearance: given.clearance as u32,
+impl From<Result<Clear<usize>, Refusal>> for IsmAnswer {
+    ghost from_gives = { λ given answer. answer ≡ clear_answer_of (clear_answer given) };
+
+    fn from(given: Result<Clear<usize>, Refusal>) -> IsmAnswer {
+        match given {
+            Ok(Clear { read, clearance }) => IsmAnswer {
+                number: 0,
+                place: 0,
+                count: read as u64,
+                used: 0,
+                holds: 0,
+                clearance: u32::from(clearance),
+            },
+            Err(refusal) => IsmAnswer::refused(refusal),
+        }
     }
 }
 
-pub fn field_answer(field: ClearFieldRead) -> IsmAnswer
-    ensures { result ≡ clear_field_answer_of (clear_field_answer field) }
-{
-    let read = field.read;
-    match read {
-        FieldRead::Field { count, used, holds } => IsmAnswer {
-            number: 0,
-            place: 0,
-            count: count as u64,
-            used: used as u64,
-            holds: holds as u32,
-            clearance: field.clearance as u32,
-        },
-        FieldRead::Refused(refusal) => IsmAnswer {
-            number: refusal.number(),
-            place: refusal.place(),
-            count: 0,
-            used: 0,
-            holds: 0,
-            clearance: field.clearance as u32,
-        },
+// A field, with its clearance.
+impl From<Result<Clear<Field>, Refusal>> for IsmAnswer {
+    ghost from_gives = { λ given answer. answer ≡ clear_field_answer_of (clear_field_answer given) };
+
+    fn from(given: Result<Clear<Field>, Refusal>) -> IsmAnswer {
+        match given {
+            Ok(Clear { read, clearance }) => IsmAnswer {
+                number: 0,
+                place: 0,
+                count: read.count as u64,
+                used: read.used as u64,
+                holds: u32::from(read.holds),
+                clearance: u32::from(clearance),
+            },
+            Err(refusal) => IsmAnswer::refused(refusal),
+        }
     }
 }
 
-pub fn merged_answer(merged: Merged) -> IsmAnswer
-    ensures { result ≡ given_merge (merged_answer merged) }
-{
-    match merged {
-        Merged::Set { count, bytes } => IsmAnswer {
-            number: 0,
-            place: 0,
-            count: count as u64,
-            used: bytes as u64,
-            holds: 0,
-            clearance: 0,
-        },
-        Merged::Refused(refusal) => IsmAnswer {
-            number: refusal.number(),
-            place: refusal.place(),
-            count: 0,
-            used: 0,
-            holds: 0,
-            clearance: 0,
-        },
+// A set of sectors, with the bytes that it takes.
+impl From<Result<SetSize, Refusal>> for IsmAnswer {
+    ghost from_gives = { λ given answer. answer ≡ given_merge (merged_answer given) };
+
+    fn from(given: Result<SetSize, Refusal>) -> IsmAnswer {
+        match given {
+            Ok(SetSize { count, bytes }) => IsmAnswer {
+                number: 0,
+                place: 0,
+                count: count as u64,
+                used: bytes as u64,
+                holds: 0,
+                clearance: 0,
+            },
+            Err(refusal) => IsmAnswer::refused(refusal),
+        }
     }
 }

@@ -3,7 +3,8 @@ ghost use Rattle.std.specs.Prelude.{◌≡◌};
 ghost use Rattle.speed.specs.Reading.{corrected_answer};
 ghost use Rattle.answers.specs.Slow.{corrected_answer_of};
 
-use fields::reader::FieldRead;
+use clearance::Clear;
+use refusal::Refusal;
 use speed::reader::Corrected;
 
 // The lock's place, what the field reader gives, and the differences of the two sums to 32 × T1.
@@ -21,32 +22,40 @@ pub struct IsmCorrected {
     pub odd: i32,
 }
 
-pub fn corrected_answer(corrected: Corrected) -> IsmCorrected
-    ensures { result ≡ corrected_answer_of (corrected_answer corrected) }
-{
-    let read = corrected.read;
-    match read {
-        FieldRead::Field { count, used, holds } => IsmCorrected {
-            number: 0,
-            place: 0,
-            lock: corrected.lock as u64,
-            count: count as u64,
-            used: used as u64,
-            holds: holds as u32,
-            clearance: corrected.clearance as u32,
-            even: corrected.even,
-            odd: corrected.odd,
-        },
-        FieldRead::Refused(refusal) => IsmCorrected {
-            number: refusal.number(),
-            place: refusal.place(),
-            lock: corrected.lock as u64,
-            count: 0,
-            used: 0,
-            holds: 0,
-            clearance: corrected.clearance as u32,
-            even: corrected.even,
-            odd: corrected.odd,
-        },
+impl From<Result<Corrected, Refusal>> for IsmCorrected {
+    ghost from_gives = { λ given crossed. crossed ≡ corrected_answer_of (corrected_answer given) };
+
+    fn from(given: Result<Corrected, Refusal>) -> IsmCorrected {
+        match given {
+            Ok(
+                Corrected {
+                    field: Clear { read, clearance },
+                    lock,
+                    even,
+                    odd,
+                },
+            ) => IsmCorrected {
+                number: 0,
+                place: 0,
+                lock: lock as u64,
+                count: read.count as u64,
+                used: read.used as u64,
+                holds: u32::from(read.holds),
+                clearance: u32::from(clearance),
+                even,
+                odd,
+            },
+            Err(refusal) => IsmCorrected {
+                number: refusal.number(),
+                place: refusal.place(),
+                lock: 0,
+                count: 0,
+                used: 0,
+                holds: 0,
+                clearance: 0,
+                even: 0,
+                odd: 0,
+            },
+        }
     }
 }

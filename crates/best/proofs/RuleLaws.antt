@@ -1,8 +1,9 @@
 -- The answer by its tests: a number out of range decides, then that no windows are true; and a refusal hands no profile
 -- back. Rests on no axiom.
+use Rattle.std.specs.Prelude.{Option, Some, None, is_some, unwrap_or}
 use Prim.Native.Nat.{ℕ, suc}
 use mathlib.Core.Path.{◌≡◌, refl, sym, ap}
-use mathlib.Core.Bool.{Bool, true, false, cond, not}
+use mathlib.Core.Bool.{Bool, true, false, cond, not, true≢false}
 use native.Mathlib.Omega.{arith}
 use lib.Dec.{eqb}
 use Rattle.lists.specs.Place.{anywhere, lowest, passed}
@@ -20,17 +21,17 @@ given_by a p = cond (eqb a.number 0) p no_profile
 
 module _ (w : Writing) where
   -- a number is out of range
-  pub unset_decides : (k : ℕ) → k ≡ lowest_unset_of w → (k ≡ 0 → ⊥) → (refused 1 k ≡ best_rule w) × (no_profile ≡ best_given w)
+  pub unset_decides : (k : ℕ) → Some k ≡ lowest_unset_of w → (refused 1 k ≡ best_rule w) × (no_profile ≡ best_given w)
   unfolding lowest_unset_of best_given best_rule
-  unset_decides k e some = by_test (anywhere passed (unset_of w)) (lowest passed (unset_of w)) e
+  unset_decides k e = by_test (anywhere passed (unset_of w)) (lowest passed (unset_of w)) e
     where
       by_test
           : (any : Bool) (place : ℕ)
-          → k ≡ cond any (suc place) 0
+          → Some k ≡ cond any (Some (suc place)) None
           → (refused 1 k ≡ rule_by any place (has_windows w) (best_margin w))
           × (no_profile ≡ given_by (rule_by any place (has_windows w) (best_margin w)) (best_profile w))
-      by_test true place q = (ap (refused 1) q, refl)
-      by_test false place q = absurd (some q)
+      by_test true place q = (ap (λ (o : Option ℕ). refused 1 (unwrap_or o 0)) q, refl)
+      by_test false place q = absurd (true≢false (ap is_some q))
 
   -- none is, and some windows are true, or none
   pub possible_decides

@@ -1,14 +1,15 @@
 -- Why the trial profile tells about the five numbers: its windows are in range, so that what is out of range is one of
 -- the five, at the same place, and its distances are theirs. Rests on no axiom.
+use Rattle.std.specs.Prelude.{Option, Some, None, is_some}
 use Prim.Native.Nat.{ℕ, suc, ◌≤◌}
 use mathlib.Core.Path.{◌≡◌, refl, ap, ◌∙◌}
-use mathlib.Core.Bool.{Bool, true, false, cond, not}
+use mathlib.Core.Bool.{Bool, true, false, cond, not, true≢false}
 use mathlib.Core.List.{[], ◌∷◌}
 use native.Mathlib.Omega.{arith}
 use Rattle.lists.specs.Place.{anywhere, lowest, passed}
 use Rattle.refusal.specs.Answer.{Answer, accepted, refused, refuse_if}
 use Rattle.timing.specs.Numbers.{ranges}
-use Rattle.timing.specs.Profile.{unset, swing, advance, delay, is_true, profile_rule, lowest_unset, InRange}
+use Rattle.timing.specs.Profile.{unset, swing, advance, delay, is_true, profile_rule, InRange}
 use Rattle.timing.proofs.RangeLaws.{none_outside_all_inside}
 use Rattle.best.specs.Best.{writing_numbers, unset_of, InRangeOf, swing_of, advance_of, delay_of}
 use Rattle.best.specs.machine.Trial.{trial_of, lowest_unset_of}
@@ -56,8 +57,8 @@ trial_in_range w within =
 lowest_of_five
     : (a b c d e : Bool)
     → cond (anywhere passed (a ∷ b ∷ c ∷ d ∷ e ∷ false ∷ false ∷ false ∷ false ∷ false ∷ false ∷ []))
-    (suc (lowest passed (a ∷ b ∷ c ∷ d ∷ e ∷ false ∷ false ∷ false ∷ false ∷ false ∷ false ∷ []))) 0
-    ≡ cond (anywhere passed (a ∷ b ∷ c ∷ d ∷ e ∷ [])) (suc (lowest passed (a ∷ b ∷ c ∷ d ∷ e ∷ []))) 0
+    (Some (suc (lowest passed (a ∷ b ∷ c ∷ d ∷ e ∷ false ∷ false ∷ false ∷ false ∷ false ∷ false ∷ [])))) None
+    ≡ cond (anywhere passed (a ∷ b ∷ c ∷ d ∷ e ∷ [])) (Some (suc (lowest passed (a ∷ b ∷ c ∷ d ∷ e ∷ [])))) None
 unfolding anywhere lowest
 lowest_of_five true b c d e = refl
 lowest_of_five false true c d e = refl
@@ -66,15 +67,21 @@ lowest_of_five false false false true e = refl
 lowest_of_five false false false false true = refl
 lowest_of_five false false false false false = refl
 
-pub lowest_of_trial : (w : Writing) → lowest_unset (trial_of w) ≡ lowest_unset_of w
-unfolding lowest_unset unset lowest_unset_of unset_of
+lowest_of_trial
+    : (w : Writing)
+    → cond (anywhere passed (unset (trial_of w))) (Some (suc (lowest passed (unset (trial_of w))))) None
+    ≡ lowest_unset_of w
+unfolding unset lowest_unset_of unset_of
 lowest_of_trial w = lowest_of_five _ _ _ _ _
 
-none_found : (any : Bool) (place : ℕ) → cond any (suc place) 0 ≡ 0 → any ≡ false
-none_found true place e = absurd (omega arith)
+some_is_not_none : {n : ℕ} → ◌≡◌ {A = Option ℕ} (Some n) None → ⊥
+some_is_not_none e = true≢false (ap is_some e)
+
+none_found : (any : Bool) (place : ℕ) → cond any (Some (suc place)) None ≡ None → any ≡ false
+none_found true place e = absurd (some_is_not_none e)
 none_found false place e = refl
 
-pub none_unset : (w : Writing) → lowest_unset_of w ≡ 0 → anywhere passed (unset_of w) ≡ false
+pub none_unset : (w : Writing) → lowest_unset_of w ≡ None → anywhere passed (unset_of w) ≡ false
 unfolding lowest_unset_of
 none_unset w e = none_found _ _ e
 
@@ -93,8 +100,8 @@ place_in a = a.place
 by_number
     : (any true_one : Bool) (place n k : ℕ)
     → refused n k ≡ refuse_if any 1 (suc place) (refuse_if (not true_one) 2 0 (accepted 0))
-    → (n ≡ 1 → k ≡ cond any (suc place) 0) × ((n ≡ 1 → ⊥) → 0 ≡ cond any (suc place) 0)
-by_number true true_one place n k e = (λ _. ap place_in e, λ other. absurd (other (ap number_in e)))
+    → (n ≡ 1 → Some k ≡ cond any (Some (suc place)) None) × ((n ≡ 1 → ⊥) → None ≡ cond any (Some (suc place)) None)
+by_number true true_one place n k e = (λ _. ap (λ (a : Answer). Some a.place) e, λ other. absurd (other (ap number_in e)))
 by_number false true place n k e =
     (λ one. absurd (let q : n ≡ 0 = ap number_in e in omega (arith, one, q)), λ other. refl)
 by_number false false place n k e =
@@ -104,8 +111,8 @@ by_number false false place n k e =
 pub place_of_unset
     : (w : Writing) (n k : ℕ)
     → refused n k ≡ profile_rule (trial_of w)
-    → (n ≡ 1 → k ≡ lowest_unset_of w) × ((n ≡ 1 → ⊥) → 0 ≡ lowest_unset_of w)
-unfolding profile_rule lowest_unset
+    → (n ≡ 1 → Some k ≡ lowest_unset_of w) × ((n ≡ 1 → ⊥) → None ≡ lowest_unset_of w)
+unfolding profile_rule
 place_of_unset w n k e =
     let told = by_number (anywhere passed (unset (trial_of w))) (is_true (trial_of w)) _ n k e in
     (λ one. told.0 one ∙ lowest_of_trial w, λ other. told.1 other ∙ lowest_of_trial w)
@@ -113,11 +120,11 @@ place_of_unset w n k e =
 by_acceptance
     : (any true_one : Bool) (place : ℕ)
     → accepted 0 ≡ refuse_if any 1 (suc place) (refuse_if (not true_one) 2 0 (accepted 0))
-    → 0 ≡ cond any (suc place) 0
+    → None ≡ cond any (Some (suc place)) None
 by_acceptance true true_one place e = absurd (let q : ◌≡◌ {A = ℕ} 0 1 = ap number_in e in omega (arith, q))
 by_acceptance false true_one place e = refl
 
-pub no_place_if_accepted : (w : Writing) → accepted 0 ≡ profile_rule (trial_of w) → 0 ≡ lowest_unset_of w
-unfolding profile_rule lowest_unset
+pub no_place_if_accepted : (w : Writing) → accepted 0 ≡ profile_rule (trial_of w) → None ≡ lowest_unset_of w
+unfolding profile_rule
 no_place_if_accepted w e =
     by_acceptance (anywhere passed (unset (trial_of w))) (is_true (trial_of w)) _ e ∙ lowest_of_trial w

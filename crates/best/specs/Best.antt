@@ -3,11 +3,15 @@
 -- `Claims`.
 use Rattle.std.specs.Prelude.{ℕ, suc, ◌+◌, ◌-◌, ◌*◌, ◌/◌, min, Bool, cond, not, ◌&&◌, List, [], ◌∷◌, eqb, leb, ltb}
 use Rattle.lists.specs.Place.{anywhere, lowest, passed}
-use Rattle.refusal.specs.Answer.{Answer, accepted, refuse_if}
+use Rattle.std.specs.Prelude.{Result, Ok, Err}
+use Rattle.refusal.specs.Answer.{Answer, accepted, refused, refuse_if}
+use Rattle.refusal.specs.Table.{number_of, place_of}
+use Rattle.refusal.specs.declared.Refusal.{Refusal}
 use Rattle.timing.specs.Numbers.{ranges}
 use Rattle.timing.specs.Profile.{outside_of, Inside}
 use Rattle.timing.specs.declared.Profile.{Profile}
 use Rattle.best.specs.declared.Writing.{Writing}
+use Rattle.best.specs.declared.Best.{Best}
 
 -- ---- the five numbers
 
@@ -121,3 +125,13 @@ no_profile =
 -- the profile that is handed back
 unfoldable pub best_given : Writing → Profile
 best_given w = cond (eqb (best_rule w).number 0) (best_profile w) no_profile
+
+-- what the code answers, as the paper gives it
+abbrev pub best_answer : Result Best Refusal → Answer
+best_answer (Ok best) = accepted best.margin
+best_answer (Err r) = refused (number_of r) (place_of r)
+
+-- and its profile: all 0 on a refusal
+abbrev pub profile_given : Result Best Refusal → Profile
+profile_given (Ok best) = best.profile
+profile_given (Err r) = no_profile

@@ -4,19 +4,18 @@
 #![tactic(auto)]
 
 ghost use Rattle.std.specs.Prelude.{◌≡◌};
-ghost use Rattle.refusal.specs.Answer.{counted_answer};
-ghost use Rattle.best.specs.Best.{best_rule, best_given};
+ghost use Rattle.best.specs.Best.{best_answer, profile_given, best_rule, best_given};
 
 mod trial;
 mod windows;
 
-use refusal::{Counted, Refusal};
-use timing::{Bounds, Clocks, HalfClocks, Profile};
+use refusal::Refusal;
+use timing::{Clocks, HalfClocks, Profile};
 use trial::lowest_unset;
 use windows::{best_margin, centred, has_windows};
 
 // The five numbers that a drive writes with. Any 16-bit number can stand in each place.
-#[derive(Clone, Copy)]
+#[derive(Clone, Copy, PartialEq, Eq)]
 pub struct Writing {
     pub t1: HalfClocks,
     pub t0: HalfClocks,
@@ -25,54 +24,25 @@ pub struct Writing {
     pub late: Clocks,
 }
 
-// The answer: 1, 2, or the margin; and the profile that has it, all 0 on a refusal.
-#[derive(Clone, Copy)]
+// The largest margin, and the profile that has it.
+#[derive(Clone, Copy, PartialEq, Eq)]
 pub struct Best {
-    pub answer: Counted,
+    pub margin: u16,
     pub profile: Profile,
 }
 
-// Stands where there is no profile.
-const NONE: Profile = Profile {
-    t1: HalfClocks(0),
-    t0: HalfClocks(0),
-    early: Clocks(0),
-    normal: Clocks(0),
-    late: Clocks(0),
-    min: HalfClocks(0),
-    short: Bounds {
-        b23: HalfClocks(0),
-        b34: HalfClocks(0),
-    },
-    long: Bounds {
-        b23: HalfClocks(0),
-        b34: HalfClocks(0),
-    },
-    rpt: HalfClocks(0),
-};
-
 // 1, 2; else the profile with the largest margin.
-pub fn best_windows(w: Writing) -> Best
-    ensures answer { counted_answer result.answer ≡ best_rule w }
-    ensures profile { result.profile ≡ best_given w }
+pub fn best_windows(w: Writing) -> Result<Best, Refusal>
+    ensures answer { best_answer result ≡ best_rule w }
+    ensures profile { profile_given result ≡ best_given w }
 {
-    let which = lowest_unset(w);
-    if which != 0 {
-        return Best {
-            answer: Counted::Refused(Refusal::ProfileOutOfRange(which)),
-            profile: NONE,
-        };
+    if let Some(which) = lowest_unset(w) {
+        return Err(Refusal::ProfileOutOfRange(which));
     }
     if has_windows(w) {
         let margin = best_margin(w);
         let profile = centred(w, margin);
-        return Best {
-            answer: Counted::Count(margin as usize),
-            profile,
-        };
+        return Ok(Best { margin, profile });
     }
-    Best {
-        answer: Counted::Refused(Refusal::ProfileInconsistent),
-        profile: NONE,
-    }
+    Err(Refusal::ProfileInconsistent)
 }

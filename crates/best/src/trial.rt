@@ -3,7 +3,7 @@ ghost use Rattle.std.specs.Prelude.{◌≡◌};
 ghost use Rattle.best.specs.machine.Trial.{trial_of, lowest_unset_of};
 
 use crate::Writing;
-use refusal::Verdict;
+use refusal::Refusal;
 use timing::{Bounds, Clocks, HalfClocks, Profile};
 
 // The five numbers with windows that are in range, so that `timing` can be asked about the five.
@@ -29,17 +29,15 @@ pub fn trial(w: Writing) -> Profile
     }
 }
 
-// Which of the five is the first out of range, from 1; 0 for none.
-pub fn lowest_unset(w: Writing) -> u32
+// Which of the five is the first out of range, from 1.
+pub fn lowest_unset(w: Writing) -> Option<u32>
     ensures { result ≡ lowest_unset_of w }
 {
     match timing::check(trial(w)) {
-        Verdict::Accepted => 0,
-        Verdict::Refused(refusal) => {
-            if refusal.number() == 1 {
-                return refusal.place();
-            }
-            0
-        }
+        Ok(()) => None,
+        Err(refusal) => match refusal {
+            Refusal::ProfileOutOfRange(which) => Some(which),
+            _ => None,
+        },
     }
 }

@@ -1,17 +1,11 @@
 // The largest margin, and the windows that have it.
-ghost use Rattle.std.specs.Prelude.{min, ◌+◌, ◌<◌, ◌≡◌, true};
+ghost use Rattle.std.specs.Prelude.{◌+◌, ◌<◌, ◌≡◌, true};
 ghost use Rattle.best.specs.Best.{InRangeOf, swing_of, advance_of, delay_of, has_windows, best_margin, best_profile};
 ghost use Rattle.best.specs.Best;
 
 use crate::Writing;
 use crate::trial::trial;
 use timing::{Bounds, Clocks, HalfClocks, Profile};
-
-fn least(a: u16, b: u16) -> u16
-    ensures { result ≡ min a b }
-{
-    if a < b { a } else { b }
-}
 
 // The bound in the middle between the nearest lengths on its two sides; the lower of two.
 fn middle(below: u16, above: u16) -> u16
@@ -22,7 +16,7 @@ fn middle(below: u16, above: u16) -> u16
 }
 
 // The distances between the compare points, in half clocks: document 01's D, its part before Normal and its part after.
-#[derive(Clone, Copy)]
+#[derive(Clone, Copy, PartialEq, Eq)]
 struct Shifts {
     d: u16,
     e: u16,
@@ -57,7 +51,7 @@ pub fn best_margin(w: Writing) -> u16
     ensures { result ≡ best_margin w }
 {
     let s = shifts_of(w);
-    least(w.t1.0 - s.d - 1, (w.t0.0 - s.l - 1) / 2)
+    (w.t1.0 - s.d - 1).min((w.t0.0 - s.l - 1) / 2)
 }
 
 // Each bound in the middle, Min and Rpt as far out as the margin needs.

@@ -1,7 +1,5 @@
 -- Two lists that agree in the used intervals get equal clearances too: equal answers use as many intervals, and the
 -- least is that over those. Rests on no axiom.
-use Rattle.std.proofs.Common.{◌≡◌, length, take}
-use Rattle.fields.specs.FieldRule.{field_reading}
 use Rattle.fields.proofs.AgreeLaws.{two_lists_that_agree}
 use Rattle.clearance.specs.Answers.{field_with_clearance}
 use Rattle.clearance.specs.Claims.{UsedIntervalsDecideAll}

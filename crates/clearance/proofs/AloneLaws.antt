@@ -8,7 +8,7 @@ use Rattle.timing.specs.declared.Profile.{Profile}
 use Rattle.timing.specs.declared.Class.{Class}
 use Rattle.timing.specs.declared.Class.TheVariants.{Narrow, Two, Three, Four, Wide}
 use Rattle.timing.specs.declared.cursor.Cursor.{Cursor}
-use Rattle.clearance.specs.Clearance.{KeepsWithin, ClearanceBy, IsClearance, clearance_in, clearance_of}
+use Rattle.clearance.specs.Clearance.{KeepsWithin, ClearanceBy, IsClearance, clearance_of}
 use Rattle.clearance.proofs.CursorLaws.{reachable}
 use Rattle.clearance.proofs.MostLaws.{clearance_is_the_most, kept_is_within_most, of_clearance}
 

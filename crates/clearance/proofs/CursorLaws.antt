@@ -5,7 +5,7 @@ use Rattle.timing.specs.Profile.{profile_rule}
 use Rattle.timing.specs.Class.{cursor_of, Ascending, behind, cursor_past, cursor_after}
 use Rattle.timing.specs.declared.Profile.{Profile}
 use Rattle.timing.specs.declared.cursor.Cursor.{Cursor}
-use Rattle.timing.proofs.ProfileLaws.{Kept, kept}
+use Rattle.timing.proofs.ProfileLaws.{kept}
 use Rattle.timing.proofs.EdgeLaws.{either_ascends, ascending_past}
 use Rattle.clearance.specs.machine.Nearest.{Reachable}
 

@@ -7,7 +7,7 @@ use Rattle.timing.specs.Class.{behind, cursor_past, cursor_after}
 use Rattle.timing.specs.machine.Edges.{is_steady}
 use Rattle.timing.specs.declared.cursor.Cursor.{Cursor}
 use Rattle.timing.proofs.SteadyLaws.{steady_stays}
-use Rattle.clearance.specs.Clearance.{clearance_in, clearances_from, least_from}
+use Rattle.clearance.specs.Clearance.{clearances_from, least_from}
 use Rattle.clearance.specs.machine.Nearest.{Reachable, none_met, met_with, least_met, alike_from}
 use Rattle.clearance.specs.machine.Seen.{seen_past, seen_from}
 use Rattle.clearance.specs.declared.extremes.Extremes.{Extremes}

@@ -16,14 +16,11 @@ pub fn extremes_alike(start: Extremes, bounds: Bounds, intervals: &[u16]) -> Ext
     let mut longest = start.longest;
     let mut from = start.from;
     let mut below = start.below;
-    let mut k: usize = 0;
-    while k < intervals.len() {
-        let interval = intervals[k];
+    for &interval in intervals {
         shortest = first(shortest, interval);
         longest = last(longest, interval);
         from = first(from, first_past(bounds, interval));
         below = last(below, last_past(bounds, interval));
-        k += 1;
     }
     Extremes {
         shortest,
@@ -48,15 +45,12 @@ pub fn extremes_by(
     let mut longest = start.longest;
     let mut from = start.from;
     let mut below = start.below;
-    let mut k: usize = 0;
-    while k < intervals.len() {
-        let interval = intervals[k];
+    for (k, &interval) in intervals.iter().enumerate() {
         let bounds = bounds_by(masks[k], short, long);
         shortest = first(shortest, interval);
         longest = last(longest, interval);
         from = first(from, first_past(bounds, interval));
         below = last(below, last_past(bounds, interval));
-        k += 1;
     }
     Extremes {
         shortest,

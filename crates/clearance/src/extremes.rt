@@ -1,6 +1,6 @@
 // What is kept of the intervals of a list to tell their least clearance: at Min and Rpt the shortest and the longest
 // decide, at the bounds between them the nearest from a bound up and the nearest below one.
-ghost use Rattle.std.specs.Prelude.{◌≡◌, ◌-◌, ◌≤◌, min};
+ghost use Rattle.std.specs.Prelude.{◌≡◌, ◌≤◌};
 ghost use Rattle.clearance.specs.machine.Nearest.{turned, first_of, last_of, past_bound, room, none_met};
 ghost use Rattle.clearance.specs.machine.Nearest.{first_past, last_past, met_with, least_met};
 
@@ -11,7 +11,7 @@ use timing::Bounds;
 fn turned(x: u16) -> u16
     ensures { result ≡ turned x }
 {
-    std::num::wrapping_add_u16(x, 32768)
+    x.wrapping_add(32768)
 }
 
 pub fn first(a: u16, b: u16) -> u16
@@ -36,7 +36,7 @@ pub fn last(a: u16, b: u16) -> u16
 fn past(bound: u16, interval: u16) -> u16
     ensures { result ≡ past_bound bound interval }
 {
-    std::num::wrapping_sub_u16(interval, turned(bound))
+    interval.wrapping_sub(turned(bound))
 }
 
 // Of the ways past either bound, the first and the last.
@@ -52,30 +52,16 @@ pub fn last_past(bounds: Bounds, interval: u16) -> u16
     last(past(bounds.b23.0, interval), past(bounds.b34.0, interval))
 }
 
-fn lesser(a: u16, b: u16) -> u16
-    ensures { result ≡ min a b }
-{
-    if b < a {
-        return b;
-    }
-    a
-}
-
-// How much a number is above another; 0 where it is not.
-fn above(a: u16, b: u16) -> u16
-    ensures { result ≡ a - b }
-{
-    a - lesser(a, b)
-}
-
 // How far the places of a first and a last number are inside two others; 0 where one is outside.
 fn room(from: u16, to: u16, first: u16, last: u16) -> u16
     ensures { result ≡ room from to (turned first) (turned last) }
 {
-    lesser(above(turned(first), from), above(to, turned(last)))
+    let up = turned(first).saturating_sub(from);
+    let down = to.saturating_sub(turned(last));
+    up.min(down)
 }
 
-#[derive(Clone, Copy)]
+#[derive(Clone, Copy, PartialEq, Eq)]
 pub struct Extremes {
     pub shortest: u16,
     pub longest: u16,
@@ -115,6 +101,6 @@ impl Extremes {
         ensures { result ≡ least_met min rpt self }
     {
         let outer = room(turned(min), turned(rpt - 1), self.shortest, self.longest);
-        lesser(outer, room(0, 65535, self.from, self.below))
+        outer.min(room(0, 65535, self.from, self.below))
     }
 }

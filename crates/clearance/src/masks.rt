@@ -10,7 +10,7 @@ use timing::{Bounds, Cursor, HalfClocks};
 fn mask_of(two: bool) -> u16
     ensures { result ≡ mask_of two }
 {
-    std::num::wrapping_sub_u16(0, two as u16)
+    0u16.wrapping_sub(two as u16)
 }
 
 // All ones where a number is below another, by what their difference borrows: a compare becomes a jump in a loop whose
@@ -18,7 +18,7 @@ fn mask_of(two: bool) -> u16
 fn below(a: u16, b: u16) -> u16
     ensures { result ≡ mask_of (nat_lt a b) }
 {
-    (std::num::wrapping_sub_u32(a as u32, b as u32) >> 16) as u16
+    ((a as u32).wrapping_sub(b as u32) >> 16) as u16
 }
 
 // Of an interval where the classing stands.
@@ -26,7 +26,7 @@ fn mask_in(cursor: Cursor, interval: u16) -> u16
     requires { Ascending cursor }
     ensures { result ≡ mask_in cursor interval }
 {
-    let past = std::num::wrapping_sub_u16(interval, cursor.min.0);
+    let past = interval.wrapping_sub(cursor.min.0);
     below(past, cursor.bounds.b23.0 - cursor.min.0)
 }
 
@@ -34,8 +34,8 @@ fn chosen(mask: u16, short: HalfClocks, long: HalfClocks) -> HalfClocks
     requires { IsMask mask }
     ensures { result ≡ (if is_ones mask then short else long) }
 {
-    let change = std::num::wrapping_sub_u16(short.0, long.0);
-    HalfClocks(std::num::wrapping_add_u16(long.0, change & mask))
+    let change = short.0.wrapping_sub(long.0);
+    HalfClocks(long.0.wrapping_add(change & mask))
 }
 
 // The bounds behind an interval of this mask, each chosen by itself.
@@ -66,10 +66,8 @@ fn fill_alike(cursor: Cursor, intervals: &[u16], masks: &mut [u16])
     requires masks_len { length masks.old ≡ length intervals.now }
     ensures { masks.new ≡ map (mask_in cursor) intervals.now }
 {
-    let mut k: usize = 0;
-    while k < intervals.len() {
-        masks[k] = mask_of(cursor.meets_two(intervals[k]));
-        k += 1;
+    for (k, &interval) in intervals.iter().enumerate() {
+        masks[k] = mask_of(cursor.meets_two(interval));
     }
 }
 
@@ -80,12 +78,10 @@ fn fill_in_turn(start: Cursor, intervals: &[u16], masks: &mut [u16])
     ensures { masks.new ≡ masks_from start intervals.now }
 {
     let mut cursor = start;
-    let mut k: usize = 0;
-    while k < intervals.len() {
-        let mask = mask_in(cursor, intervals[k]);
+    for (k, &interval) in intervals.iter().enumerate() {
+        let mask = mask_in(cursor, interval);
         masks[k] = mask;
         cursor = behind_mask(cursor, mask);
-        k += 1;
     }
 }
 

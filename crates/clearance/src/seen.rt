@@ -7,7 +7,6 @@ ghost use Rattle.clearance.specs.machine.Seen.{seen_past, seen_from};
 use crate::blocks::{extremes_alike, extremes_by};
 use crate::extremes::Extremes;
 use crate::masks::fill;
-use lists::at_most;
 use timing::Cursor;
 
 // As many intervals as are looked at together, so that it is done in vector instructions: one that goes by the cursor,
@@ -17,7 +16,7 @@ const BLOCK: usize = 129;
 // The mask of class 2.
 const ONES: u16 = 0xffff;
 
-#[derive(Clone, Copy)]
+#[derive(Clone, Copy, PartialEq, Eq)]
 pub struct Seen {
     pub extremes: Extremes,
     pub cursor: Cursor,
@@ -81,7 +80,7 @@ impl Seen {
         let mut seen = self;
         let mut from: usize = 0;
         while from < intervals.len() {
-            let n = at_most(BLOCK, intervals.len() - from);
+            let n = BLOCK.min(intervals.len() - from);
             seen = seen.block(&intervals[from..from + n]);
             from += n;
         }

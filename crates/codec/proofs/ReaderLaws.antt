@@ -10,12 +10,11 @@ use lib.ListN.{length, take, drop, length-map}
 use borrow.Author.Tests.{lt-ltb, le-ltb}
 use Rattle.lists.specs.Filled.{stored_at}
 use Rattle.lists.proofs.StoreLaws.{stored_at_front_fills, mapped_at_front}
+use Rattle.std.specs.Prelude.{Result, Err}
 use Rattle.refusal.specs.Table.{number_of, place_of}
 use Rattle.refusal.specs.Answer.{Answer, accepted, refused, refuse_if, first_refusal, verdict_answer}
 use Rattle.refusal.specs.declared.Refusal.{Refusal}
-use Rattle.refusal.specs.declared.Refusal.TheVariants.{TooLong, OutputTooShort}
-use Rattle.refusal.specs.declared.Verdict.{Verdict}
-use Rattle.refusal.specs.declared.Verdict.TheVariants.{Refused}
+use Rattle.refusal.specs.declared.Refusal.TheVariants.{OutputTooShort}
 use Rattle.refusal.proofs.AnswerLaws.{first_refusal_passes, refusal_decides, verdict_refuses, refusal_keeps_the_buffer}
 use Rattle.timing.specs.Profile.{profile_rule}
 use Rattle.timing.specs.Class.{at_start, classes_of}
@@ -55,18 +54,13 @@ module _ (p : Profile) (ds old : List ℕ) where
   unfolding read_output
   refuses r rule = (rule, refusal_keeps_the_buffer r _ _ _ rule)
 
-  pub profile_refuses : (v : Verdict) (r : Refusal) → verdict_answer v ≡ profile_rule p → v ≡ Refused r → Refuses r
-  unfolding read_rule
-  profile_refuses v r e q = refuses r (verdict_refuses v r _ _ e q)
-
   module _ (accepts : (profile_rule p).number ≡ 0) where
-    pub too_many_refused : 51202 < length ds → Refuses TooLong
-    unfolding read_rule
-    too_many_refused h = refuses TooLong (rw (first_refusal_passes, lt-ltb))
-
     module _ (few : length ds ≤ 51202) where
       pub edge_refuses
-          : (v : Verdict) (r : Refusal) → verdict_answer v ≡ edge_rule (classes_of p ds) → v ≡ Refused r → Refuses r
+          : (v : Result (Unit {0}) Refusal) (r : Refusal)
+          → verdict_answer v ≡ edge_rule (classes_of p ds)
+          → v ≡ Err r
+          → Refuses r
       unfolding read_rule
       edge_refuses v r e q = refuses r (rw (first_refusal_passes, le-ltb) (verdict_refuses v r _ _ e q))
 
@@ -101,8 +95,16 @@ module _ (p : Profile) (ds old : List ℕ) where
           pub used_is_small : r.used ≤ 51202
           used_is_small = rw (read, whole.0) (omega (arith, few_cells))
 
-          pub machine_answers : strip_answer r.reading (r.used - 1) ≡ strip_rule cs
+          machine_answers : strip_answer r.reading (r.used - 1) ≡ strip_rule cs
           machine_answers = rw (read, whole.0, zero-add, (strip_by_ran cs (omega (arith, few_cells))).0)
+
+          -- what the strip reads as
+          pub strip_is
+              : (answer : Answer) (last : ℕ)
+              → answer ≡ strip_answer r.reading last
+              → last ≡ r.used - 1
+              → answer ≡ strip_rule cs
+          strip_is answer last told is_last = told ∙ ap (strip_answer r.reading) is_last ∙ machine_answers
 
         from_strip
             : read_rule p ds (length old)

@@ -13,9 +13,9 @@ use lib.ListN.{length, get_or, drop, set, length-append, length-drop}
 use lib.Seq.{set-set, set-get_or, drop-append-le}
 use Rattle.lists.specs.Filled.{stored_at}
 use Rattle.lists.specs.Place.{everywhere}
-use Rattle.lists.proofs.PlaceLaws.{everywhere_of_none, everywhere_of_passing}
+use Rattle.lists.proofs.PlaceLaws.{everywhere_of_passing}
 use Rattle.lists.proofs.PlaceLaws.{everywhere_passes_at_first, everywhere_in_rest}
-use Rattle.lists.proofs.StoreLaws.{stored_one, stored_none, stored_one_more}
+use Rattle.lists.proofs.StoreLaws.{stored_none, stored_one_more}
 use Rattle.lists.proofs.TableLaws.{entry_is_rule}
 use Rattle.timing.specs.declared.Profile.{Profile}
 use Rattle.items.specs.Item.{is_byte}

@@ -6,12 +6,12 @@ ghost use Rattle.codec.specs.machine.Windows.{cells_in};
 ghost use Rattle.codec.specs.machine.Pen.{drawing, writing, laid, entered, begun, finished, leaves, wrote_byte};
 ghost use Rattle.codec.specs.machine.Pen.{wrote, closed};
 
+use items::MARK_A1;
+
 // The windows in which two cells end, a bit each. In the others one ends.
 const ENDS_TWO: u64 = 0xc0cfc0cfc0cfc0cf;
 
-const MARK_A1: usize = 0x1a1;
-
-#[derive(Clone, Copy)]
+#[derive(Clone, Copy, PartialEq, Eq)]
 pub struct Pen {
     // the byte before, whose last four bits count
     pub previous: usize,
@@ -70,7 +70,7 @@ fn finish_mark(table: &[u16; 128], mark: usize, at: usize, out: &mut [u16]) -> P
     ensures { writing result out.new
         ≡ leaves mark (finished table.now (drawing at out.old) mark) }
 {
-    if mark == MARK_A1 {
+    if mark == MARK_A1 as usize {
         let fifth = lay(table, 0b101001, at, out);
         return Pen {
             previous: 0b1001,
@@ -116,10 +116,8 @@ pub fn draw_bytes(table: &[u16; 128], start: Pen, bytes: &[u16], out: &mut [u16]
         ≡ wrote table.now (writing start out.old) bytes.now }
 {
     let mut pen = start;
-    let mut k: usize = 0;
-    while k < bytes.len() {
-        pen = draw_byte(table, pen, bytes[k], out);
-        k += 1;
+    for &byte in bytes {
+        pen = draw_byte(table, pen, byte, out);
     }
     pen
 }

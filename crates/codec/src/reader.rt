@@ -10,7 +10,7 @@ ghost use Rattle.codec.specs.Reader.{read_rule, read_output};
 use half_cells::words_to_bytes;
 use intervals::edges::check_edges;
 use passes::{last_place, look_over, pass_over};
-use refusal::{Counted, Refusal, Verdict};
+use refusal::Refusal;
 use symbols::Reading;
 use timing::Profile;
 
@@ -23,24 +23,24 @@ const MAX_BYTES: u32 = 6400;
 
 // What the whole strip reads as, given the place of its last interval: 7, 4, 8, or the number of items. A strip of
 // 8n + 2 bits ends one bit into a byte, and that bit is 0: with the data bit before it, four half cells.
-fn conclude(m: Reading, last: u32) -> Counted
+fn conclude(m: Reading, last: u32) -> Result<usize, Refusal>
     ensures { counted_answer result ≡ strip_answer m last }
 {
     if m.held != 4 {
-        return Counted::Refused(Refusal::NotWholeBytes);
+        return Err(Refusal::NotWholeBytes);
     }
     if MAX_BYTES < m.words {
-        return Counted::Refused(Refusal::TooLong);
+        return Err(Refusal::TooLong);
     }
     if m.is_stray() {
-        return Counted::Refused(Refusal::MisplacedMark(m.stray_place(last)));
+        return Err(Refusal::MisplacedMark(m.stray_place(last)));
     }
-    Counted::Count(m.words as usize)
+    Ok(m.words as usize)
 }
 
 // A strip in which every interval is a cell: 7, 4, 8, 9, or all of its items. Code words are stored first, and turned
 // into items where they stand.
-fn read_cells(p: Profile, intervals: &[u16], out: &mut [u16]) -> Counted
+fn read_cells(p: Profile, intervals: &[u16], out: &mut [u16]) -> Result<usize, Refusal>
     requires p_value { (profile_rule p).number ≡ 0 }
     requires intervals_len_bound { length intervals.now ≤ 51202 }
     requires intervals_value { (edge_rule (classes_of p intervals.now)).number ≡ 0 }
@@ -49,44 +49,35 @@ fn read_cells(p: Profile, intervals: &[u16], out: &mut [u16]) -> Counted
 {
     let pass = look_over(p, intervals, MAX_INTERVALS as u32);
     let reading = pass.reading;
-    match conclude(reading, last_place(pass.used)) {
-        Counted::Refused(refusal) => Counted::Refused(refusal),
-        Counted::Count(n) => {
-            if out.len() < n {
-                return Counted::Refused(Refusal::OutputTooShort);
-            }
-            pass_over(p, intervals, MAX_INTERVALS as u32, out);
-            words_to_bytes(&mut out[..n]);
-            Counted::Count(n)
-        }
+    let n = conclude(reading, last_place(pass.used))?;
+    if out.len() < n {
+        return Err(Refusal::OutputTooShort);
     }
+    pass_over(p, intervals, MAX_INTERVALS as u32, out);
+    words_to_bytes(&mut out[..n]);
+    Ok(n)
 }
 
 // A strip of at most 51,202 intervals under an accepted profile: the first of 5 or 6, 7, 4, 8, 9, or all of its items.
-fn read_strip(p: Profile, intervals: &[u16], out: &mut [u16]) -> Counted
+fn read_strip(p: Profile, intervals: &[u16], out: &mut [u16]) -> Result<usize, Refusal>
     requires p_value { (profile_rule p).number ≡ 0 }
     requires intervals_len_bound { length intervals.now ≤ 51202 }
     ensures answer { counted_answer result ≡ read_rule p intervals.now (length out.old) }
     ensures output { out.new ≡ read_output p intervals.now out.old }
 {
-    match check_edges(p, intervals) {
-        Verdict::Refused(refusal) => Counted::Refused(refusal),
-        Verdict::Accepted => read_cells(p, intervals, out),
-    }
+    check_edges(p, intervals)?;
+    read_cells(p, intervals, out)
 }
 
 // A strip of intervals as items: 1, 2, 4, the first of 5 or 6, 7, 4, 8, 9, or the number of items stored.
-pub fn read(p: Profile, intervals: &[u16], out: &mut [u16]) -> Counted
+#[tactic(auto, using(refusal::proofs::AnswerLaws::refusal_decides, refusal::proofs::AnswerLaws::refusal_keeps_the_buffer), unfolding(crate::specs::Reader::read_rule, crate::specs::Reader::read_output))]
+pub fn read(p: Profile, intervals: &[u16], out: &mut [u16]) -> Result<usize, Refusal>
     ensures answer { counted_answer result ≡ read_rule p intervals.now (length out.old) }
     ensures output { out.new ≡ read_output p intervals.now out.old }
 {
-    match timing::check(p) {
-        Verdict::Refused(refusal) => Counted::Refused(refusal),
-        Verdict::Accepted => {
-            if MAX_INTERVALS < intervals.len() {
-                return Counted::Refused(Refusal::TooLong);
-            }
-            read_strip(p, intervals, out)
-        }
+    timing::check(p)?;
+    if MAX_INTERVALS < intervals.len() {
+        return Err(Refusal::TooLong);
     }
+    read_strip(p, intervals, out)
 }

@@ -14,7 +14,7 @@ ghost use Rattle.codec.specs.Writer.{write_rule, write_output};
 use crate::pen::{Pen, draw_bytes, draw_closing};
 use crate::windows::window_table;
 use items::Check;
-use refusal::{Counted, Refusal, Verdict};
+use refusal::Refusal;
 use timing::Profile;
 
 // A pen and the check register, after some items.
@@ -42,7 +42,8 @@ fn write_run(table: &[u16; 128], start: Part, run: &[u16], out: &mut [u16]) -> P
     }
 }
 
-// Run by run, so that a check order finds the register as it is then. Behind the last no register is asked for.
+// Run by run, so that a check order finds the register as it is then. Behind the last no register is asked for. A
+// `while`, since a run's length comes out of the list.
 fn write_items(table: &[u16; 128], items: &[u16], out: &mut [u16]) -> Pen
     requires { (wrote table.now (writing fresh_pen out.old) (written items.now)).pen.cells < length out.old }
     ensures { writing result out.new
@@ -93,7 +94,7 @@ fn has_room(items: &[u16], bytes: usize, room: usize) -> bool
 }
 
 // An accepted list under an accepted profile: 9, or its stream.
-fn write_list(p: Profile, items: &[u16], out: &mut [u16]) -> Counted
+fn write_list(p: Profile, items: &[u16], out: &mut [u16]) -> Result<usize, Refusal>
     requires p_value { (profile_rule p).number ≡ 0 }
     requires value { (list_rule items.now).number ≡ 0 }
     ensures answer { counted_answer result ≡ write_rule p items.now (length out.old) }
@@ -102,21 +103,18 @@ fn write_list(p: Profile, items: &[u16], out: &mut [u16]) -> Counted
     let bytes = items::written_bytes(items);
     if has_room(items, bytes, out.len()) {
         let count = write_stream(p, items, out);
-        return Counted::Count(count);
+        return Ok(count);
     }
-    Counted::Refused(Refusal::OutputTooShort)
+    Err(Refusal::OutputTooShort)
 }
 
 // A list of items as intervals: 1, 2, 4, 3, 9, or the number of intervals stored.
-pub fn write(p: Profile, items: &[u16], out: &mut [u16]) -> Counted
+#[tactic(auto, using(refusal::proofs::AnswerLaws::refusal_decides, refusal::proofs::AnswerLaws::refusal_keeps_the_buffer), unfolding(crate::specs::Writer::write_rule, crate::specs::Writer::write_output))]
+pub fn write(p: Profile, items: &[u16], out: &mut [u16]) -> Result<usize, Refusal>
     ensures answer { counted_answer result ≡ write_rule p items.now (length out.old) }
     ensures output { out.new ≡ write_output p items.now out.old }
 {
-    match timing::check(p) {
-        Verdict::Refused(refusal) => Counted::Refused(refusal),
-        Verdict::Accepted => match items::check_list(items) {
-            Verdict::Refused(refusal) => Counted::Refused(refusal),
-            Verdict::Accepted => write_list(p, items, out),
-        },
-    }
+    timing::check(p)?;
+    items::check_list(items)?;
+    write_list(p, items, out)
 }

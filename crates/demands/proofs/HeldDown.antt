@@ -1,6 +1,7 @@
 -- Why the limits are what document 02, (xii), asks for: what some list shows a one-byte list up to 1B shows, so that
 -- the search misses no side; and what it finds, moved by margin + 1, is in another class, which demand 3 says is refused
 -- or read as another list. Rests on no axiom.
+use Rattle.std.specs.Prelude.{Option}
 use Prim.Native.Nat.{ℕ, ◌+◌, ◌≤◌, ◌<◌}
 use mathlib.Core.Path.{◌≡◌, refl, sym, subst}
 use mathlib.Core.List.{List, [], ◌∷◌}
@@ -19,7 +20,7 @@ use Rattle.limits.specs.Sides.{sides, beyond}
 use Rattle.limits.specs.Limits.{one_more, CrossesAt, if_seen, limits_from, limits_of}
 use Rattle.limits.specs.machine.Search.{searched, limit_of}
 use Rattle.limits.specs.declared.side.Side.{Side}
-use Rattle.limits.specs.declared.search.Seen.{Seen}
+use Rattle.limits.specs.declared.search.Evidence.{Evidence as Shown}
 use Rattle.limits.specs.declared.Limit.{Limit}
 use Rattle.limits.proofs.KnownLaws.{Known}
 use Rattle.limits.proofs.FoundLaws.{Found, at, nowhere, search_finds}
@@ -105,7 +106,7 @@ module _ (p : Profile) (ok : AcceptedProfile p) where
 
     -- it names the side exactly when it should
     side_answered
-        : (q : Seen) {ss : List Side} {xs : List Limit}
+        : (q : Option Shown) {ss : List Side} {xs : List Limit}
         → Found k s 0 28 q
         → Answered p ss xs
         → Answered p (s ∷ ss) (if_seen p s q xs)

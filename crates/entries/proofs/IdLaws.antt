@@ -7,12 +7,12 @@ use mathlib.Core.List.{List}
 use native.Mathlib.Omega.{arith}
 use borrow.Author.Tests.{ltb-true, leb-true}
 use lib.ListN.{get_or}
+use Rattle.std.specs.Prelude.{Option, Some, None}
 use Rattle.lists.proofs.BoolLaws.{both}
 use Rattle.timing.specs.declared.Profile.{Profile}
 use Rattle.entries.specs.FieldKinds.{field_of, items_of, opens_with, identifies, is_id}
 use Rattle.entries.specs.machine.Steps.{opens, id_with, identified, id_read}
-use Rattle.entries.specs.declared.id.IdRead.{IdRead}
-use Rattle.entries.specs.declared.id.IdRead.TheVariants.{Id, NoId}
+use Rattle.entries.specs.declared.id.Id.{Id}
 use Rattle.entries.proofs.FieldLaws.{FieldReads}
 
 -- ---- the four bytes are data bytes
@@ -44,7 +44,7 @@ module _ (p : Profile) (ds : List ℕ) where
   unopened true false t s n c h e = refl
   unopened true true t s n c h e = absurd (true≢false e)
 
-  pub unopened_is_no_id : opens p ds 10 0xfe ≡ false → NoId ≡ id_read p ds
+  pub unopened_is_no_id : opens p ds 10 0xfe ≡ false → None ≡ id_read p ds
   unfolding id_read is_id identifies opens
   unopened_is_no_id e = rw unopened
 
@@ -53,27 +53,27 @@ module _ (p : Profile) (ds : List ℕ) where
       → FieldReads p ds 10 used holds
       → (t : Bool)
       → holds ≡ t
-      → cond t (identified us used) NoId ≡ id_read p ds
+      → cond t (identified us used) None ≡ id_read p ds
   unfolding id_read is_id identified
   field_is_identified f true is = rw (f.does, f.sum ∙ is, f.uses, and-true)
   field_is_identified f false is = rw (f.does, f.sum ∙ is, and-false)
 
   -- ---- what the answer means
 
-  abbrev pub IdMeans : IdRead → Type 0
-  IdMeans NoId = is_id p ds ≡ false
-  IdMeans (Id track side sector code used) =
+  abbrev pub IdMeans : Option Id → Type 0
+  IdMeans None = is_id p ds ≡ false
+  IdMeans (Some id) =
       (is_id p ds ≡ true)
-      × (get_or us 4 0 ≡ track)
-      × (get_or us 5 0 ≡ side)
-      × (get_or us 6 0 ≡ sector)
-      × (get_or us 7 0 ≡ code)
-      × ((field_of p ds 10).used ≡ used)
+      × (get_or us 4 0 ≡ id.track)
+      × (get_or us 5 0 ≡ id.side)
+      × (get_or us 6 0 ≡ id.sector)
+      × (get_or us 7 0 ≡ id.code)
+      × ((field_of p ds 10).used ≡ id.used)
 
-  means_by : (t : Bool) → is_id p ds ≡ t → IdMeans (cond t (id_with us (field_of p ds 10).used) NoId)
+  means_by : (t : Bool) → is_id p ds ≡ t → IdMeans (cond t (Some (id_with us (field_of p ds 10).used)) None)
   means_by true e = (e, refl, refl, refl, refl, refl)
   means_by false e = e
 
-  pub id_means : (r : IdRead) → r ≡ id_read p ds → IdMeans r
+  pub id_means : (r : Option Id) → r ≡ id_read p ds → IdMeans r
   unfolding id_read
   id_means r e = rw e (means_by (is_id p ds) refl)

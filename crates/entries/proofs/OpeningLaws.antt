@@ -10,6 +10,7 @@ use borrow.Author.Tests.{eqb-true}
 use lib.Dec.{eqb}
 use lib.ListN.{length, get_or, take, length-replicate}
 use lib.Seq.{take_all, get_or-take}
+use Rattle.std.specs.Prelude.{Option, Some, None}
 use Rattle.lists.specs.Filled.{stored_at}
 use Rattle.lists.proofs.StoreLaws.{front_fills}
 use Rattle.lists.proofs.BoolLaws.{both}
@@ -28,8 +29,10 @@ use Rattle.fields.proofs.MarksLaws.{after_marks, marks_ahead}
 use Rattle.entries.specs.FieldKinds.{field_of, items_of, reads, opens_with}
 use Rattle.entries.specs.machine.Steps.{opens, opened_of, GivesItems}
 use Rattle.entries.specs.declared.opening.Opened.{Opened}
-use Rattle.entries.specs.declared.opening.Opened.TheVariants.{Field, NoField}
 use Rattle.entries.proofs.FieldLaws.{FieldReads}
+
+abbrev pub opened_with : ℕ → Bool → Opened
+opened_with used holds = record { used = used; holds = holds }
 
 module _ (p : Profile) (ds : List ℕ) (n : ℕ) where
   -- ---- the items of a field that reads
@@ -79,7 +82,7 @@ module _ (p : Profile) (ds : List ℕ) (n : ℕ) where
     pub opens_nothing
         : (old new : List ℕ)
         → opens p ds n kind ≡ false
-        → (NoField ≡ opened_of p ds n kind) × GivesItems p ds n kind old new
+        → (None ≡ opened_of p ds n kind) × GivesItems p ds n kind old new
     unfolding opened_of
     opens_nothing old new none = (rw none, λ e. absurd (true≢false (sym e ∙ none)))
 
@@ -92,25 +95,25 @@ module _ (p : Profile) (ds : List ℕ) (n : ℕ) where
       unfolding opens
       opens_by_kind = rw f.does
 
-      pub opened : opens p ds n kind ≡ true → Field used holds ≡ opened_of p ds n kind
+      pub opened : opens p ds n kind ≡ true → Some (opened_with used holds) ≡ opened_of p ds n kind
       unfolding opened_of
       opened e = rw (e, f.uses, f.sum)
 
     -- ---- what the answer means
 
-    abbrev pub Means : Opened → Type 0
-    Means NoField = opens p ds n kind ≡ false
-    Means (Field used holds) = (opens p ds n kind ≡ true) × FieldReads p ds n used holds
+    abbrev pub Means : Option Opened → Type 0
+    Means None = opens p ds n kind ≡ false
+    Means (Some o) = (opens p ds n kind ≡ true) × FieldReads p ds n o.used o.holds
 
     means_by
         : (t : Bool)
         → opens p ds n kind ≡ t
-        → Means (cond t (Field (field_of p ds n).used (field_of p ds n).holds) NoField)
+        → Means (cond t (Some (opened_with (field_of p ds n).used (field_of p ds n).holds)) None)
     unfolding opens
     means_by true e = (e, record { does = (both _ (opens_with _ _) e).0; uses = refl; sum = refl })
     means_by false e = e
 
-    pub opened_means : (o : Opened) → o ≡ opened_of p ds n kind → Means o
+    pub opened_means : (o : Option Opened) → o ≡ opened_of p ds n kind → Means o
     unfolding opened_of
     opened_means o e = rw e (means_by (opens p ds n kind) refl)
 

@@ -1,6 +1,7 @@
 -- The search goes by locks: a lock that is found stands at least 64 intervals after its start and within the list, so
 -- each search starts after the one before it, and as many searches as there are intervals are enough. Rests on no
 -- axiom.
+use Rattle.std.specs.Prelude.{Result, Ok, Err}
 use Prim.Native.Nat.{ℕ, zero, suc, ◌+◌, ◌-◌, ◌<◌, ◌≤◌}
 use mathlib.Core.Path.{◌≡◌, refl, sym, ap, ◌∙◌}
 use mathlib.Core.Bool.{Bool, true, false, cond, ◌&&◌, true≢false}
@@ -14,8 +15,6 @@ use Rattle.lists.proofs.BoolLaws.{both}
 use Rattle.refusal.specs.Table.{number_of, place_of}
 use Rattle.refusal.specs.Answer.{Answer, accepted, refused, counted_answer}
 use Rattle.refusal.specs.declared.Refusal.{Refusal}
-use Rattle.refusal.specs.declared.Counted.{Counted}
-use Rattle.refusal.specs.declared.Counted.TheVariants.{Count, Refused}
 use Rattle.refusal.proofs.AnswerLaws.{number_is_not_zero, first_refusal_accepts, first_refusal_passes}
 use Rattle.timing.specs.Profile.{profile_rule}
 use Rattle.timing.specs.Class.{classes_of}
@@ -84,21 +83,21 @@ module _ (p : Profile) (ds : List ℕ) (start : ℕ) where
     pub place : lock_place p ds start ≡ k
     pub within : k < length ds
 
-  abbrev pub Searched : Counted → Type 0
-  Searched (Count k) = Lock k
-  Searched (Refused r) = has_lock p ds start ≡ false
+  abbrev pub Searched : (Result ℕ Refusal) → Type 0
+  Searched (Ok k) = Lock k
+  Searched (Err r) = has_lock p ds start ≡ false
 
-  search_says : (answer : Counted) → counted_answer answer ≡ find_rule p ds start → Searched answer
-  search_says (Count k) e =
+  search_says : (answer : (Result ℕ Refusal)) → counted_answer answer ≡ find_rule p ds start → Searched answer
+  search_says (Ok k) e =
       let (lock, place) = found_is_lock k e in
       record { lock = lock; place = place; within = omega (arith, (lock_is_ahead lock).1) }
-  search_says (Refused r) e = refused_is_no_lock r e
+  search_says (Err r) e = refused_is_no_lock r e
 
   pub search_means
       : (profile_rule p).number ≡ 0
-      → (found : Counted)
+      → (found : (Result ℕ Refusal))
       → counted_answer found ≡ search_rule p ds start
-      → (answer : Counted)
+      → (answer : (Result ℕ Refusal))
       → found ≡ answer
       → Searched answer
   search_means fair found e answer q =

@@ -1,6 +1,6 @@
 -- Why a field does not read of which an interval at the front is no cell: a cell gives two bits at most, so that a
 -- field of n bytes uses more than 4 n intervals, and it stops at one that is no cell. Rests on no axiom.
-use Prim.Native.Nat.{ℕ, zero, suc, ◌+◌, ◌-◌, ◌*◌, ◌≤◌}
+use Prim.Native.Nat.{ℕ, zero, suc, ◌+◌, ◌*◌, ◌≤◌}
 use mathlib.Core.Path.{◌≡◌, refl, sym, ◌∙◌}
 use mathlib.Core.Bool.{true, false, true≢false}
 use mathlib.Core.List.{List, ◌∷◌}

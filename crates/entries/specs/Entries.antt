@@ -1,11 +1,11 @@
 -- Document 02, (iii): the entries of a track. The search is the paper's, over what the finder and the field reader of
 -- `fields` promise; the list may have any length. Places count from the track's first interval. No lemmas here.
-use Rattle.std.specs.Prelude.{ℕ, zero, suc, ◌+◌, ◌-◌, Bool, cond, ◌&&◌, List, [], ◌∷◌, ◌++◌, eqb, length, get_or, drop}
+use Rattle.std.specs.Prelude.{ℕ, zero, suc, ◌+◌, ◌-◌, Bool, cond, ◌&&◌, Option, Some, None}
+use Rattle.std.specs.Prelude.{List, [], ◌∷◌, ◌++◌, eqb, length, get_or, drop}
 use Rattle.timing.specs.declared.Profile.{Profile}
 use Rattle.locks.specs.Lock.{find_rule}
 use Rattle.entries.specs.FieldKinds.{field_of, items_of, is_id, data_bytes, is_data}
 use Rattle.entries.specs.declared.DataField.{DataField}
-use Rattle.entries.specs.declared.DataField.TheVariants.{Found, Missing}
 use Rattle.entries.specs.declared.Entry.{Entry}
 
 module _ (p : Profile) (ds : List ℕ) where
@@ -29,11 +29,12 @@ module _ (p : Profile) (ds : List ℕ) where
   has_data start code = has_lock start && is_data p (drop (lock_place start) ds) code
 
   -- the data's place and whether its sum holds; or that no data was found
-  unfoldable pub data_from : ℕ → ℕ → DataField
+  unfoldable pub data_from : ℕ → ℕ → Option DataField
   data_from start code =
       cond (has_data start code)
-      (Found (lock_place start) (field_of p (drop (lock_place start) ds) (data_bytes code)).holds)
-      Missing
+      (Some
+      (record { place = lock_place start; holds = (field_of p (drop (lock_place start) ds) (data_bytes code)).holds }))
+      None
 
   -- a byte of the ID at a place
   unfoldable pub id_byte : ℕ → ℕ → ℕ

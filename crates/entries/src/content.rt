@@ -6,18 +6,17 @@ ghost use Rattle.entries.specs.machine.Steps.{data_read, sought};
 use crate::DataField;
 use crate::opening::{Opened, read_opened};
 use locks::finder::search;
-use refusal::Counted;
 use timing::Profile;
 
-// The data field of an entry, and where the search goes on after it.
-#[derive(Clone, Copy)]
+// The data field of an entry, if there is one, and where the search goes on after it.
+#[derive(Clone, Copy, PartialEq, Eq)]
 pub struct Sought {
-    pub field: DataField,
+    pub field: Option<DataField>,
     pub end: usize,
 }
 
 // As many bytes as three marks, FB, the data of the code and two check bytes are. The first four tell what it is.
-fn read_data(p: Profile, intervals: &[u16], code: u8) -> Opened
+fn read_data(p: Profile, intervals: &[u16], code: u8) -> Option<Opened>
     requires { (profile_rule p).number ≡ 0 }
     ensures { result ≡ data_read p intervals.now code }
 {
@@ -31,20 +30,18 @@ pub fn find_data(p: Profile, intervals: &[u16], start: usize, code: u8) -> Sough
     requires { (profile_rule p).number ≡ 0 }
     ensures { result ≡ sought p intervals.now start code }
 {
-    match search(p, intervals, start) {
-        Counted::Refused(_) => Sought {
-            field: DataField::Missing,
-            end: start,
-        },
-        Counted::Count(k) => match read_data(p, &intervals[k..], code) {
-            Opened::NoField => Sought {
-                field: DataField::Missing,
-                end: start,
-            },
-            Opened::Field { used, holds } => Sought {
-                field: DataField::Found { place: k, holds },
-                end: k + used,
-            },
-        },
+    let none = Sought {
+        field: None,
+        end: start,
+    };
+    let Ok(place) = search(p, intervals, start) else {
+        return none;
+    };
+    let Some(Opened { used, holds }) = read_data(p, &intervals[place..], code) else {
+        return none;
+    };
+    Sought {
+        field: Some(DataField { place, holds }),
+        end: place + used,
     }
 }

@@ -8,16 +8,13 @@ use crate::opening::{Opened, opens_with, read_opened};
 use timing::Profile;
 
 // What a field reads as, taken for an ID: its four bytes, and how many intervals it used.
-#[derive(Clone, Copy)]
-pub enum IdRead {
-    Id {
-        track: u8,
-        side: u8,
-        sector: u8,
-        code: u8,
-        used: usize,
-    },
-    NoId,
+#[derive(Clone, Copy, PartialEq, Eq)]
+pub struct Id {
+    pub track: u8,
+    pub side: u8,
+    pub sector: u8,
+    pub code: u8,
+    pub used: usize,
 }
 
 // FE and four data bytes, the last a length code.
@@ -33,11 +30,11 @@ fn is_identity(items: &[u16]) -> bool
 }
 
 // The four bytes fit a byte each, since they are data bytes.
-fn four_bytes(items: &[u16], used: usize) -> IdRead
+fn four_bytes(items: &[u16], used: usize) -> Id
     requires { (8 ≤ length items.now) × (identifies items.now ≡ true) }
     ensures { result ≡ id_with items.now used }
 {
-    IdRead::Id {
+    Id {
         track: items[4] as u8,
         side: items[5] as u8,
         sector: items[6] as u8,
@@ -46,29 +43,25 @@ fn four_bytes(items: &[u16], used: usize) -> IdRead
     }
 }
 
-fn identify(items: &[u16], used: usize) -> IdRead
+fn identify(items: &[u16], used: usize) -> Option<Id>
     requires { 8 ≤ length items.now }
     ensures { result ≡ identified items.now used }
 {
     if is_identity(items) {
-        return four_bytes(items, used);
+        return Some(four_bytes(items, used));
     }
-    IdRead::NoId
+    None
 }
 
 // The intervals begin at a lock.
-pub fn read_id(p: Profile, intervals: &[u16]) -> IdRead
+pub fn read_id(p: Profile, intervals: &[u16]) -> Option<Id>
     requires { (profile_rule p).number ≡ 0 }
     ensures { result ≡ id_read p intervals.now }
 {
     let mut items = [0u16; 10];
-    match read_opened(p, intervals, 10, 0xfe, &mut items) {
-        Opened::NoField => IdRead::NoId,
-        Opened::Field { used, holds } => {
-            if holds {
-                return identify(&items, used);
-            }
-            IdRead::NoId
-        }
+    let Opened { used, holds } = read_opened(p, intervals, 10, 0xfe, &mut items)?;
+    if holds {
+        return identify(&items, used);
     }
+    None
 }

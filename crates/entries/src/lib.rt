@@ -6,36 +6,35 @@ ghost use Rattle.timing.specs.Profile.{profile_rule};
 ghost use Rattle.entries.specs.machine.Steps.{step_at, step_from};
 
 use content::find_data;
-use id::{IdRead, read_id};
+use id::read_id;
 use locks::finder::search;
-use refusal::Counted;
 use timing::Profile;
 
 mod content;
 mod id;
 mod opening;
 
-// An entry's data field: the place of its lock and whether its sum holds, or that none was found.
-#[derive(Clone, Copy)]
-pub enum DataField {
-    Found { place: usize, holds: bool },
-    Missing,
+// An entry's data field: the place of its lock and whether its sum holds.
+#[derive(Clone, Copy, PartialEq, Eq)]
+pub struct DataField {
+    pub place: usize,
+    pub holds: bool,
 }
 
-// The four bytes after FE, the place of the ID's lock, and the data field.
-#[derive(Clone, Copy)]
+// The four bytes after FE, the place of the ID's lock, and the data field, if one was found.
+#[derive(Clone, Copy, PartialEq, Eq)]
 pub struct Entry {
     pub track: u8,
     pub side: u8,
     pub sector: u8,
     pub code: u8,
     pub place: usize,
-    pub field: DataField,
+    pub field: Option<DataField>,
 }
 
 // What one search finds: no lock, a lock at which no entry begins, or one at which an entry begins; and where the next
 // search starts.
-#[derive(Clone, Copy)]
+#[derive(Clone, Copy, PartialEq, Eq)]
 pub enum Step {
     End,
     Other { next: usize },
@@ -50,23 +49,16 @@ fn look_at(p: Profile, intervals: &[u16], k: usize) -> Step
     ensures { result ≡ step_at p intervals.now k }
 {
     match read_id(p, &intervals[k..]) {
-        IdRead::NoId => Step::Other { next: k + 1 },
-        IdRead::Id {
-            track,
-            side,
-            sector,
-            code,
-            used,
-        } => {
-            let sought = find_data(p, intervals, k + used, code);
-            let field = sought.field;
+        None => Step::Other { next: k + 1 },
+        Some(id) => {
+            let sought = find_data(p, intervals, k + id.used, id.code);
             let entry = Entry {
-                track,
-                side,
-                sector,
-                code,
+                track: id.track,
+                side: id.side,
+                sector: id.sector,
+                code: id.code,
                 place: k,
-                field,
+                field: sought.field,
             };
             Step::Begins {
                 entry,
@@ -82,7 +74,7 @@ pub fn find_entry(p: Profile, intervals: &[u16], start: usize) -> Step
     ensures { result ≡ step_from p intervals.now start }
 {
     match search(p, intervals, start) {
-        Counted::Refused(_) => Step::End,
-        Counted::Count(k) => look_at(p, intervals, k),
+        Err(_) => Step::End,
+        Ok(k) => look_at(p, intervals, k),
     }
 }

@@ -6,7 +6,7 @@ use mathlib.Core.Bool.{true}
 use mathlib.Core.List.{List, ◌∷◌}
 use native.Mathlib.Omega.{arith}
 use lib.ListN.{length, take}
-use Rattle.refusal.specs.Answer.{Answer, refused, first_refusal}
+use Rattle.refusal.specs.Answer.{Answer, first_refusal}
 use Rattle.timing.specs.Class.{is_cell}
 use Rattle.timing.specs.declared.Class.{Class}
 use Rattle.timing.specs.declared.Class.TheVariants.{Narrow, Two, Three, Four, Wide}

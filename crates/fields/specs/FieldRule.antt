@@ -1,13 +1,13 @@
 -- Document 01, "Turned-away numbers", field: 1, 2, 12, then 5, 6 or 11 as first met, 8, 9. No lemmas here.
-use Rattle.std.specs.Prelude.{ℕ, ◌+◌, ◌*◌, Bool, false, cond, List, eqb, ltb, length, drop}
+use Rattle.std.specs.Prelude.{ℕ, ◌+◌, ◌*◌, Bool, false, cond, List, Result, Ok, Err, eqb, ltb, length, drop}
 use Rattle.refusal.specs.Table.{number_of, place_of}
 use Rattle.refusal.specs.Answer.{Answer, accepted, refused, refuse_if, first_refusal, settled}
+use Rattle.refusal.specs.declared.Refusal.{Refusal}
 use Rattle.timing.specs.Profile.{outside, profile_rule}
 use Rattle.timing.specs.Class.{classes_of}
 use Rattle.timing.specs.declared.Profile.{Profile}
 use Rattle.fields.specs.Field.{field_stop, field_used, field_items, field_holds, field_stray, field_stray_place}
-use Rattle.fields.specs.declared.reader.FieldRead.{FieldRead}
-use Rattle.fields.specs.declared.reader.FieldRead.TheVariants.{Field, Refused}
+use Rattle.fields.specs.declared.reader.Field.{Field}
 
 -- the field reader's number, place and count
 unfoldable pub field_rule : Profile → List ℕ → ℕ → ℕ → Answer
@@ -29,9 +29,9 @@ abbrev pub field_turned_away : Answer → FieldAnswer
 field_turned_away a = record { answer = a; used = 0; holds = false }
 
 -- the field reader's answer, as it is declared
-abbrev pub field_answer : FieldRead → FieldAnswer
-field_answer (Field count used holds) = record { answer = accepted count; used = used; holds = holds }
-field_answer (Refused r) = field_turned_away (refused (number_of r) (place_of r))
+abbrev pub field_answer : Result Field Refusal → FieldAnswer
+field_answer (Ok f) = record { answer = accepted f.count; used = f.used; holds = f.holds }
+field_answer (Err r) = field_turned_away (refused (number_of r) (place_of r))
 
 -- and as the rules give it
 abbrev pub answer_with : Answer → ℕ → Bool → FieldAnswer

@@ -10,15 +10,10 @@ ghost use Rattle.fields.specs.Bytes.{byte_of};
 ghost use Rattle.fields.specs.machine.Gather.{gather_rule};
 ghost use Rattle.fields.specs.machine.End.{items_passed};
 
+use crate::gather::{PART, PART_WORDS};
 use half_cells::words_to_bytes;
-use lists::at_most;
 use passes::block::Progress;
 use timing::Profile;
-
-// The parts of a field, as in reading its items.
-const PART: usize = 256;
-
-const PART_WORDS: usize = 65;
 
 // Items from a place on as bytes, as many as there is room for.
 fn store_bytes(items: &[u16], at: usize, out: &mut [u8])
@@ -27,11 +22,9 @@ fn store_bytes(items: &[u16], at: usize, out: &mut [u8])
     if out.len() <= at {
         return;
     }
-    let count = at_most(out.len() - at, items.len());
-    let mut k: usize = 0;
-    while k < count {
-        out[at + k] = (items[k] % 256) as u8;
-        k += 1;
+    let count = (out.len() - at).min(items.len());
+    for (k, item) in items[..count].iter().enumerate() {
+        out[at + k] = (*item % 256) as u8;
     }
 }
 
@@ -46,7 +39,7 @@ fn put_part(words: &mut [u16], number: usize, skip: usize, out: &mut [u8])
     if skip <= number {
         return store_bytes(words, number - skip, out);
     }
-    let first = at_most(skip - number, words.len());
+    let first = (skip - number).min(words.len());
     store_bytes(&words[first..], 0, out);
 }
 

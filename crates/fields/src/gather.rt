@@ -15,27 +15,28 @@ use items::Check;
 use lists::store;
 use passes::block::Progress;
 use passes::last_place;
-use refusal::{Counted, Refusal, Verdict};
+use refusal::Refusal;
 use shifts::Pass;
 use symbols::Reading;
 use timing::Profile;
 
 // A field is read by parts of so many intervals, which have so many code words at most, and so a small buffer.
-const PART: usize = 256;
+pub const PART: usize = 256;
 
-const PART_WORDS: usize = 65;
+pub const PART_WORDS: usize = 65;
 
 // How far a pass came, and the check register after its items.
-#[derive(Clone, Copy)]
+#[derive(Clone, Copy, PartialEq, Eq)]
 struct Summed {
     pass: Pass,
     check: Check,
 }
 
-// How a pass over a field ends: why it is refused, or how many intervals it used; and whether the register is zero.
-#[derive(Clone, Copy)]
+// How a pass over a field ends: why it is refused, or how many intervals it used; and whether the register is zero. The
+// clauses `answer` and `sum` of `gather` name both, so it is no `Result` of the two.
+#[derive(Clone, Copy, PartialEq, Eq)]
 pub struct Gathered {
-    pub end: Counted,
+    pub end: Result<usize, Refusal>,
     pub holds: bool,
 }
 
@@ -69,17 +70,17 @@ fn pass_items(p: Profile, intervals: &[u16], n: u32, out: &mut [u16]) -> Summed
 }
 
 // How the pass over a field ends, with so many intervals used: 11, 8, or how many they are.
-pub fn conclude(m: Reading, used: usize, n: u32) -> Counted
+pub fn conclude(m: Reading, used: usize, n: u32) -> Result<usize, Refusal>
     requires { used ≤ 2 ^ 32 }
     ensures { counted_answer result ≡ end_rule m used n }
 {
     if m.words < n {
-        return Counted::Refused(Refusal::EndsEarly);
+        return Err(Refusal::EndsEarly);
     }
     if m.is_stray() {
-        return Counted::Refused(Refusal::MisplacedMark(m.stray_place(last_place(used))));
+        return Err(Refusal::MisplacedMark(m.stray_place(last_place(used))));
     }
-    Counted::Count(used)
+    Ok(used)
 }
 
 // A field of n bytes. An interval among the used ones that is no cell comes before all else.
@@ -95,11 +96,11 @@ pub fn gather(p: Profile, intervals: &[u16], n: u32, out: &mut [u16]) -> Gathere
     let used = pass.used;
     let holds = read.check.register == 0;
     match check_edges(p, &intervals[..used]) {
-        Verdict::Refused(refusal) => Gathered {
-            end: Counted::Refused(refusal),
+        Err(refusal) => Gathered {
+            end: Err(refusal),
             holds,
         },
-        Verdict::Accepted => Gathered {
+        Ok(()) => Gathered {
             end: conclude(pass.reading, used, n),
             holds,
         },

@@ -8,40 +8,34 @@ ghost use Rattle.fields.specs.machine.Gather.{checked_reading, checked_output};
 
 use crate::gather::gather;
 use lists::store;
-use refusal::{Counted, Refusal, Verdict};
+use refusal::Refusal;
 use timing::Profile;
 
 // The most bytes of a field: a sector of 1,024, its marks and its check bytes.
-const MAX_FIELD_BYTES: usize = 1030;
+pub const MAX_FIELD_BYTES: usize = 1030;
 
 // As many as an ID field has, and more.
-const SHORT_FIELD_BYTES: usize = 16;
+pub const SHORT_FIELD_BYTES: usize = 16;
 
 // What a field reads as: how many items, how many intervals they used, and whether the register is zero after them.
-#[derive(Clone, Copy)]
-pub enum FieldRead {
-    Field {
-        count: usize,
-        used: usize,
-        holds: bool,
-    },
-    Refused(Refusal),
+#[derive(Clone, Copy, PartialEq, Eq)]
+pub struct Field {
+    pub count: usize,
+    pub used: usize,
+    pub holds: bool,
 }
 
 // What was gathered, handed over where the output has room for it.
-pub fn deliver(items: &[u16], used: usize, holds: bool, out: &mut [u16]) -> FieldRead
+pub fn deliver(items: &[u16], used: usize, holds: bool, out: &mut [u16]) -> Result<Field, Refusal>
     ensures answer { field_answer result ≡ deliver_reading (length items.now) used holds (length out.old) }
     ensures output { out.new ≡ deliver_output items.now out.old }
 {
     if out.len() < items.len() {
-        return FieldRead::Refused(Refusal::OutputTooShort);
+        return Err(Refusal::OutputTooShort);
     }
     store(items, 0, out);
-    FieldRead::Field {
-        count: items.len(),
-        used,
-        holds,
-    }
+    let count = items.len();
+    Ok(Field { count, used, holds })
 }
 
 // The items wait in a buffer, as a refusal changes nothing that was lent.
@@ -51,22 +45,19 @@ fn read_into(
     n: usize,
     buffer: &mut [u16],
     out: &mut [u16],
-) -> FieldRead
+) -> Result<Field, Refusal>
     requires p_value { (profile_rule p).number ≡ 0 }
     requires le_n { (1 ≤ n) × (n ≤ 1030) × (n ≤ length buffer.old) }
     ensures answer { field_answer result ≡ checked_reading (classes_of p intervals.now) n (length out.old) }
     ensures output { out.new ≡ checked_output (classes_of p intervals.now) n out.old }
 {
     let gathered = gather(p, intervals, n as u32, buffer);
-    let end = gathered.end;
-    match end {
-        Counted::Refused(refusal) => FieldRead::Refused(refusal),
-        Counted::Count(used) => deliver(&buffer[..n], used, gathered.holds, out),
-    }
+    let used = gathered.end?;
+    deliver(&buffer[..n], used, gathered.holds, out)
 }
 
 // A short field has a short buffer: to clear the long one costs more than to read ten bytes.
-fn read_checked(p: Profile, intervals: &[u16], n: usize, out: &mut [u16]) -> FieldRead
+fn read_checked(p: Profile, intervals: &[u16], n: usize, out: &mut [u16]) -> Result<Field, Refusal>
     requires p_value { (profile_rule p).number ≡ 0 }
     requires le_n { (1 ≤ n) × (n ≤ 1030) }
     ensures answer { field_answer result ≡ checked_reading (classes_of p intervals.now) n (length out.old) }
@@ -81,19 +72,20 @@ fn read_checked(p: Profile, intervals: &[u16], n: usize, out: &mut [u16]) -> Fie
 }
 
 // 1, 2, 12, then 5, 6 or 11 as first met, 8, 9. On acceptance the items fill the front of the output.
-pub fn read_field(p: Profile, intervals: &[u16], n: usize, out: &mut [u16]) -> FieldRead
+pub fn read_field(
+    p: Profile,
+    intervals: &[u16],
+    n: usize,
+    out: &mut [u16],
+) -> Result<Field, Refusal>
     ensures answer { field_answer result ≡ field_reading p intervals.now n (length out.old) }
     ensures output { out.new ≡ field_output p intervals.now n out.old }
 {
-    match timing::check(p) {
-        Verdict::Refused(refusal) => FieldRead::Refused(refusal),
-        Verdict::Accepted => {
-            if (n < 1) | (MAX_FIELD_BYTES < n) {
-                return FieldRead::Refused(Refusal::CountOutOfRange);
-            }
-            read_checked(p, intervals, n, out)
-        }
+    timing::check(p)?;
+    if (n < 1) | (MAX_FIELD_BYTES < n) {
+        return Err(Refusal::CountOutOfRange);
     }
+    read_checked(p, intervals, n, out)
 }
 
 // Reads alike, and answers the rest of the caller's own list, from the first unused interval; on a refusal, all of it.
@@ -103,27 +95,29 @@ pub fn read_rest<'a>(p: Profile, intervals: &'a [u16], n: usize, out: &mut [u16]
     ensures output { out.new ≡ field_output p intervals.now n out.old }
 {
     match read_field(p, intervals, n, out) {
-        FieldRead::Refused(_) => intervals,
-        FieldRead::Field { used, .. } => &intervals[used..],
+        Err(_) => intervals,
+        Ok(field) => &intervals[field.used..],
     }
 }
 
 // Reads alike, and stores as many items as there is room for, without a buffer between: after a refusal other numbers
 // may stand there. Who reads field after field has checked the profile once.
-pub fn read_in_place(p: Profile, intervals: &[u16], n: usize, items: &mut [u16]) -> FieldRead
+pub fn read_in_place(
+    p: Profile,
+    intervals: &[u16],
+    n: usize,
+    items: &mut [u16],
+) -> Result<Field, Refusal>
     requires p_value { (profile_rule p).number ≡ 0 }
     requires le_n { (1 ≤ n) × (n ≤ 1030) }
     ensures answer { field_answer result ≡ checked_reading (classes_of p intervals.now) n n }
     ensures items { GathersItems (classes_of p intervals.now) n items.old items.new }
 {
     let gathered = gather(p, intervals, n as u32, items);
-    let end = gathered.end;
-    match end {
-        Counted::Refused(refusal) => FieldRead::Refused(refusal),
-        Counted::Count(used) => FieldRead::Field {
-            count: n,
-            used,
-            holds: gathered.holds,
-        },
-    }
+    let used = gathered.end?;
+    Ok(Field {
+        count: n,
+        used,
+        holds: gathered.holds,
+    })
 }

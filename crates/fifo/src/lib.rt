@@ -8,8 +8,10 @@ ghost use Rattle.fifo.specs.Rules.{Put, TakeData, TakeMark, ChipPut, ChipTake, R
 
 mod steps;
 
+use steps::Fault;
+
 // Every value is a state, and the promises speak of states: what `first` or `second` holds while no item stands there
-// has no effect, before or after an operation.
+// has no effect, before or after an operation. No `PartialEq` for that reason: values of one state may differ.
 #[repr(C)]
 #[derive(Clone, Copy)]
 pub struct Fifo {
@@ -35,15 +37,6 @@ pub struct FifoAnswer {
     pub next: Fifo,
 }
 
-// The bits of the error register; `NO_FAULT` sets none.
-const CHIP_FAULT: u16 = 1;
-
-const MARK_FAULT: u16 = 2;
-
-const PROCESSOR_FAULT: u16 = 4;
-
-const NO_FAULT: u16 = 0;
-
 impl Fifo {
     // Empty, with register 0, in the mode that `mode` says.
     pub fn new(mode: u16) -> Fifo
@@ -63,7 +56,7 @@ impl Fifo {
         ensures outcome { outcome_of result ≡ rule_of (Put item) (state_of self) }
     {
         if self.mode == 0 {
-            steps::append(self, item, PROCESSOR_FAULT)
+            steps::append(self, item, Fault::Processor)
         } else {
             steps::given(0, self)
         }
@@ -76,7 +69,7 @@ impl Fifo {
         if self.mode == 0 {
             steps::given(0, self)
         } else {
-            steps::shift(self, PROCESSOR_FAULT, MARK_FAULT)
+            steps::shift(self, Fault::Processor, Some(Fault::Mark))
         }
     }
 
@@ -87,7 +80,7 @@ impl Fifo {
         if self.mode == 0 {
             steps::given(0, self)
         } else {
-            steps::shift(self, PROCESSOR_FAULT, NO_FAULT)
+            steps::shift(self, Fault::Processor, None)
         }
     }
 
@@ -98,7 +91,7 @@ impl Fifo {
         if self.mode == 0 {
             steps::given(0, self)
         } else {
-            steps::append(self, item, CHIP_FAULT)
+            steps::append(self, item, Fault::Chip)
         }
     }
 
@@ -107,7 +100,7 @@ impl Fifo {
         ensures outcome { outcome_of result ≡ rule_of ChipTake (state_of self) }
     {
         if self.mode == 0 {
-            steps::shift(self, CHIP_FAULT, NO_FAULT)
+            steps::shift(self, Fault::Chip, None)
         } else {
             steps::given(0, self)
         }

@@ -8,14 +8,12 @@ ghost use Rattle.std.specs.Prelude.{◌≡◌, ◌<◌, map};
 ghost use Rattle.half_cells.specs.machine.Candidate.{data_bits, candidate};
 ghost use Rattle.half_cells.specs.machine.Word.{missing, is_mark_word, fits, cells_since, first_of_cells};
 
-const MARK_A1: u16 = 0x1a1;
-
-const MARK_C2: u16 = 0x1c2;
+use items::{MARK_A1, MARK_C2};
 
 // The words of the marks, each with its gap.
-const WORD_A1: u16 = 0x4489;
+pub const WORD_A1: u16 = 0x4489;
 
-const WORD_C2: u16 = 0x5224;
+pub const WORD_C2: u16 = 0x5224;
 
 // Every second bit of a word, moved together.
 fn data_bits(word: u16) -> u16
@@ -44,10 +42,8 @@ pub fn byte_of(word: u16) -> u16
 pub fn words_to_bytes(words: &mut [u16])
     ensures { words.new ≡ map candidate words.old }
 {
-    let mut k: usize = 0;
-    while k < words.len() {
-        words[k] = byte_of(words[k]);
-        k += 1;
+    for word in words {
+        *word = byte_of(*word);
     }
 }
 
@@ -78,13 +74,13 @@ pub fn cells_since(bits: u32, surplus: u32, gaps: u32) -> u32
     requires { surplus < 32 }
     ensures { result ≡ cells_since bits surplus gaps }
 {
-    let below = (surplus + 32 - u32::leading_zeros(gaps)) % 32;
-    u32::count_ones(bits & (1 << below) - 1)
+    let below = (surplus + 32 - gaps.leading_zeros()) % 32;
+    (bits & (1 << below) - 1).count_ones()
 }
 
 // The place of the first of so many cells, the last of which stands at this place.
 pub fn first_of_cells(at: u32, cells: u32) -> u32
     ensures { result ≡ first_of_cells at cells }
 {
-    std::num::wrapping_sub_u32(std::num::wrapping_add_u32(at, 1), cells)
+    at.wrapping_add(1).wrapping_sub(cells)
 }

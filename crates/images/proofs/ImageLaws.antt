@@ -52,6 +52,19 @@ module _ (b : Bit) (data_bit : is_gap b ≡ false) (word : ℕ) (words : List �
   lowest_is_unruly e =
       lowest_of_passing passed (is_unruly b word) _ (unruly_where_candidate_lacks b data_bit word e)
 
+  -- whether one is
+  pub some_after_ruly : has_word b word (candidate word) ≡ true
+      → anywhere passed (unruly_from b (word ∷ words)) ≡ anywhere passed (unruly_from (last_bit (candidate word)) words)
+  unfolding unruly_from
+  some_after_ruly e =
+      let ruly = ruly_where_candidate_has b data_bit word e in
+      anywhere_of_failing passed (is_unruly b word) _ ruly.0
+      ∙ ap (λ (w : ℕ). anywhere passed (unruly_from (last_bit w) words)) ruly.1
+
+  pub some_is_unruly : has_word b word (candidate word) ≡ false → anywhere passed (unruly_from b (word ∷ words)) ≡ true
+  unfolding unruly_from anywhere
+  some_is_unruly e = rw (unruly_where_candidate_lacks b data_bit word e)
+
   -- and whether none is
   pub none_unruly_from
       : not (anywhere passed (unruly_from b (word ∷ words)))

@@ -1,5 +1,5 @@
 -- What making stores: the written bytes fill the front, and turned into words they are the image. Rests on no axiom.
-use Prim.Native.Nat.{ℕ, suc, ◌+◌, ◌-◌, ◌≤◌, ◌<◌}
+use Prim.Native.Nat.{ℕ, suc, ◌+◌, ◌≤◌, ◌<◌}
 use mathlib.Core.Path.{◌≡◌, sym, ap, ap₂, ◌∙◌}
 use mathlib.Core.List.{List, [], ◌∷◌, ◌++◌, append_assoc}
 use native.Mathlib.Numerals.{add-one}
@@ -55,9 +55,6 @@ module _ (items old : List ℕ) (listed : (list_rule items).number ≡ 0) where
 
     front_is_written : take n stored ≡ written items
     front_is_written = rw (fills, ← written_count) (front_of_filled (written items) old)
-
-    pub front_count : n ≡ length (take n stored)
-    front_count = rw (front_is_written, written_count)
 
     rest_is_kept : drop n stored ≡ drop n old
     unfolding filled

@@ -2,15 +2,14 @@
 -- and reading make the tests of their rules in order. Rests on no axiom.
 use Prim.Native.Nat.{ℕ, ◌≤◌, ◌<◌}
 use mathlib.Core.Path.{◌≡◌, refl, sym}
-use mathlib.Core.Bool.{Bool, true, false}
+use mathlib.Core.Bool.{true, false}
 use mathlib.Core.List.{List, []}
-use native.Mathlib.Omega.{arith}
 use lib.Dec.{ltb}
 use lib.ListN.{length, take}
 use borrow.Author.Tests.{ltb-false, le-ltb, lt-ltb, eq-eqb}
 use Rattle.lists.specs.Place.{anywhere, lowest, passed}
 use Rattle.lists.specs.Filled.{filled}
-use Rattle.lists.proofs.PlaceLaws.{lowest_of_none, lowest_of_some}
+use Rattle.lists.proofs.PlaceLaws.{lowest_of_some}
 use Rattle.lists.proofs.StoreLaws.{front_of_filled}
 use Rattle.refusal.specs.Answer.{Answer, accepted, refused, first_refusal, settled}
 use Rattle.refusal.proofs.AnswerLaws.{first_refusal_accepts, refuse_if_accepts}

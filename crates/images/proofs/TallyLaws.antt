@@ -2,28 +2,25 @@
 -- that it stays small. Rests on no axiom.
 use Prim.Native.Nat.{ℕ, ◌+◌, ◌%◌, ◌≤◌, ◌<◌}
 use mathlib.Core.Path.{◌≡◌, refl, sym, ap, ◌∙◌}
-use mathlib.Core.Bool.{true, false, cond}
+use mathlib.Core.Bool.{true, cond}
 use mathlib.Core.List.{List, [], ◌∷◌, ◌++◌}
 use native.Mathlib.Nat.{zero-add}
 use native.Mathlib.Omega.{arith}
 use native.Mathlib.Numerals.{add-one}
-use lib.Count.{ones, ones_in, ones-le}
 use lib.Dec.{eqb}
 use lib.ListN.{length, get_or, drop}
 use lib.Seq.{drop-cons}
 use Rattle.lists.specs.Place.{everywhere}
 use Rattle.lists.proofs.PlaceLaws.{everywhere_in_rest, everywhere_passes_at_first}
-use Rattle.items.specs.Item.{is_byte, is_mark}
+use Rattle.items.specs.Item.{is_byte}
 use Rattle.items.specs.Rule.{list_rule}
 use Rattle.items.specs.Written.{written}
 use Rattle.items.proofs.RuleLaws.{listed}
 use Rattle.items.proofs.WrittenLaws.{length_of_written, written_are_bytes}
-use Rattle.symbols.specs.Bits.{Bit, O, byte_bits}
+use Rattle.symbols.specs.Bits.{O}
 use Rattle.symbols.specs.Cells.{written_cells}
-use Rattle.symbols.proofs.UnitLaws.{digit_is_small, cells_at_most}
-use Rattle.symbols.proofs.HalfCells.{ones_among}
-use Rattle.symbols.proofs.NumberLaws.{ones_of_number}
-use Rattle.words.specs.Words.{clocked, data_word, mark_word, word_of, last_bit}
+use Rattle.symbols.proofs.UnitLaws.{cells_at_most}
+use Rattle.words.specs.Words.{last_bit}
 use Rattle.images.specs.machine.Tally.{no_tally, tallied_byte, tallied}
 use Rattle.images.specs.declared.count.Tally.{Tally}
 use Rattle.images.proofs.WordLaws.{last_bit_is_data, word_is_kept}
@@ -47,31 +44,6 @@ unfolding tallied
 tallied_none t = refl
 
 -- ---- small
-
-few_ones : (bs : List Bit) → ones_among bs ≤ length bs
-unfolding ones_among
-few_ones [] = omega arith
-few_ones (b ∷ bs) = let digit = digit_is_small b in let rest = few_ones bs in omega arith
-
-ones_of_data : (before : Bit) (w : ℕ) → ones (data_word before w) ≤ 16
-unfolding data_word clocked byte_bits ones ones_in
-ones_of_data before w =
-    let bits = clocked before (byte_bits w) in
-    let count : ones (data_word before w) ≡ 0 + ones_among bits = ones_of_number 0 bits in
-    let most : ones_among bits ≤ 16 = few_ones bits in
-    omega arith
-
-ones_of_mark : (w : ℕ) → ones (mark_word w) ≤ 16
-unfolding mark_word
-ones_of_mark w =
-    elim (eqb w (256 + 0xa1)) as (λ t. ones (cond t 0x4489 0x5224) ≤ 16)
-    [ true ↦ ones-le 16 0x4489 (omega arith) | false ↦ ones-le 16 0x5224 (omega arith) ]
-
-pub sixteen_at_most : (before : Bit) (w : ℕ) → ones (word_of before w) ≤ 16
-unfolding word_of
-sixteen_at_most before w =
-    elim (is_mark w) as (λ t. ones (cond t (mark_word w) (data_word before w)) ≤ 16)
-    [ true ↦ ones_of_mark w | false ↦ ones_of_data before w ]
 
 pub tally_at_least : (t : Tally) (ws : List ℕ) → t.cells ≤ (tallied t ws).cells
 unfolding tallied tallied_byte

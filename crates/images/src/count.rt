@@ -7,14 +7,13 @@ ghost use Rattle.symbols.specs.Cells.{written_cells};
 ghost use Rattle.images.specs.machine.Tally.{no_tally, tallied_byte, tallied};
 
 use items::Check;
-use lists::at_most;
 use words::made_word;
 
 // How many items are turned into bytes together: a check order is two.
 const BLOCK: usize = 64;
 
 // The cells that ended so far, and the byte before. No list writes 65,536 cells: numbers of 16 bits add up fastest.
-#[derive(Clone, Copy)]
+#[derive(Clone, Copy, PartialEq, Eq)]
 pub struct Tally {
     pub cells: u16,
     pub previous: u16,
@@ -24,7 +23,7 @@ fn count_byte(tally: Tally, byte: u16) -> Tally
     requires { (tallied_byte tally byte).cells < 65536 }
     ensures { result ≡ tallied_byte tally byte }
 {
-    let ones = u16::count_ones(made_word(tally.previous, byte)) as u16;
+    let ones = made_word(tally.previous, byte).count_ones() as u16;
     Tally {
         cells: tally.cells + ones,
         previous: byte,
@@ -36,10 +35,8 @@ fn count_bytes(start: Tally, bytes: &[u16]) -> Tally
     ensures { result ≡ tallied start bytes.now }
 {
     let mut tally = start;
-    let mut k: usize = 0;
-    while k < bytes.len() {
-        tally = count_byte(tally, bytes[k]);
-        k += 1;
+    for &byte in bytes {
+        tally = count_byte(tally, byte);
     }
     tally
 }
@@ -57,7 +54,7 @@ fn count_blocks(items: &[u16]) -> Tally
     let mut bytes = [0u16; 2 * BLOCK];
     let mut from: usize = 0;
     while from < items.len() {
-        let end = from + at_most(BLOCK, items.len() - from);
+        let end = from + BLOCK.min(items.len() - from);
         let stored = items::write_bytes(check, &items[from..end], &mut bytes);
         let count = stored.count;
         tally = count_bytes(tally, &bytes[..count]);

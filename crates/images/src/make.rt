@@ -10,7 +10,7 @@ ghost use Rattle.images.specs.Rules.{make_rule, make_output};
 
 use items::Check;
 use lists::store;
-use refusal::{Counted, Refusal, Verdict};
+use refusal::Refusal;
 use words::{code_words, made_word, word_of};
 
 // So few words are made sooner than the table is copied.
@@ -21,12 +21,10 @@ fn turn_few(bytes: &mut [u16])
     ensures { bytes.new ≡ image_of bytes.old }
 {
     let mut previous: u16 = 0;
-    let mut k: usize = 0;
-    while k < bytes.len() {
-        let byte = bytes[k];
-        bytes[k] = made_word(previous, byte);
+    for place in bytes.iter_mut() {
+        let byte = *place;
+        *place = made_word(previous, byte);
         previous = byte;
-        k += 1;
     }
 }
 
@@ -36,12 +34,10 @@ fn turn_many(bytes: &mut [u16])
 {
     let table = code_words();
     let mut previous: u16 = 0;
-    let mut k: usize = 0;
-    while k < bytes.len() {
-        let byte = bytes[k];
-        bytes[k] = word_of(&table, previous, byte);
+    for place in bytes.iter_mut() {
+        let byte = *place;
+        *place = word_of(&table, previous, byte);
         previous = byte;
-        k += 1;
     }
 }
 
@@ -68,27 +64,26 @@ fn store_written(items: &[u16], bytes: usize, out: &mut [u16])
 }
 
 // An accepted list: 9, or its image.
-fn make_words(items: &[u16], out: &mut [u16]) -> Counted
+fn make_words(items: &[u16], out: &mut [u16]) -> Result<usize, Refusal>
     requires { (list_rule items.now).number ≡ 0 }
     ensures answer { counted_answer result ≡ make_rule items.now (length out.old) }
     ensures output { out.new ≡ make_output items.now out.old }
 {
     let n = items::written_bytes(items);
     if out.len() < n {
-        return Counted::Refused(Refusal::OutputTooShort);
+        return Err(Refusal::OutputTooShort);
     }
     store_written(items, n, out);
     turn_into_words(&mut out[..n]);
-    Counted::Count(n)
+    Ok(n)
 }
 
 // A list of items as an image: 4, 3, 9, or the number of words stored.
-pub fn make_image(items: &[u16], out: &mut [u16]) -> Counted
+#[tactic(auto, using(refusal::proofs::AnswerLaws::refusal_decides, refusal::proofs::AnswerLaws::refusal_keeps_the_buffer), unfolding(crate::specs::Rules::make_rule, crate::specs::Rules::make_output))]
+pub fn make_image(items: &[u16], out: &mut [u16]) -> Result<usize, Refusal>
     ensures answer { counted_answer result ≡ make_rule items.now (length out.old) }
     ensures output { out.new ≡ make_output items.now out.old }
 {
-    match items::check_list(items) {
-        Verdict::Refused(refusal) => Counted::Refused(refusal),
-        Verdict::Accepted => make_words(items, out),
-    }
+    items::check_list(items)?;
+    make_words(items, out)
 }

@@ -1,5 +1,5 @@
 // Reading an image: the words are checked whole before the first item is stored.
-ghost use Rattle.std.specs.Prelude.{◌≤◌, ◌≡◌, not, map, length};
+ghost use Rattle.std.specs.Prelude.{◌≤◌, ◌≡◌, not, cond, Some, None, map, length};
 ghost use Rattle.lists.specs.Place.{anywhere, lowest, passed};
 ghost use Rattle.lists.specs.Filled.{filled};
 ghost use Rattle.refusal.specs.Answer.{verdict_answer, counted_answer};
@@ -8,37 +8,29 @@ ghost use Rattle.images.specs.Image.{has_word, unruly_in};
 ghost use Rattle.images.specs.Rules.{words_rule, read_image_rule, read_image_output};
 ghost use Rattle.half_cells.specs.machine.Candidate.{candidate};
 
-use half_cells::{byte_of, words_to_bytes};
+use half_cells::{WORD_A1, WORD_C2, byte_of, words_to_bytes};
 use lists::store;
-use refusal::{Counted, Refusal, Verdict};
+use refusal::Refusal;
 use words::{code_words, made_word, word_of};
 
 // The most words that an image may have.
 const MAX_WORDS: usize = 6400;
 
-// The words of the marks.
-const WORD_A1: u16 = 0x4489;
-
-const WORD_C2: u16 = 0x5224;
-
-// The place of the lowest word that its candidate does not have after the byte before; the length where there is none.
-fn find_unruly(words: &[u16]) -> usize
-    ensures { result ≡ lowest passed (unruly_in words.now) }
+// The place of the lowest word that its candidate does not have after the byte before.
+fn find_unruly(words: &[u16]) -> Option<usize>
+    ensures { result
+        ≡ cond (anywhere passed (unruly_in words.now)) (Some (lowest passed (unruly_in words.now))) None }
 {
     let table = code_words();
     let mut previous: u16 = 0;
-    let mut k: usize = 0;
-    while k < words.len() {
-        let word = words[k];
+    for (k, &word) in words.iter().enumerate() {
         let byte = byte_of(word);
-        if word_of(&table, previous, byte) == word {
-            previous = byte;
-            k += 1;
-        } else {
-            return k;
+        if word_of(&table, previous, byte) != word {
+            return Some(k);
         }
+        previous = byte;
     }
-    k
+    None
 }
 
 // Whether its candidate has a word: a mark's is told first, so that no test of a mark is left for the others.
@@ -61,28 +53,27 @@ fn all_ruly(words: &[u16]) -> bool
 {
     let mut all = true;
     let mut previous: u16 = 0;
-    let mut k: usize = 0;
-    while k < words.len() {
-        let word = words[k];
+    for &word in words {
         all = all & is_ruly(previous, word);
         previous = word;
-        k += 1;
     }
     all
 }
 
 // Whether the words are an image: 4, then 16.
-fn check_words(words: &[u16]) -> Verdict
+fn check_words(words: &[u16]) -> Result<(), Refusal>
     ensures { verdict_answer result ≡ words_rule words.now }
 {
     if MAX_WORDS < words.len() {
-        return Verdict::Refused(Refusal::TooLong);
+        return Err(Refusal::TooLong);
     }
     if all_ruly(words) {
-        return Verdict::Accepted;
+        return Ok(());
     }
-    let k = find_unruly(words);
-    Verdict::Refused(Refusal::UnrulyWord(k as u32))
+    match find_unruly(words) {
+        Some(k) => Err(Refusal::UnrulyWord(k as u32)),
+        None => Ok(()),
+    }
 }
 
 // The candidates of words, from the front of the output on.
@@ -96,25 +87,24 @@ fn store_bytes(words: &[u16], out: &mut [u16])
 }
 
 // An image: 9, or its items.
-fn read_words(words: &[u16], out: &mut [u16]) -> Counted
+fn read_words(words: &[u16], out: &mut [u16]) -> Result<usize, Refusal>
     requires { (words_rule words.now).number ≡ 0 }
     ensures answer { counted_answer result ≡ read_image_rule words.now (length out.old) }
     ensures output { out.new ≡ read_image_output words.now out.old }
 {
     if out.len() < words.len() {
-        return Counted::Refused(Refusal::OutputTooShort);
+        return Err(Refusal::OutputTooShort);
     }
     store_bytes(words, out);
-    Counted::Count(words.len())
+    Ok(words.len())
 }
 
 // An image as items: 4, 16, 9, or the number of items stored.
-pub fn read_image(words: &[u16], out: &mut [u16]) -> Counted
+#[tactic(auto, using(refusal::proofs::AnswerLaws::refusal_decides, refusal::proofs::AnswerLaws::refusal_keeps_the_buffer), unfolding(crate::specs::Rules::read_image_rule, crate::specs::Rules::read_image_output))]
+pub fn read_image(words: &[u16], out: &mut [u16]) -> Result<usize, Refusal>
     ensures answer { counted_answer result ≡ read_image_rule words.now (length out.old) }
     ensures output { out.new ≡ read_image_output words.now out.old }
 {
-    match check_words(words) {
-        Verdict::Refused(refusal) => Counted::Refused(refusal),
-        Verdict::Accepted => read_words(words, out),
-    }
+    check_words(words)?;
+    read_words(words, out)
 }

@@ -1,7 +1,7 @@
 -- Where no interval lies between the two B23, whether one is of class 2 does not depend on the kind before: so the one
 -- before chooses B34, and the classing stands behind the last interval as behind that alone. Whether none does is told
 -- by the difference from the lower. Rests on no axiom.
-use Rattle.std.proofs.Common.{◌≡◌, ℕ, zero, suc, ◌+◌, ◌-◌, ◌%◌, ◌^◌, ◌<◌, ◌≤◌, min, max, Bool, true, false, cond, not, ◌&&◌, eqb, ltb, leb, List, [], ◌∷◌, map, length, get_or, set, sym, refl, ap, ◌∙◌, ap₂, arith, le-ltb, lt-ltb, eq-eqb, eqb-true, le-leb}
+use Rattle.std.proofs.Common.{◌≡◌, ℕ, suc, ◌+◌, ◌-◌, ◌%◌, ◌^◌, ◌<◌, ◌≤◌, min, max, Bool, true, false, cond, not, ◌&&◌, eqb, ltb, leb, List, [], ◌∷◌, map, length, get_or, set, sym, refl, ap, ◌∙◌, ap₂, arith, le-ltb, lt-ltb, eqb-true, le-leb}
 use mathlib.Core.Path.{fun_ext}
 use mir.Val.{bool_byte}
 use native.Mathlib.Decide.{dec_lt}

@@ -8,9 +8,7 @@ ghost use Rattle.timing.specs.Class.{is_cell, classes_from, classes_of, Ascendin
 ghost use Rattle.intervals.specs.Cells.{edge_rule_from, edge_rule};
 ghost use Rattle.intervals.specs.machine.Inside.{is_inside, inside_from};
 
-use crate::units::greater;
-use lists::at_most;
-use refusal::{Refusal, Verdict};
+use refusal::Refusal;
 use timing::{Cursor, Profile};
 
 // So many intervals are looked at together: enough for vector instructions, and few to look through one by one.
@@ -23,10 +21,8 @@ fn all_inside(min: u16, rpt: u16, intervals: &[u16]) -> bool
     ensures { result ≡ (nat_lt 0 (rpt - min) && everywhere (is_inside min rpt) intervals.now) }
 {
     let mut most: u16 = 0;
-    let mut k: usize = 0;
-    while k < intervals.len() {
-        most = greater(most, std::num::wrapping_sub_u16(intervals[k], min));
-        k += 1;
+    for interval in intervals {
+        most = most.max(interval.wrapping_sub(min));
     }
     most < rpt - min
 }
@@ -40,26 +36,23 @@ pub fn all_cells(p: Profile, intervals: &[u16]) -> bool
 }
 
 // The first that is none, the first of all having place `from`.
-fn find_outside(min: u16, rpt: u16, from: usize, intervals: &[u16]) -> Verdict
+fn find_outside(min: u16, rpt: u16, from: usize, intervals: &[u16]) -> Result<(), Refusal>
     requires { from + length intervals.now ≤ 2 ^ 32 }
     ensures { verdict_answer result ≡ inside_from min rpt from intervals.now }
 {
-    let mut k: usize = 0;
-    while k < intervals.len() {
-        let interval = intervals[k];
+    for (k, &interval) in intervals.iter().enumerate() {
         if interval < min {
-            return Verdict::Refused(Refusal::IntervalTooShort((from + k) as u32));
+            return Err(Refusal::IntervalTooShort((from + k) as u32));
         }
         if rpt <= interval {
-            return Verdict::Refused(Refusal::IntervalTooLong((from + k) as u32));
+            return Err(Refusal::IntervalTooLong((from + k) as u32));
         }
-        k += 1;
     }
-    Verdict::Accepted
+    Ok(())
 }
 
 // It is looked for only where there is one among some.
-pub fn check_edges_from(start: Cursor, from: usize, intervals: &[u16]) -> Verdict
+pub fn check_edges_from(start: Cursor, from: usize, intervals: &[u16]) -> Result<(), Refusal>
     requires ascending { Ascending start }
     requires intervals_bound { from + length intervals.now ≤ 2 ^ 32 }
     ensures { verdict_answer result ≡ edge_rule_from from (classes_from start intervals.now) }
@@ -68,18 +61,18 @@ pub fn check_edges_from(start: Cursor, from: usize, intervals: &[u16]) -> Verdic
     let rpt = start.rpt.0;
     let mut k: usize = 0;
     while k < intervals.len() {
-        let next = k + at_most(LOOK, intervals.len() - k);
+        let next = k + LOOK.min(intervals.len() - k);
         if all_inside(min, rpt, &intervals[k..next]) {
             k = next;
         } else {
             return find_outside(min, rpt, from + k, &intervals[k..]);
         }
     }
-    Verdict::Accepted
+    Ok(())
 }
 
 // Of a whole list.
-pub fn check_edges(p: Profile, intervals: &[u16]) -> Verdict
+pub fn check_edges(p: Profile, intervals: &[u16]) -> Result<(), Refusal>
     requires p_value { (profile_rule p).number ≡ 0 }
     requires intervals_len_bound { length intervals.now ≤ 2 ^ 32 }
     ensures { verdict_answer result ≡ edge_rule (classes_of p intervals.now) }

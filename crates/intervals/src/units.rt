@@ -1,7 +1,7 @@
 // The units of a block of intervals. The class of an interval depends on the one before it, so that they would have to
 // be found one after the other; but nearly always no interval of a block lies between the two B23. Then whether one is
 // of class 2 is told by itself, and all are found at once, in vector instructions.
-ghost use Rattle.std.specs.Prelude.{◌≡◌, ◌+◌, ◌-◌, ◌≤◌, min, max, Bool, true, false, ◌∷◌, map, length, if◌then◌else◌, slice_index};
+ghost use Rattle.std.specs.Prelude.{◌≡◌, ◌+◌, ◌-◌, ◌≤◌, Bool, true, false, ◌∷◌, map, length, if◌then◌else◌, slice_index};
 ghost use Rattle.lists.specs.Place.{everywhere};
 ghost use Rattle.timing.specs.Class.{class_in, is_two, behind, cursor_after};
 ghost use Rattle.timing.specs.machine.Edges.{units_from};
@@ -19,25 +19,13 @@ fn units_by(bounds: Bounds, interval: u16) -> u8
     2 + (bounds.b23.0 <= interval) as u8 + (bounds.b34.0 <= interval) as u8
 }
 
-fn lesser(a: u16, b: u16) -> u16
-    ensures { result ≡ min a b }
-{
-    if a < b { a } else { b }
-}
-
-pub fn greater(a: u16, b: u16) -> u16
-    ensures { result ≡ max a b }
-{
-    if a < b { b } else { a }
-}
-
 // Whether an interval does not lie between two bounds. One compare for it: between them it is less past the lower than
 // the upper is; below both the difference wraps, and is no less.
 fn is_clear(low: u16, high: u16, interval: u16) -> bool
     requires { low ≤ high }
     ensures { result ≡ one_side low high interval }
 {
-    high - low <= std::num::wrapping_sub_u16(interval, low)
+    high - low <= interval.wrapping_sub(low)
 }
 
 // Whether each interval is of class 2 after either kind, or after none: it does not lie between the two B23. The
@@ -45,13 +33,11 @@ fn is_clear(low: u16, high: u16, interval: u16) -> bool
 pub fn all_sure(short: Bounds, long: Bounds, intervals: &[u16]) -> bool
     ensures { result ≡ everywhere (is_sure short long) intervals.now }
 {
-    let low = lesser(short.b23.0, long.b23.0);
-    let high = greater(short.b23.0, long.b23.0);
+    let low = short.b23.0.min(long.b23.0);
+    let high = short.b23.0.max(long.b23.0);
     let mut all = true;
-    let mut k: usize = 0;
-    while k < intervals.len() {
-        all = all & is_clear(low, high, intervals[k]);
-        k += 1;
+    for &interval in intervals {
+        all &= is_clear(low, high, interval);
     }
     all
 }
@@ -61,10 +47,8 @@ fn fill_units(bounds: Bounds, intervals: &[u16], units: &mut [u8])
     requires { length units.old ≡ length intervals.now }
     ensures { units.new ≡ map (units_by bounds) intervals.now }
 {
-    let mut k: usize = 0;
-    while k < intervals.len() {
-        units[k] = units_by(bounds, intervals[k]);
-        k += 1;
+    for (k, &interval) in intervals.iter().enumerate() {
+        units[k] = units_by(bounds, interval);
     }
 }
 
@@ -75,12 +59,9 @@ fn units_in_turn(start: Cursor, intervals: &[u16], units: &mut [u8]) -> Cursor
     ensures units { units.new ≡ units_from start intervals.now }
 {
     let mut cursor = start;
-    let mut k: usize = 0;
-    while k < intervals.len() {
-        let interval = intervals[k];
+    for (k, &interval) in intervals.iter().enumerate() {
         units[k] = cursor.units(interval);
         cursor = cursor.past(interval);
-        k += 1;
     }
     cursor
 }
@@ -95,8 +76,8 @@ fn mask_of(two: bool) -> u16
 fn choose(mask: u16, short: u16, long: u16) -> u16
     ensures { (two : Bool) → mask ≡ mask_of two → result ≡ (if two then short else long) }
 {
-    let gap = std::num::wrapping_sub_u16(short, long);
-    std::num::wrapping_add_u16(long, gap & mask)
+    let gap = short.wrapping_sub(long);
+    long.wrapping_add(gap & mask)
 }
 
 // Whether an interval is of class 2, where that is told by itself.
@@ -112,10 +93,8 @@ fn mark_kinds(c: Cursor, intervals: &[u16], kinds: &mut [u16])
     ensures { kinds.new ≡ 0 ∷ map (kind_mask c) intervals.now }
 {
     kinds[0] = 0;
-    let mut k: usize = 0;
-    while k < intervals.len() {
-        kinds[k + 1] = mask_of(is_two(c, intervals[k]));
-        k += 1;
+    for (k, &interval) in intervals.iter().enumerate() {
+        kinds[k + 1] = mask_of(is_two(c, interval));
     }
 }
 
@@ -127,15 +106,13 @@ fn fill_behind(c: Cursor, intervals: &[u16], kinds: &[u16], units: &mut [u8])
     requires kinds_value { kinds.now ≡ 0 ∷ map (kind_mask c) intervals.now }
     ensures { units.new ≡ units_from (behind c false) intervals.now }
 {
-    let mut k: usize = 0;
-    while k < intervals.len() {
+    for (k, &interval) in intervals.iter().enumerate() {
         let b34 = choose(kinds[k], c.short.b34.0, c.long.b34.0);
         let bounds = Bounds {
             b23: HalfClocks(c.short.b23.0),
             b34: HalfClocks(b34),
         };
-        units[k] = units_by(bounds, intervals[k]);
-        k += 1;
+        units[k] = units_by(bounds, interval);
     }
 }
 

@@ -5,14 +5,15 @@ ghost use Rattle.track.specs.HandedBack.{index_answer_of};
 ghost use Rattle.track_set.specs.TrackSectors.{track_answer, track_output};
 ghost use Rattle.answers.specs.Answers.{profile_of, given_merge};
 
-use answers::{IsmAnswer, IsmProfile, profile};
+use answers::{IsmAnswer, IsmProfile};
+use timing::Profile;
 use track::TrackIndex;
 
 pub fn ism_index_track(p: IsmProfile, intervals: &[u16]) -> TrackIndex
     ensures { result ≡ index_answer_of (index_rule (profile_of p) intervals.now)
         (index_entries (profile_of p) intervals.now) }
 {
-    track::index_track(profile(p), intervals)
+    track::index_track(Profile::from(p), intervals)
 }
 
 // The set of a track's sectors, for the merge.
@@ -20,13 +21,6 @@ pub fn ism_read_track(p: IsmProfile, intervals: &[u16], set: &mut [u8]) -> IsmAn
     ensures answer { result ≡ given_merge (track_answer (profile_of p) intervals.now (length set.old)) }
     ensures output { set.new ≡ track_output (profile_of p) intervals.now set.old }
 {
-    let read = track_set::read_track(profile(p), intervals, set);
-    IsmAnswer {
-        number: read.number,
-        place: read.place,
-        count: read.count as u64,
-        used: read.bytes as u64,
-        holds: 0,
-        clearance: 0,
-    }
+    let read = track_set::read_track(Profile::from(p), intervals, set);
+    IsmAnswer::from(read)
 }

@@ -4,8 +4,9 @@ ghost use Rattle.speed.specs.Reading.{corrected_reading, corrected_output};
 ghost use Rattle.answers.specs.Answers.{profile_of};
 ghost use Rattle.answers.specs.Slow.{corrected_answer_of};
 
-use answers::slow::{IsmCorrected, corrected_answer};
-use answers::{IsmProfile, profile};
+use answers::IsmProfile;
+use answers::slow::IsmCorrected;
+use timing::Profile;
 
 pub fn ism_read_corrected(
     p: IsmProfile,
@@ -19,11 +20,11 @@ pub fn ism_read_corrected(
     ensures output { out.new ≡ corrected_output (profile_of p) intervals.now start bytes out.old }
 {
     let corrected = speed::reader::read_corrected(
-        profile(p),
+        Profile::from(p),
         intervals,
         start as usize,
         bytes as usize,
         out,
     );
-    corrected_answer(corrected)
+    IsmCorrected::from(corrected)
 }

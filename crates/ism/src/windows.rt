@@ -3,8 +3,7 @@ ghost use Rattle.std.specs.Prelude.{◌≡◌};
 ghost use Rattle.best.specs.Best.{writing, best_rule, best_given};
 ghost use Rattle.answers.specs.Windows.{best_answer_of};
 
-use answers::answer;
-use answers::windows::{IsmBest, numbers};
+use answers::windows::IsmBest;
 use best::Writing;
 use timing::{Clocks, HalfClocks};
 
@@ -19,13 +18,5 @@ pub fn ism_best_windows(t1: u16, t0: u16, early: u16, normal: u16, late: u16) ->
         normal: Clocks(normal),
         late: Clocks(late),
     });
-    let counted = best.answer;
-    let found = best.profile;
-    let told = answer(counted);
-    IsmBest {
-        number: told.number,
-        place: told.place,
-        margin: told.count,
-        profile: numbers(found),
-    }
+    IsmBest::from(best)
 }

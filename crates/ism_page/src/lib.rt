@@ -7,7 +7,9 @@ ghost use Rattle.page.specs.Reading.{read_answer, read_output, handed_back};
 ghost use Rattle.page.specs.Making.{made_answer, make_answer, make_output};
 ghost use Rattle.ism_page.specs.Answers.{given_set};
 
-use page::{Made, Pages};
+use page::Pages;
+use refusal::Refusal;
+use sets::SetSize;
 
 // Number 0 for accepted. What a function does not give is 0.
 #[repr(C)]
@@ -21,26 +23,28 @@ pub struct IsmAnswer {
     pub clearance: u32,
 }
 
-fn answer(made: Made) -> IsmAnswer
-    ensures { result ≡ given_set (made_answer made) }
-{
-    match made {
-        Made::Set { count, bytes } => IsmAnswer {
-            number: 0,
-            place: 0,
-            count: count as u64,
-            used: bytes as u64,
-            holds: 0,
-            clearance: 0,
-        },
-        Made::Refused(refusal) => IsmAnswer {
-            number: refusal.number(),
-            place: refusal.place(),
-            count: 0,
-            used: 0,
-            holds: 0,
-            clearance: 0,
-        },
+impl From<Result<SetSize, Refusal>> for IsmAnswer {
+    ghost from_gives = { λ made answer. answer ≡ given_set (made_answer made) };
+
+    fn from(made: Result<SetSize, Refusal>) -> IsmAnswer {
+        match made {
+            Ok(SetSize { count, bytes }) => IsmAnswer {
+                number: 0,
+                place: 0,
+                count: count as u64,
+                used: bytes as u64,
+                holds: 0,
+                clearance: 0,
+            },
+            Err(refusal) => IsmAnswer {
+                number: refusal.number(),
+                place: refusal.place(),
+                count: 0,
+                used: 0,
+                holds: 0,
+                clearance: 0,
+            },
+        }
     }
 }
 
@@ -56,7 +60,7 @@ pub fn ism_make_pages(cells: &[u8], pages: u64, set: &mut [u8]) -> IsmAnswer
     ensures set { set.new ≡ make_output cells.now pages set.old }
 {
     let made = page::make_pages(cells, pages as usize, set);
-    answer(made)
+    IsmAnswer::from(made)
 }
 
 // Its name is what counts: a program asks the linker for the interface that it was compiled against.

@@ -1,16 +1,16 @@
 -- Laws of items: each follows from the tests that the definitions make, in their order.
 use Prim.Native.Nat.{ℕ, zero, suc, ◌+◌, ◌*◌, ◌<◌, ◌≤◌}
-use mathlib.Core.Path.{◌≡◌, refl, sym, ◌∙◌}
+use mathlib.Core.Path.{◌≡◌, refl, sym, ap, ◌∙◌}
 use mathlib.Core.Bool.{Bool, true, false, cond, ◌||◌, or-false, false≢true}
-use mathlib.Core.List.{List, [], ◌∷◌}
+use mathlib.Core.List.{List, [], ◌∷◌, ◌++◌}
 use mathlib.Core.Logic.{◌⊎◌, inl, inr, ⊎_map}
 use native.Mathlib.Nat.{add-zero}
 use native.Mathlib.Numerals.{add-one}
 use native.Mathlib.Omega.{arith}
 use borrow.Author.Tests.{ltb-true, eqb-true, lt-ltb, ne_eqb, not-false}
 use lib.Dec.{ltb, eqb}
-use lib.ListN.{length, get_or, drop, drop_of_length-le}
-use lib.Seq.{drop-cons}
+use lib.ListN.{length, get_or, take, drop, drop_of_length-le, take-append-drop}
+use lib.Seq.{drop-cons, drop-drop}
 use Rattle.lists.specs.Place.{anywhere, everywhere, lowest}
 use Rattle.lists.proofs.PlaceLaws.{everywhere_of_none, everywhere_of_passing, everywhere_is_nowhere_else}
 use Rattle.lists.proofs.PlaceLaws.{lowest_from_failing_is_further}
@@ -103,6 +103,11 @@ written_bytes_bounds (n ∷ ns) =
     let rest = written_bytes_bounds ns in
     omega arith
 
+pub written_bytes-append : (ms ns : List ℕ) → written_bytes (ms ++ ns) ≡ written_bytes ms + written_bytes ns
+unfolding written_bytes
+written_bytes-append [] ns = omega arith
+written_bytes-append (m ∷ ms) ns = rw (written_bytes-append ms ns) (omega arith)
+
 -- a list that writes no more bytes than it has numbers
 pub one_byte_each_is_no_check : (ns : List ℕ) → written_bytes ns ≡ length ns → anywhere is_check ns ≡ false
 unfolding written_bytes bytes_of
@@ -118,6 +123,14 @@ pub written_bytes_from : (ns : List ℕ) (k : ℕ) → k < length ns
     → written_bytes (drop k ns) ≡ bytes_of (get_or ns k 0) + written_bytes (drop (k + 1) ns)
 unfolding written_bytes
 written_bytes_from ns k h = rw (add-one, drop-cons ns k 0)
+
+-- so many numbers from place k on, and the rest
+pub written_bytes_of_part : (ns : List ℕ) (k n : ℕ)
+    → written_bytes (take n (drop k ns)) + written_bytes (drop (k + n) ns) ≡ written_bytes (drop k ns)
+written_bytes_of_part ns k n =
+    rw (← drop-drop n k ns)
+    (sym (written_bytes-append (take n (drop k ns)) (drop n (drop k ns)))
+    ∙ ap written_bytes (take-append-drop n (drop k ns)))
 
 pub written_bytes_from_end : (ns : List ℕ) (k : ℕ) → length ns ≤ k → written_bytes (drop k ns) ≡ 0
 unfolding written_bytes

@@ -8,7 +8,7 @@ use crate::{Check, find_check};
 use lists::store;
 
 // The register after a list's bytes, and how many there are.
-#[derive(Clone, Copy)]
+#[derive(Clone, Copy, PartialEq, Eq)]
 pub struct Stored {
     pub check: Check,
     pub count: usize,
@@ -41,6 +41,7 @@ pub fn write_bytes(start: Check, items: &[u16], out: &mut [u16]) -> Stored
     let mut at: usize = 0;
     let mut from: usize = 0;
     let mut run = find_check(items);
+    // no `for`: how far a turn goes comes out of the items
     while run < items.len() - from {
         let end = from + run;
         check = write_run(check, &items[from..end], at, out);

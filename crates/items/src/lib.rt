@@ -16,10 +16,15 @@ use lanes::after_eights;
 pub use list::{check_list, find_check, find_foreign, written_bytes};
 use marks::after_part;
 
+// The mark bytes A1 and C2.
+pub const MARK_A1: u16 = 0x1a1;
+
+pub const MARK_C2: u16 = 0x1c2;
+
 pub fn is_mark(n: u16) -> bool
     ensures { result ≡ is_mark n }
 {
-    n == 0x1a1 || n == 0x1c2
+    n == MARK_A1 || n == MARK_C2
 }
 
 pub fn is_check(n: u16) -> bool
@@ -41,7 +46,7 @@ pub fn is_item(n: u16) -> bool
 }
 
 // The check register, and whether the written byte before was a mark byte.
-#[derive(Clone, Copy)]
+#[derive(Clone, Copy, PartialEq, Eq)]
 pub struct Check {
     pub register: u16,
     pub marked: bool,
@@ -113,6 +118,7 @@ impl Check {
     {
         let mut check = self;
         let mut k: usize = 0;
+        // no `for`: how far a turn goes comes out of the bytes
         while k < bytes.len() {
             let next = after_part(check, bytes, k);
             check = next.check;

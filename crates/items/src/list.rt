@@ -7,7 +7,7 @@ ghost use Rattle.items.specs.Item.{is_check, is_item, is_foreign, written_bytes}
 ghost use Rattle.items.specs.Rule.{list_rule};
 
 use crate::lanes::clear_at;
-use refusal::{Refusal, Verdict};
+use refusal::Refusal;
 
 // The most items, and the most written bytes, that a list may have.
 const MAX_BYTES: usize = 6400;
@@ -18,17 +18,14 @@ const COUNTED: usize = 32768;
 // The bits of four lanes of which any number from a check order on has one.
 const FROM_512: u64 = 0xfe00fe00fe00fe00;
 
-// How many check orders stand from a place up to another, so few that 16 bits count them: added with no jump for any,
-// eight at a time.
-fn count_checks(items: &[u16], from: usize, end: usize) -> u16
-    requires { (from ≤ end) × (end ≤ length items.now) × (end < from + 65536) }
-    ensures { end + result + written_bytes (drop end items.now) ≡ from + written_bytes (drop from items.now) }
+// How many check orders a list has, so few that 16 bits count them: added with no jump for any, eight at a time.
+fn count_checks(items: &[u16]) -> u16
+    requires { length items.now < 65536 }
+    ensures { length items.now + result ≡ written_bytes items.now }
 {
     let mut count: u16 = 0;
-    let mut k = from;
-    while k < end {
-        count += crate::is_check(items[k]) as u16;
-        k += 1;
+    for item in items {
+        count += crate::is_check(*item) as u16;
     }
     count
 }
@@ -41,11 +38,11 @@ pub fn written_bytes(items: &[u16]) -> usize
     let mut k: usize = 0;
     while COUNTED <= items.len() - k {
         let end = k + COUNTED;
-        count += COUNTED + count_checks(items, k, end) as usize;
+        count += COUNTED + count_checks(&items[k..end]) as usize;
         k = end;
     }
-    let end = items.len();
-    count + (end - k) + count_checks(items, k, end) as usize
+    let rest = &items[k..];
+    count + rest.len() + count_checks(rest) as usize
 }
 
 // Passes over numbers below a check order, eight at a time.
@@ -68,29 +65,26 @@ fn pass_eights(items: &[u16]) -> usize
 pub fn find_check(items: &[u16]) -> usize
     ensures { result ≡ lowest is_check items.now }
 {
-    let mut k = pass_eights(items);
-    while k < items.len() {
-        if crate::is_check(items[k]) {
-            return k;
+    let start = pass_eights(items);
+    let rest = &items[start..];
+    for (k, item) in rest.iter().enumerate() {
+        if crate::is_check(*item) {
+            return start + k;
         }
-        k += 1;
     }
-    k
+    items.len()
 }
 
 // The place of the lowest number that is no item; the length where there is none.
 pub fn find_foreign(items: &[u16]) -> usize
     ensures { result ≡ lowest is_foreign items.now }
 {
-    let mut k: usize = 0;
-    while k < items.len() {
-        if crate::is_item(items[k]) {
-            k += 1;
-        } else {
+    for (k, item) in items.iter().enumerate() {
+        if !crate::is_item(*item) {
             return k;
         }
     }
-    k
+    items.len()
 }
 
 // Whether all numbers are items, told with no jump for any.
@@ -98,26 +92,24 @@ fn all_items(items: &[u16]) -> bool
     ensures { result ≡ everywhere is_item items.now }
 {
     let mut all = true;
-    let mut k: usize = 0;
-    while k < items.len() {
-        all = all & crate::is_item(items[k]);
-        k += 1;
+    for item in items {
+        all &= crate::is_item(*item);
     }
     all
 }
 
 // Whether the list may be written: 4, then 3.
-pub fn check_list(items: &[u16]) -> Verdict
+pub fn check_list(items: &[u16]) -> Result<(), Refusal>
     ensures { verdict_answer result ≡ list_rule items.now }
 {
     if MAX_BYTES < items.len() {
-        return Verdict::Refused(Refusal::TooLong);
+        return Err(Refusal::TooLong);
     }
     if MAX_BYTES < written_bytes(items) {
-        return Verdict::Refused(Refusal::TooLong);
+        return Err(Refusal::TooLong);
     }
     if all_items(items) {
-        return Verdict::Accepted;
+        return Ok(());
     }
-    Verdict::Refused(Refusal::NotAnItem(find_foreign(items) as u32))
+    Err(Refusal::NotAnItem(find_foreign(items) as u32))
 }

@@ -2,10 +2,8 @@
 ghost use Rattle.std.specs.Prelude.{◌+◌, ◌≤◌, ◌<◌, ◌≡◌, true, length, get_or, drop};
 ghost use Rattle.items.specs.Written.{after_bytes};
 
-use crate::Check;
 use crate::bytes::Stored;
-
-const MARK_A1: u16 = 0x1a1;
+use crate::{Check, MARK_A1};
 
 fn three_marks(bytes: &[u16], k: usize) -> bool
     requires { k + 3 ≤ length bytes.now }

@@ -6,7 +6,7 @@ use native.Mathlib.Omega.{arith}
 use native.Mathlib.Nat.{le_refl}
 use mathlib.Core.Path.{◌≡◌, sym, ap, ap₂, ◌∙◌}
 use mathlib.Core.List.{List, [], ◌∷◌}
-use lib.ListN.{length, get_or, set, take}
+use lib.ListN.{get_or, set, take}
 use lib.Seq.{get_or-set_same, lt-length-set, take-set-le}
 use Rattle.timing.specs.Class.{cursor_of, at_start, class_in, cursor_after, class_of, classes_of}
 use Rattle.timing.specs.declared.Profile.{Profile}

@@ -1,7 +1,7 @@
 -- Why equal pairs keep document 01's margin: their classes are the nine numbers' after either kind, and the margin is the
 -- largest number that keeps those. And why unequal ones can have a larger: the two rooms at an edge add up to what is
 -- between the lengths, and after each kind less is between them. Rests on no axiom.
-use Prim.Native.Nat.{ℕ, ◌+◌, ◌-◌, ◌*◌, ◌≤◌}
+use Prim.Native.Nat.{ℕ, ◌-◌, ◌≤◌}
 use mathlib.Core.Path.{◌≡◌, refl, sym, ap, ◌∙◌}
 use native.Mathlib.Omega.{arith}
 use lib.Dec.{lit<}
@@ -10,8 +10,7 @@ use Rattle.lists.specs.Span.{least}
 use Rattle.lists.proofs.SpanLaws.{least_is_no_more}
 use Rattle.refusal.specs.Answer.{Answer}
 use Rattle.timing.specs.Profile.{unset, swing, advance, delay, is_true_short, is_true_long, is_true, profile_rule}
-use Rattle.timing.specs.EqualPairs.{Nine, paired, nine_rule, renumbered}
-use Rattle.timing.specs.declared.Profile.{Profile}
+use Rattle.timing.specs.EqualPairs.{paired, nine_rule, renumbered}
 use Rattle.timing.proofs.EqualPairs.{equal_pairs}
 use Rattle.lengths.specs.Margin.{rooms_of, margin_of, margin_rule}
 use Rattle.lengths.specs.Claims.{EqualPairsKeepTheMargin, PairsWidenTheMargin, drive}

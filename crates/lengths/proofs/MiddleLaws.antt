@@ -1,14 +1,14 @@
 -- Why a stream that is read from its middle on is in step behind the first interval that is not read as class 2: a cell
 -- of class 2 is one after either kind; one of class 3 after a longer cell is below the bound to class 4 of both kinds,
 -- and one of class 4 below Rpt. Rests on no axiom.
-use Prim.Native.Nat.{ℕ, zero, suc, ◌+◌, ◌≤◌, ◌<◌}
+use Prim.Native.Nat.{ℕ, zero, suc, ◌+◌, ◌≤◌}
 use mathlib.Core.Path.{◌≡◌, refl, ap, ◌∙◌}
 use mathlib.Core.Bool.{Bool, true, false}
 use mathlib.Core.List.{List, [], ◌∷◌, map}
 use native.Mathlib.Omega.{arith}
 use native.Mathlib.Decide.{dec_lt}
 use lib.Dec.{eqb}
-use lib.ListN.{length, drop, get_or}
+use lib.ListN.{drop}
 use Rattle.timing.specs.Class.{cursor_of, at_start, is_two, class_number, classes_from, class_of, classes_of}
 use Rattle.timing.specs.declared.Profile.{Profile}
 use Rattle.timing.specs.declared.Class.{Class}

@@ -6,7 +6,7 @@ use mathlib.Core.List.{List, [], ◌∷◌}
 use lib.ListN.{length}
 use Rattle.timing.specs.declared.Profile.{Profile}
 use Rattle.symbols.specs.Cells.{cells_from, cells_of, written_cells, written_symbols}
-use Rattle.lengths.specs.Lengths.{point, symbol_after, lengths_from, lengths_of}
+use Rattle.lengths.specs.Lengths.{lengths_from, lengths_of}
 use Rattle.lengths.specs.Stream.{byte_stream}
 
 -- the symbol before what follows, in a cell with so many 0s

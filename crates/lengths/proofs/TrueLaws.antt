@@ -1,19 +1,18 @@
 -- Why the profile's tests are the paper's: a profile that passes them has every length in its window, since it leaves room
 -- for nothing; and a profile that has every length in its window passes each test, since the nearest length on that side
 -- of the edge is one that a one-byte list has. Rests on no axiom.
-use Prim.Native.Nat.{ℕ, zero, suc, ◌+◌, ◌-◌, ◌*◌, ◌≤◌, ◌<◌}
-use mathlib.Core.Path.{◌≡◌, refl, sym, ◌∙◌}
+use Prim.Native.Nat.{ℕ, ◌+◌, ◌-◌, ◌*◌, ◌≤◌, ◌<◌}
+use mathlib.Core.Path.{◌≡◌}
 use mathlib.Core.Bool.{Bool, true, false}
-use mathlib.Core.List.{List, [], ◌∷◌}
+use mathlib.Core.List.{[], ◌∷◌}
 use native.Mathlib.Omega.{arith}
-use lib.Dec.{lit<, leb, ltb}
+use lib.Dec.{lit<}
 use lib.ListN.{length, get_or}
 use borrow.Author.Tests.{lt-ltb, le-leb}
 use Rattle.timing.specs.Profile.{swing, advance, delay, InRange, is_true_short, is_true_long, is_true}
 use Rattle.timing.specs.Class.{class_of}
 use Rattle.timing.specs.declared.Profile.{Profile}
-use Rattle.timing.specs.declared.Class.{Class}
-use Rattle.timing.specs.declared.Class.TheVariants.{Narrow, Two, Three, Four, Wide}
+use Rattle.timing.specs.declared.Class.TheVariants.{Two, Three, Four}
 use Rattle.timing.proofs.ProfileLaws.{kept_if_true, early_part, late_part, both_parts}
 use Rattle.timing.proofs.ClassLaws.{bounds_of}
 use Rattle.timing.proofs.StandLaws.{within_two, within_three, within_four}

@@ -9,7 +9,7 @@ use native.Mathlib.Omega.{arith}
 use lib.Dec.{eqb}
 use lib.ListN.{length, get_or, take}
 use Rattle.timing.specs.Profile.{swing, advance, delay}
-use Rattle.timing.specs.Class.{cursor_of, at_start, is_two, cursor_past, classes_from, cursor_after, class_of, classes_of}
+use Rattle.timing.specs.Class.{cursor_of, at_start, is_two, classes_from, cursor_after, class_of, classes_of}
 use Rattle.timing.specs.declared.Profile.{Profile}
 use Rattle.timing.specs.declared.cursor.Cursor.{Cursor}
 use Rattle.timing.proofs.ProfileLaws.{Kept}

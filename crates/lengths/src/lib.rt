@@ -1,35 +1,22 @@
 // Document 01, "From bits to cells", compare points and lengths, and "Profile", the margin.
 #![tactic(auto)]
 
-ghost use Rattle.std.specs.Prelude.{◌≡◌, ◌-◌, min};
+ghost use Rattle.std.specs.Prelude.{◌≡◌, ◌-◌};
 ghost use Rattle.refusal.specs.Answer.{counted_answer};
 ghost use Rattle.timing.specs.Profile.{profile_rule};
 ghost use Rattle.lengths.specs.Margin.{rooms_of, margin_of, margin_rule};
 
 mod table;
 
-use refusal::{Counted, Verdict};
+use refusal::Refusal;
 pub use table::length_between;
 use timing::Profile;
-
-fn least(a: u16, b: u16) -> u16
-    ensures { result ≡ min a b }
-{
-    if a < b { a } else { b }
-}
-
-// How far it is up to an edge; 0 where the edge lies below.
-fn room(from: u16, to: u16) -> u16
-    ensures { result ≡ to - from }
-{
-    if to < from { 0 } else { to - from }
-}
 
 // How far lengths of at most the one given are below an edge, which they must not reach.
 fn room_below(longest: u16, edge: u16) -> u16
     ensures { result ≡ edge - 1 - longest }
 {
-    room(longest, room(1, edge))
+    edge.saturating_sub(1).saturating_sub(longest)
 }
 
 // How far the lengths on each side of an edge are from crossing it: Min; B23 after-short, below and above, after-long
@@ -44,15 +31,15 @@ fn rooms(p: Profile) -> [u16; 10]
     let three = p.t1.0 + p.t0.0;
     let four = p.t1.0 + 2 * p.t0.0;
     [
-        room(p.min.0, room(d, p.t1.0)),
+        p.t1.0.saturating_sub(d).saturating_sub(p.min.0),
         room_below(p.t1.0, p.short.b23.0),
-        room(p.short.b23.0, three + e),
-        room_below(room(l, p.t1.0), p.long.b23.0),
-        room(p.long.b23.0, three),
+        (three + e).saturating_sub(p.short.b23.0),
+        room_below(p.t1.0.saturating_sub(l), p.long.b23.0),
+        three.saturating_sub(p.long.b23.0),
         room_below(three + d, p.short.b34.0),
-        room(p.short.b34.0, four + e),
+        (four + e).saturating_sub(p.short.b34.0),
         room_below(three + l, p.long.b34.0),
-        room(p.long.b34.0, four),
+        four.saturating_sub(p.long.b34.0),
         room_below(four + d, p.rpt.0),
     ]
 }
@@ -62,21 +49,20 @@ fn least_room(p: Profile) -> u16
     requires { (profile_rule p).number ≡ 0 }
     ensures { result ≡ margin_of p }
 {
-    let r = rooms(p);
-    let in_b34 = least(r[5], least(r[6], least(r[7], least(r[8], r[9]))));
-    least(
-        r[0],
-        least(r[1], least(r[2], least(r[3], least(r[4], in_b34)))),
-    )
+    let rooms = rooms(p);
+    let mut least = rooms[0];
+    for &room in &rooms[1..] {
+        least = least.min(room);
+    }
+    least
 }
 
 // The margin operation: 1, 2, then the largest number of half clocks by which every interval may be off and keep its
 // class.
-pub fn margin(p: Profile) -> Counted
+#[tactic(auto, using(refusal::proofs::AnswerLaws::refusal_decides), unfolding(crate::specs::Margin::margin_rule))]
+pub fn margin(p: Profile) -> Result<usize, Refusal>
     ensures { counted_answer result ≡ margin_rule p }
 {
-    match timing::check(p) {
-        Verdict::Refused(refusal) => Counted::Refused(refusal),
-        Verdict::Accepted => Counted::Count(least_room(p) as usize),
-    }
+    timing::check(p)?;
+    Ok(least_room(p) as usize)
 }

@@ -1,26 +1,23 @@
 // The lengths of cells by their neighbours, made once a call: a length depends on the zeros of the cell before, the
 // cell and the cell after.
-ghost use Rattle.std.specs.Prelude.{◌≡◌, cond, ◌+◌, ◌-◌, ◌≤◌, ◌<◌};
+ghost use Rattle.std.specs.Prelude.{◌≡◌, ◌+◌, ◌-◌, ◌≤◌, ◌<◌};
 ghost use Rattle.timing.specs.Profile.{profile_rule};
 ghost use Rattle.lengths.specs.Lengths;
 ghost use Rattle.lengths.specs.Neighbours.{between};
 
 use timing::{Clocks, HalfClocks, Profile};
 
-fn either(test: bool, yes: Clocks, no: Clocks) -> Clocks
-    ensures { result ≡ cond test yes no }
-{
-    if test { yes } else { no }
-}
-
 // The compare point of a transition between two symbols.
+#[tactic(auto, unfolding(crate::specs::Lengths::point))]
 fn point(p: Profile, before: bool, after: bool) -> Clocks
     ensures { result.0 ≡ Lengths.point p before after }
 {
     if before {
-        either(after, p.normal, p.early)
+        if after { p.normal } else { p.early }
+    } else if after {
+        p.late
     } else {
-        either(after, p.late, p.normal)
+        p.normal
     }
 }
 

@@ -1,5 +1,6 @@
 -- Why the search finds the lowest list and the first interval in it: a stream that was written is classed as it was
 -- written, so each interval is asked after its own kind, and the first that crosses ends the search. Rests on no axiom.
+use Rattle.std.specs.Prelude.{Option, Some, None}
 use Prim.Native.Nat.{ℕ, zero, suc, ◌+◌, ◌≤◌, ◌<◌}
 use mathlib.Core.Path.{◌≡◌, refl, sym, ap, ◌∙◌}
 use mathlib.Core.Bool.{Bool, true, false, cond, false≢true}
@@ -18,10 +19,9 @@ use Rattle.lengths.proofs.WindowLaws.{kept_leaves_room, near_length_has_class, t
 use Rattle.lengths.proofs.PapersMargin.{written_one, one_byte_is_written}
 use Rattle.limits.specs.Sides.{crosses}
 use Rattle.limits.specs.Limits.{one_more, CrossesAt}
-use Rattle.limits.specs.machine.Search.{seen_from, seen_in, or_later, searched_from, searched}
+use Rattle.limits.specs.machine.Search.{shown_at, seen_from, seen_in, or_later, searched_from, searched}
 use Rattle.limits.specs.declared.side.Side.{Side}
-use Rattle.limits.specs.declared.search.Seen.{Seen}
-use Rattle.limits.specs.declared.search.Seen.TheVariants.{At, Nowhere}
+use Rattle.limits.specs.declared.search.Evidence.{Evidence}
 
 module _ {p : Profile} (k : Kept p) (s : Side) where
   abbrev n : ℕ
@@ -39,21 +39,21 @@ module _ {p : Profile} (k : Kept p) (s : Side) where
   Crossing before us ls j = crosses p s n (eqb (get_or (before ∷ us) j 2) 2) (get_or ls j 0)
 
   -- what a scan sees of some lengths, the first of them at a place
-  data Scanned (item from before : ℕ) (us ls : List ℕ) : Seen → Type 0 where
+  data Scanned (item from before : ℕ) (us ls : List ℕ) : Option Evidence → Type 0 where
     at
         : (j place : ℕ)
         → place ≡ from + j
         → j < length ls
         → Crossing before us ls j ≡ true
         → ((i : ℕ) → i < length ls → Crossing before us ls i ≡ true → j ≤ i)
-        → Scanned item from before us ls (At item place)
+        → Scanned item from before us ls (shown_at item place)
     nowhere
         : ((i : ℕ) → i < length ls → Crossing before us ls i ≡ true → ⊥)
-        → Scanned item from before us ls Nowhere
+        → Scanned item from before us ls None
 
   module _ (item from before u l : ℕ) (us ls : List ℕ) where
     scanned_first
-        : crosses p s n (eqb before 2) l ≡ true → Scanned item from before (u ∷ us) (l ∷ ls) (At item from)
+        : crosses p s n (eqb before 2) l ≡ true → Scanned item from before (u ∷ us) (l ∷ ls) (shown_at item from)
     scanned_first e = at 0 from (omega arith) (omega arith) e (λ i h c. omega arith)
 
     later_only
@@ -68,7 +68,7 @@ module _ {p : Profile} (k : Kept p) (s : Side) where
     later_only e P later (suc i) h c = later i (omega arith) c
 
     scanned_later
-        : (q : Seen)
+        : (q : Option Evidence)
         → crosses p s n (eqb before 2) l ≡ false
         → Scanned item (from + 1) u us ls q
         → Scanned item from before (u ∷ us) (l ∷ ls) q
@@ -80,9 +80,9 @@ module _ {p : Profile} (k : Kept p) (s : Side) where
     scanned_by
         : (t : Bool)
         → crosses p s n (eqb before 2) l ≡ t
-        → (q : Seen)
+        → (q : Option Evidence)
         → Scanned item (from + 1) u us ls q
-        → Scanned item from before (u ∷ us) (l ∷ ls) (cond t (At item from) q)
+        → Scanned item from before (u ∷ us) (l ∷ ls) (cond t (shown_at item from) q)
     scanned_by true e q later = scanned_first e
     scanned_by false e q later = scanned_later q e later
 
@@ -99,13 +99,13 @@ module _ {p : Profile} (k : Kept p) (s : Side) where
       (rw (asked_as_written w.0) (scans item (from + 1) u us ls w.1))
 
   -- in the paper's words, for the stream of a one-byte list
-  data OneList (item : ℕ) : Seen → Type 0 where
+  data OneList (item : ℕ) : Option Evidence → Type 0 where
     at
         : (place : ℕ)
         → CrossesAt p s (item ∷ []) place
         → ((j : ℕ) → CrossesAt p s (item ∷ []) j → place ≤ j)
-        → OneList item (At item place)
-    nowhere : ((j : ℕ) → CrossesAt p s (item ∷ []) j → ⊥) → OneList item Nowhere
+        → OneList item (shown_at item place)
+    nowhere : ((j : ℕ) → CrossesAt p s (item ∷ []) j → ⊥) → OneList item None
 
   module _ (item : ℕ) (byte : item < 256) where
     abbrev cells : List ℕ
@@ -124,7 +124,7 @@ module _ {p : Profile} (k : Kept p) (s : Side) where
         let same = one_byte_is_written p item byte in
         (rw same at c.in_stream, rw (same, written_one item byte) at c.crosses_edge)
 
-    in_words : (q : Seen) → Scanned item 0 2 cells stream q → OneList item q
+    in_words : (q : Option Evidence) → Scanned item 0 2 cells stream q → OneList item q
     in_words q (at j place same h c first) =
         let here : place ≡ j = omega arith in
         at place (rw here (crosses_there j h c))
@@ -139,16 +139,16 @@ module _ {p : Profile} (k : Kept p) (s : Side) where
   -- ---- all lists
 
   -- what a search sees of the lists from one on
-  pub data Found (from left : ℕ) : Seen → Type 0 where
+  pub data Found (from left : ℕ) : Option Evidence → Type 0 where
     at
         : (item place : ℕ)
         → item < from + left
         → CrossesAt p s (item ∷ []) place
         → ((j : ℕ) → CrossesAt p s (item ∷ []) j → place ≤ j)
         → ((i j : ℕ) → from ≤ i → CrossesAt p s (i ∷ []) j → item ≤ i)
-        → Found from left (At item place)
+        → Found from left (shown_at item place)
     nowhere
-        : ((i j : ℕ) → from ≤ i → i < from + left → CrossesAt p s (i ∷ []) j → ⊥) → Found from left Nowhere
+        : ((i j : ℕ) → from ≤ i → i < from + left → CrossesAt p s (i ∷ []) j → ⊥) → Found from left None
 
   module _ (from left : ℕ) where
     -- a list that is not the first is a later one
@@ -167,7 +167,7 @@ module _ {p : Profile} (k : Kept p) (s : Side) where
         ]
 
     found_with
-        : (q r : Seen) → OneList from q → Found (from + 1) left r → Found from (suc left) (or_later q r)
+        : (q r : Option Evidence) → OneList from q → Found (from + 1) left r → Found from (suc left) (or_later q r)
     found_with q r (at place c first) later = at from place (omega arith) c first (λ i j h d. h)
     found_with q r (nowhere none) (at item place h c first lowest) =
         at item place (omega arith) c first (not_first (λ i. item ≤ i) none lowest)

@@ -1,5 +1,7 @@
 -- Laws of the gathering: a side that is seen is stored behind those before it; so the places handed back are the limits
 -- in the order of the sides, then blank ones. Rests on no axiom.
+use Rattle.std.specs.Prelude.{Result, Ok, Err}
+use Rattle.std.specs.Prelude.{Option, Some, None}
 use Prim.Native.Nat.{ℕ, suc, ◌+◌, ◌≤◌, ◌<◌}
 use mathlib.Core.Path.{◌≡◌, refl, sym, ap, ◌∙◌}
 use mathlib.Core.List.{List, [], ◌∷◌}
@@ -11,32 +13,29 @@ use lib.Seq.{take_all, length-take-le}
 use borrow.Author.Tests.{lt-ltb, le-ltb}
 use Rattle.lists.specs.Filled.{filled, stored_at}
 use Rattle.lists.proofs.StoreLaws.{stored_at_front_fills, front_of_filled}
-use Rattle.refusal.specs.Answer.{accepted, refused, counted_answer}
+use Rattle.refusal.specs.Answer.{accepted, refused}
 use Rattle.refusal.specs.Table.{number_of, place_of}
 use Rattle.refusal.specs.declared.Refusal.{Refusal}
-use Rattle.refusal.specs.declared.Counted.{Counted}
-use Rattle.refusal.specs.declared.Counted.TheVariants.{Count, Refused}
 use Rattle.refusal.proofs.AnswerLaws.{refused_earlier, accepted_later, number_is_not_zero}
 use Rattle.timing.specs.Profile.{profile_rule}
 use Rattle.timing.specs.declared.Profile.{Profile}
 use Rattle.lengths.specs.Margin.{margin_rule}
 use Rattle.limits.specs.Sides.{sides}
-use Rattle.limits.specs.Limits.{one_more, if_seen, limits_from, limits_of, limits_rule, limits_table}
-use Rattle.limits.specs.machine.Search.{searched, limit_of, blank, no_limits, pushed, gathered_from, gathered}
+use Rattle.limits.specs.Limits.{one_more, if_seen, limits_from, limits_of, limits_rule, limits_table, limits_answer}
+use Rattle.limits.specs.machine.Search.{shown_at, searched, limit_of, blank, no_limits, pushed, gathered_from, gathered}
 use Rattle.limits.specs.declared.side.Side.{Side}
-use Rattle.limits.specs.declared.search.Seen.{Seen}
-use Rattle.limits.specs.declared.search.Seen.TheVariants.{At, Nowhere}
+use Rattle.limits.specs.declared.search.Evidence.{Evidence}
 use Rattle.limits.specs.declared.Limit.{Limit}
 use Rattle.limits.specs.declared.Limits.{Limits}
 
 -- ---- one side
 
 module _ (p : Profile) (n : ℕ) (a : Limits) (s : Side) where
-  pub pushed_nothing : searched p s n ≡ Nowhere → pushed p n a s ≡ a
+  pub pushed_nothing : searched p s n ≡ None → pushed p n a s ≡ a
   unfolding pushed
   pushed_nothing e = rw e
 
-  module _ (i k : ℕ) (e : searched p s n ≡ At i k) where
+  module _ (i k : ℕ) (e : searched p s n ≡ shown_at i k) where
     pub pushed_one
         : a.count < 10
         → pushed p n a s
@@ -61,13 +60,13 @@ module _ (p : Profile) (n : ℕ) where
     unfolding gathered_from
     gathered_with b e = ap (λ (x : Limits). gathered_from p n x ss) e
 
-    pub limits_with : (q : Seen) → searched p s n ≡ q → limits_from p n (s ∷ ss) ≡ if_seen p s q (limits_from p n ss)
+    pub limits_with : (q : Option Evidence) → searched p s n ≡ q → limits_from p n (s ∷ ss) ≡ if_seen p s q (limits_from p n ss)
     unfolding limits_from
-    limits_with q e = ap (λ (x : Seen). if_seen p s x (limits_from p n ss)) e
+    limits_with q e = ap (λ (x : Option Evidence). if_seen p s x (limits_from p n ss)) e
 
     one_more_stored
         : (i k : ℕ)
-        → searched p s n ≡ At i k
+        → searched p s n ≡ shown_at i k
         → a.count < 10
         → Stored (record { count = a.count + 1; limits = set a.limits a.count (limit_of p s i k) }) ss
         → Stored a (s ∷ ss)
@@ -75,37 +74,37 @@ module _ (p : Profile) (n : ℕ) where
     one_more_stored i k e h later =
         let next = gathered_with _ (pushed_one p n a s i k e h) in
         record {
-          count = rw (next, limits_with (At i k) e) (later.count ∙ omega arith);
+          count = rw (next, limits_with (shown_at i k) e) (later.count ∙ omega arith);
           places =
-              rw (next, limits_with (At i k) e)
+              rw (next, limits_with (shown_at i k) e)
               (later.places
               ∙ ap (λ (at : ℕ). stored_at (set a.limits a.count (limit_of p s i k)) at (limits_from p n ss))
               (add-one a.count));
         }
 
-    none_more_stored : searched p s n ≡ Nowhere → Stored a ss → Stored a (s ∷ ss)
+    none_more_stored : searched p s n ≡ None → Stored a ss → Stored a (s ∷ ss)
     none_more_stored e later =
         let next = gathered_with a (pushed_nothing p n a s e) in
         record {
-          count = rw (next, limits_with Nowhere e) later.count;
-          places = rw (next, limits_with Nowhere e) later.places;
+          count = rw (next, limits_with None e) later.count;
+          places = rw (next, limits_with None e) later.places;
         }
 
     side_is_stored
         : a.count + suc (length ss) ≤ 10
         → ((b : Limits) → b.count + length ss ≤ 10 → Stored b ss)
-        → (q : Seen)
+        → (q : Option Evidence)
         → searched p s n ≡ q
         → Stored a (s ∷ ss)
-    side_is_stored h later Nowhere e = none_more_stored e (later a (omega arith))
-    side_is_stored h later (At i k) e = one_more_stored i k e (omega arith) (later _ (omega arith))
+    side_is_stored h later None e = none_more_stored e (later a (omega arith))
+    side_is_stored h later (Some shown) e = one_more_stored shown.item shown.interval e (omega arith) (later _ (omega arith))
 
     one_at_most
         : length (limits_from p n ss) ≤ length ss
-        → (q : Seen)
+        → (q : Option Evidence)
         → length (if_seen p s q (limits_from p n ss)) ≤ suc (length ss)
-    one_at_most h Nowhere = omega arith
-    one_at_most h (At i k) = omega arith
+    one_at_most h None = omega arith
+    one_at_most h (Some shown) = omega arith
 
   limits_are_few : (ss : List Side) → length (limits_from p n ss) ≤ length ss
   unfolding limits_from
@@ -155,18 +154,18 @@ module _ (p : Profile) where
   unfolding limits_of
   all_are_few = limits_are_few p (one_more p) sides
 
-  counted_by : (c : Counted) → counted_answer c ≡ limits_rule p → (limits_rule p).count ≤ length all
+  counted_by : (c : Result Limits Refusal) → limits_answer c ≡ limits_rule p → (limits_rule p).count ≤ length all
   unfolding limits_rule
-  counted_by (Count n) e =
-      let same = (accepted_later (profile_rule p) n (length all) e).1 in rw (← e) (omega (arith, same))
-  counted_by (Refused r) e = rw (← e) (omega arith)
+  counted_by (Ok found) e =
+      let same = (accepted_later (profile_rule p) found.count (length all) e).1 in rw (← e) (omega (arith, same))
+  counted_by (Err r) e = rw (← e) (omega arith)
 
-  pub count_is_few : (c : Counted) → counted_answer c ≡ limits_rule p → (limits_rule p).count ≤ 10
+  pub count_is_few : (c : Result Limits Refusal) → limits_answer c ≡ limits_rule p → (limits_rule p).count ≤ 10
   count_is_few c e = omega (arith, counted_by c e, all_are_few)
 
   pub front_of_table
-      : (c : Counted)
-      → counted_answer c ≡ limits_rule p
+      : (c : Result Limits Refusal)
+      → limits_answer c ≡ limits_rule p
       → take (limits_rule p).count (limits_table p) ≡ take (limits_rule p).count all
   unfolding limits_table
   front_of_table c e =

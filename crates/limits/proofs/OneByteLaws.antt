@@ -1,5 +1,6 @@
 -- The stream of a one-byte list has room in ten places: a byte ends eight cells at most and the closing 0s two. So the
 -- writer accepts it, and the front of its output is the stream. Rests on no axiom.
+use Rattle.std.specs.Prelude.{Result, Ok, Err}
 use Prim.Native.Nat.{ℕ, ◌≤◌, ◌<◌}
 use mathlib.Core.Path.{◌≡◌, sym, ap, ◌∙◌}
 use mathlib.Core.Bool.{true≢false}
@@ -10,8 +11,6 @@ use lib.ListN.{length, take}
 use borrow.Author.Tests.{le-ltb}
 use Rattle.lists.proofs.StoreLaws.{front_of_filled}
 use Rattle.refusal.specs.Answer.{Answer, accepted, counted_answer}
-use Rattle.refusal.specs.declared.Counted.{Counted}
-use Rattle.refusal.specs.declared.Counted.TheVariants.{Count, Refused}
 use Rattle.refusal.specs.declared.Refusal.{Refusal}
 use Rattle.refusal.proofs.AnswerLaws.{number_is_not_zero, first_refusal_passes, acceptance_fills_the_buffer}
 use Rattle.timing.specs.Profile.{profile_rule}
@@ -37,15 +36,15 @@ module _ (p : Profile) (b : ℕ) (ok : (profile_rule p).number ≡ 0) (h : b < 2
       let room = le-ltb 10 (length (byte_stream p (written (b ∷ [])))) one_byte_has_room in
       rw (first_refusal_passes, first_refusal_passes, room)
 
-  module _ (r : Counted) (e : counted_answer r ≡ write_rule p (b ∷ []) 10) where
-    pub one_byte_is_not_refused : (refusal : Refusal) → r ≡ Refused refusal → ⊥
+  module _ (r : Result ℕ Refusal) (e : counted_answer r ≡ write_rule p (b ∷ []) 10) where
+    pub one_byte_is_not_refused : (refusal : Refusal) → r ≡ Err refusal → ⊥
     one_byte_is_not_refused refusal q =
         let zero = ap (λ (a : Answer). eqb a.number 0) (sym (ap counted_answer q) ∙ e ∙ one_byte_is_written) in
         true≢false (sym zero ∙ number_is_not_zero refusal)
 
     pub one_byte_fills_front
         : (n : ℕ)
-        → r ≡ Count n
+        → r ≡ Ok n
         → (old : List ℕ)
         → length old ≡ 10
         → (n ≤ 10) × (take n (write_output p (b ∷ []) old) ≡ stream_of p (b ∷ []))

@@ -1,5 +1,6 @@
 -- Why at least one side is named: the margin is the least of the ten rooms, one for each side, and the side whose room
 -- it is has a length that one half clock more moves across. Rests on no axiom.
+use Rattle.std.specs.Prelude.{Option, Some, None}
 use Prim.Native.Nat.{ℕ, zero, suc, ◌+◌, ◌-◌, ◌<◌}
 use mathlib.Core.Path.{◌≡◌, refl}
 use mathlib.Core.Bool.{Bool, true, false}
@@ -14,10 +15,9 @@ use Rattle.lengths.specs.Margin.{rooms_of, margin_of}
 use Rattle.lists.proofs.SpanLaws.{least_is_of_one}
 use Rattle.limits.specs.Sides.{sides, reaches}
 use Rattle.limits.specs.Limits.{one_more, if_seen, limits_from, limits_of}
-use Rattle.limits.specs.machine.Search.{searched}
+use Rattle.limits.specs.machine.Search.{shown_at, searched}
 use Rattle.limits.specs.declared.side.Side.{Side}
-use Rattle.limits.specs.declared.search.Seen.{Seen}
-use Rattle.limits.specs.declared.search.Seen.TheVariants.{At, Nowhere}
+use Rattle.limits.specs.declared.search.Evidence.{Evidence}
 use Rattle.limits.specs.declared.Limit.{Limit}
 use Rattle.limits.proofs.EdgeLaws.{On, stays_on}
 use Rattle.limits.proofs.KnownLaws.{Shown, edge_at, Known}
@@ -73,14 +73,14 @@ module _ {p : Profile} (k : Kept p) where
         (stays_on s.above (margin_of p) (edge_at p s) near known.margin_stays) (rw same over))
 
     seen_is_counted
-        : (q : Seen) → Found k s 0 28 q → Shown p s → (xs : List Limit) → 0 < length (if_seen p s q xs)
+        : (q : Option Evidence) → Found k s 0 28 q → Shown p s → (xs : List Limit) → 0 < length (if_seen p s q xs)
     seen_is_counted q (at item place below c first lowest) y xs = omega arith
     seen_is_counted q (nowhere none) y xs =
         absurd (none y.item y.place (omega arith) (let low = y.is_low in omega (arith, low)) y.there)
 
-    still_counted : (q : Seen) (xs : List Limit) → 0 < length xs → 0 < length (if_seen p s q xs)
-    still_counted Nowhere xs h = h
-    still_counted (At item place) xs h = omega arith
+    still_counted : (q : Option Evidence) (xs : List Limit) → 0 < length xs → 0 < length (if_seen p s q xs)
+    still_counted None xs h = h
+    still_counted (Some shown) xs h = omega arith
 
   some_is_named
       : (ss : List Side) (rs : List ℕ)

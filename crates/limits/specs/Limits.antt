@@ -1,8 +1,11 @@
 -- Document 02, (xii): when a side is named, and the answer. No lemmas here. That the answer names exactly these sides,
 -- and what its evidence is, is the claim of `demands/specs/HeldDown`.
 use Rattle.std.specs.Prelude.{ℕ, ◌+◌, ◌<◌, ◌≡◌, Bool, true, false, List, [], ◌∷◌, length, get_or, take, replicate}
+use Rattle.std.specs.Prelude.{Option, Some, None, Result, Ok, Err}
 use Rattle.lists.specs.Filled.{filled}
-use Rattle.refusal.specs.Answer.{Answer, accepted, first_refusal}
+use Rattle.refusal.specs.Answer.{Answer, accepted, refused, first_refusal}
+use Rattle.refusal.specs.Table.{number_of, place_of}
+use Rattle.refusal.specs.declared.Refusal.{Refusal}
 use Rattle.timing.specs.Profile.{profile_rule}
 use Rattle.timing.specs.declared.Profile.{Profile}
 use Rattle.items.specs.Rule.{list_rule}
@@ -13,9 +16,9 @@ use Rattle.lengths.specs.Margin.{after_two, margin_of}
 use Rattle.limits.specs.Sides.{sides, crosses}
 use Rattle.limits.specs.machine.Search.{searched, limit_of, blank}
 use Rattle.limits.specs.declared.side.Side.{Side}
-use Rattle.limits.specs.declared.search.Seen.{Seen}
-use Rattle.limits.specs.declared.search.Seen.TheVariants.{At, Nowhere}
+use Rattle.limits.specs.declared.search.Evidence.{Evidence}
 use Rattle.limits.specs.declared.Limit.{Limit}
+use Rattle.limits.specs.declared.Limits.{Limits}
 
 -- margin + 1
 abbrev pub one_more : Profile → ℕ
@@ -40,9 +43,9 @@ MovedBy true n length moved = moved + n ≡ length
 MovedBy false n length moved = moved ≡ length + n
 
 -- the sides that the search finds, each with what it has seen
-abbrev pub if_seen : Profile → Side → Seen → List Limit → List Limit
-if_seen p s Nowhere later = later
-if_seen p s (At item interval) later = limit_of p s item interval ∷ later
+abbrev pub if_seen : Profile → Side → Option Evidence → List Limit → List Limit
+if_seen p s None later = later
+if_seen p s (Some shown) later = limit_of p s shown.item shown.interval ∷ later
 
 unfoldable pub limits_from : Profile → ℕ → List Side → List Limit
 limits_from p n [] = []
@@ -59,3 +62,13 @@ limits_rule p = first_refusal (profile_rule p) (accepted (length (limits_of p)))
 -- the ten places that are handed back: as many limits as the count says, on a refusal none, then blank ones
 unfoldable pub limits_table : Profile → List Limit
 limits_table p = filled (take (limits_rule p).count (limits_of p)) (replicate 10 blank)
+
+-- what the code answers, as the paper gives it
+abbrev pub limits_answer : Result Limits Refusal → Answer
+limits_answer (Ok found) = accepted found.count
+limits_answer (Err r) = refused (number_of r) (place_of r)
+
+-- and its ten places: blank ones on a refusal
+abbrev pub limits_given : Result Limits Refusal → List Limit
+limits_given (Ok found) = found.limits
+limits_given (Err r) = replicate 10 blank

@@ -4,22 +4,21 @@
 #![tactic(auto)]
 
 ghost use Rattle.std.specs.Prelude.{◌≡◌, true, false};
-ghost use Rattle.refusal.specs.Answer.{counted_answer};
 ghost use Rattle.timing.specs.Profile.{profile_rule};
-ghost use Rattle.limits.specs.Limits.{limits_rule, limits_table};
+ghost use Rattle.limits.specs.Limits.{limits_answer, limits_given, limits_rule, limits_table};
 ghost use Rattle.limits.specs.machine.Search.{pushed, gathered};
 
 mod search;
 mod side;
 
-use refusal::Counted;
-use search::{Seen, search};
+use refusal::Refusal;
+use search::search;
 use side::beyond;
 pub use side::{Edge, Kind, Side};
 use timing::Profile;
 
 // A side, the one-byte list and the interval of it that show it, and that interval's length moved by margin + 1.
-#[derive(Clone, Copy)]
+#[derive(Clone, Copy, PartialEq, Eq)]
 pub struct Limit {
     pub side: Side,
     pub item: u16,
@@ -28,16 +27,9 @@ pub struct Limit {
 }
 
 // In the order of the sides; those beyond the count are all blank.
-#[derive(Clone, Copy)]
+#[derive(Clone, Copy, PartialEq, Eq)]
 pub struct Limits {
     pub count: usize,
-    pub limits: [Limit; 10],
-}
-
-// The answer: 1, 2, or the count of the limits.
-#[derive(Clone, Copy)]
-pub struct Held {
-    pub answer: Counted,
     pub limits: [Limit; 10],
 }
 
@@ -62,14 +54,14 @@ fn push(p: Profile, n: u16, made: Limits, edge: Edge, after: Kind, above: bool) 
     let at = made.count;
     let mut limits = made.limits;
     match search(p, side, n) {
-        Seen::Nowhere => made,
-        Seen::At { item, interval } => {
+        None => made,
+        Some(shown) => {
             if at < 10 {
                 let moved = beyond(p, side);
                 limits[at] = Limit {
                     side,
-                    item,
-                    interval,
+                    item: shown.item,
+                    interval: shown.interval,
                     moved,
                 };
                 return Limits {
@@ -110,22 +102,10 @@ fn gather(p: Profile, n: u16) -> Limits
 }
 
 // 1, 2, as for the margin; else the sides that hold it down.
-pub fn margin_limits(p: Profile) -> Held
-    ensures answer { counted_answer result.answer ≡ limits_rule p }
-    ensures limits { result.limits ≡ limits_table p }
+pub fn margin_limits(p: Profile) -> Result<Limits, Refusal>
+    ensures answer { limits_answer result ≡ limits_rule p }
+    ensures limits { limits_given result ≡ limits_table p }
 {
-    match lengths::margin(p) {
-        Counted::Refused(refusal) => Held {
-            answer: Counted::Refused(refusal),
-            limits: [BLANK; 10],
-        },
-        Counted::Count(m) => {
-            let found = gather(p, m as u16 + 1);
-            let limits = found.limits;
-            Held {
-                answer: Counted::Count(found.count),
-                limits,
-            }
-        }
-    }
+    let m = lengths::margin(p)?;
+    Ok(gather(p, m as u16 + 1))
 }

@@ -4,38 +4,35 @@ ghost use Rattle.timing.specs.Profile.{profile_rule};
 ghost use Rattle.limits.specs.machine.Search.{seen_from, seen_in, searched};
 
 use crate::side::{Side, crosses, is_two};
-use refusal::Counted;
 use timing::Profile;
 
-#[derive(Clone, Copy)]
-pub enum Seen {
-    At { item: u16, interval: u16 },
-    Nowhere,
+// A one-byte list and the interval of it that show a side.
+#[derive(Clone, Copy, PartialEq, Eq)]
+pub struct Evidence {
+    pub item: u16,
+    pub interval: u16,
 }
 
 // The first of some intervals that crosses.
-fn first_seen(p: Profile, s: Side, n: u16, item: u16, intervals: &[u16]) -> Seen
+fn first_seen(p: Profile, s: Side, n: u16, item: u16, intervals: &[u16]) -> Option<Evidence>
     requires { length intervals.now ≤ 10 }
     ensures { result ≡ seen_from p s n item true 0 intervals.now }
 {
     let mut two = true;
-    let mut k: usize = 0;
-    while k < intervals.len() {
-        let d = intervals[k];
+    for (k, &d) in intervals.iter().enumerate() {
         if crosses(p, s, n, two, d) {
-            return Seen::At {
+            return Some(Evidence {
                 item,
                 interval: k as u16,
-            };
+            });
         }
         two = is_two(p, two, d);
-        k += 1;
     }
-    Seen::Nowhere
+    None
 }
 
 // A byte ends eight cells at most and the closing 0s two.
-fn seen_in(p: Profile, s: Side, n: u16, item: u16) -> Seen
+fn seen_in(p: Profile, s: Side, n: u16, item: u16) -> Option<Evidence>
     requires p_value { (profile_rule p).number ≡ 0 }
     requires item_bound { item < 256 }
     ensures { result ≡ seen_in p s n item }
@@ -43,27 +40,21 @@ fn seen_in(p: Profile, s: Side, n: u16, item: u16) -> Seen
     let items = [item];
     let mut out = [0u16; 10];
     match codec::writer::write(p, &items, &mut out) {
-        Counted::Refused(_) => Seen::Nowhere,
-        Counted::Count(count) => first_seen(p, s, n, item, &out[..count]),
+        Err(_) => None,
+        Ok(count) => first_seen(p, s, n, item, &out[..count]),
     }
 }
 
 // Of all lengths that any list can have, those nearest to the edges stand in the lists up to 1B: no side is missed.
-pub fn search(p: Profile, s: Side, n: u16) -> Seen
+pub fn search(p: Profile, s: Side, n: u16) -> Option<Evidence>
     requires { (profile_rule p).number ≡ 0 }
     ensures { result ≡ searched p s n }
 {
-    let mut item: u16 = 0;
-    while item <= 0x1b {
+    for item in 0..=0x1b {
         let seen = seen_in(p, s, n, item);
-        match seen {
-            Seen::At {
-                item: _,
-                interval: _,
-            } => return seen,
-            Seen::Nowhere => {}
+        if seen.is_some() {
+            return seen;
         }
-        item += 1;
     }
-    Seen::Nowhere
+    None
 }

@@ -4,10 +4,10 @@ ghost use Rattle.timing.specs.Class.{is_two, class_of};
 ghost use Rattle.limits.specs.Sides.{edge_of};
 ghost use Rattle.limits.specs.Sides;
 
-use timing::{Bounds, Cursor, Profile};
+use timing::{Bounds, Class, Cursor, Profile};
 
 // An edge of the windows.
-#[derive(Clone, Copy)]
+#[derive(Clone, Copy, PartialEq, Eq)]
 pub enum Edge {
     Min,
     B23,
@@ -16,7 +16,7 @@ pub enum Edge {
 }
 
 // The kinds of cell before: Min and Rpt count once, over both.
-#[derive(Clone, Copy)]
+#[derive(Clone, Copy, PartialEq, Eq)]
 pub enum Kind {
     Both,
     Short,
@@ -24,7 +24,7 @@ pub enum Kind {
 }
 
 // A side of an edge, after a kind of cell: the lengths below it or above it.
-#[derive(Clone, Copy)]
+#[derive(Clone, Copy, PartialEq, Eq)]
 pub struct Side {
     pub edge: Edge,
     pub after: Kind,
@@ -91,10 +91,7 @@ pub fn beyond(p: Profile, s: Side) -> u16
     let after = s.after;
     let there = edge_of(p, edge, after);
     if s.above {
-        if there < 1 {
-            return 0;
-        }
-        return there - 1;
+        return there.saturating_sub(1);
     }
     there
 }
@@ -103,6 +100,5 @@ pub fn beyond(p: Profile, s: Side) -> u16
 pub fn is_two(p: Profile, two: bool, length: u16) -> bool
     ensures { result ≡ is_two (class_of p two length) }
 {
-    let class = Cursor::after(p, two).step(length).class;
-    class.number() == 2
+    Cursor::after(p, two).step(length).class == Class::Two
 }

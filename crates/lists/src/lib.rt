@@ -1,7 +1,7 @@
 // What all crates share on lists: definitions with their laws, and the stores into a caller's output.
 #![tactic(auto)]
 
-ghost use Rattle.std.specs.Prelude.{◌+◌, ◌≤◌, min, ◌≡◌, length, set};
+ghost use Rattle.std.specs.Prelude.{◌+◌, ◌≤◌, ◌≡◌, length, set};
 ghost use Rattle.lists.specs.Filled.{stored_at};
 
 // Past the end nothing is stored.
@@ -13,39 +13,15 @@ pub fn put(out: &mut [u16], at: usize, number: u16)
     }
 }
 
-// As many as there are, or so many.
-pub fn at_most(most: usize, count: usize) -> usize
-    ensures { result ≡ min most count }
-{
-    if count < most {
-        return count;
-    }
-    most
-}
-
-// Numbers from a place on, as many as there is room for.
-pub fn store(numbers: &[u16], at: usize, out: &mut [u16])
-    ensures { out.new ≡ stored_at out.old at numbers.now }
+// Values from a place on, as many as there is room for.
+pub fn store<T: Copy>(values: &[T], at: usize, out: &mut [T])
+    ensures { out.new ≡ stored_at out.old at values.now }
 {
     if out.len() <= at {
         return;
     }
-    let count = at_most(out.len() - at, numbers.len());
-    let mut k: usize = 0;
-    while k < count {
-        out[at + k] = numbers[k];
-        k += 1;
-    }
-}
-
-// Bytes from a place on, where all have room.
-pub fn copy(bytes: &[u8], at: usize, out: &mut [u8])
-    requires { at + length bytes.now ≤ length out.old }
-    ensures { out.new ≡ stored_at out.old at bytes.now }
-{
-    let mut k: usize = 0;
-    while k < bytes.len() {
-        out[at + k] = bytes[k];
-        k += 1;
+    let count = values.len().min(out.len() - at);
+    for (k, value) in values[..count].iter().enumerate() {
+        out[at + k] = *value;
     }
 }

@@ -4,17 +4,23 @@ use mathlib.Core.Path.{◌≡◌, refl}
 use mathlib.Core.Bool.{Bool, true, false, cond, not, ◌&&◌}
 use mathlib.Core.List.{List, [], ◌∷◌, ◌++◌, append-nil, append_assoc}
 use native.Mathlib.Omega.{arith}
+use Rattle.std.specs.Int.{from_bool}
 use lib.Dec.{eqb}
 use lib.ListN.{length, drop, get_or, length-take, length-drop}
 use lib.Seq.{length-take-le}
 use Rattle.sectors.specs.Sector.{sector_size}
 use Rattle.sectors.proofs.SectorCounts.{size_at_most_1024}
-use Rattle.sets.specs.Set.{Sector, sector_of, sector_bytes, set_bytes}
+use Rattle.sets.specs.Set.{Sector, as_byte, sector_of, sector_bytes, set_bytes}
 use Rattle.sets.specs.Held.{Held, Nothing, One, Twice}
 use Rattle.sets.specs.machine.Index.{sector_at, end_of, shown}
 use Rattle.sets.proofs.ShownLaws.{zero_shows_nothing, place_shows_one}
 use Rattle.merge.specs.Merge.{better, taken, as_list}
 use Rattle.merge.specs.machine.Tests.{takes_second}
+
+-- a number of 1 or 0 is a sum's byte
+pub byte_of_bool : (holds : Bool) → from_bool holds ≡ as_byte holds
+byte_of_bool true = refl
+byte_of_bool false = refl
 
 -- ---- bytes
 

@@ -1,6 +1,6 @@
 -- Laws of the merge's tests in their order: each step of the code settles a part of the rule. Rests on no axiom.
 use Prim.Native.Nat.{ℕ, ◌≤◌}
-use mathlib.Core.Path.{◌≡◌, refl, sym}
+use mathlib.Core.Path.{◌≡◌, refl, sym, ap, ◌∙◌}
 use mathlib.Core.Bool.{Bool, true, false, ◌||◌, true≢false}
 use mathlib.Core.List.{List}
 use mathlib.Core.Option.{Option, none, some}
@@ -9,8 +9,10 @@ use borrow.Author.Tests.{ltb-false}
 use lib.Dec.{ltb}
 use lib.ListN.{length}
 use Rattle.lists.specs.Place.{anywhere, lowest}
-use Rattle.refusal.specs.Answer.{Answer, accepted, refuse_if, first_refusal}
-use Rattle.refusal.proofs.AnswerLaws.{refuse_if_accepts}
+use Rattle.refusal.specs.Table.{number_of, place_of}
+use Rattle.refusal.specs.Answer.{Answer, accepted, refused, refuse_if, first_refusal}
+use Rattle.refusal.specs.declared.Refusal.{Refusal}
+use Rattle.refusal.proofs.AnswerLaws.{refusal_decides, refuse_if_accepts}
 use Rattle.sets.specs.Set.{Sector, set_bytes, set_of, is_none, or_empty, is_misfit_set, sectors_in}
 use Rattle.sets.specs.Held.{numbers, how_many}
 use Rattle.sets.specs.machine.Index.{count_rule, Indexed}
@@ -47,6 +49,23 @@ module _ (first second : List ℕ) where
       by none p = refl
       by (some ss) none = refl
       by (some ss) (some ts) = simp zero-add
+
+  -- a set that cannot be counted decides in its turn
+  pub first_misfit_decides
+      : (r : Refusal)
+      → refused (number_of r) (place_of r) ≡ count_rule 0 (set_of first)
+      → refused (number_of r) (place_of r) ≡ sets_rule first second
+  first_misfit_decides r e = refusal_decides r _ _ e ∙ counts_are_the_rule
+
+  pub second_misfit_decides
+      : (r : Refusal) (n : ℕ)
+      → accepted n ≡ count_rule 0 (set_of first)
+      → refused (number_of r) (place_of r) ≡ count_rule 0 (set_of second)
+      → refused (number_of r) (place_of r) ≡ sets_rule first second
+  second_misfit_decides r n e f =
+      refusal_decides r _ _ f
+      ∙ ap (λ (a : Answer). counts_rule a (count_rule 0 (set_of second))) e
+      ∙ counts_are_the_rule
 
   pub accepted_sets_fit : (sets_rule first second).number ≡ 0 → Fits first × Fits second
   unfolding sets_rule

@@ -6,16 +6,26 @@ use mathlib.Core.Bool.{Bool, true, false, ◌||◌}
 use mathlib.Core.List.{List}
 use lib.ListN.{length}
 use lib.Dec.{ltb}
+use Rattle.std.specs.Prelude.{Result, Ok, Err, IsErrAnd}
 use Rattle.lists.specs.Place.{anywhere}
 use Rattle.refusal.specs.Table.{number_of, place_of}
 use Rattle.refusal.specs.Answer.{Answer, accepted, refused, refuse_if, first_refusal}
 use Rattle.refusal.specs.declared.Refusal.{Refusal}
 use Rattle.refusal.proofs.AnswerLaws.{number_is_not_zero, refusal_decides}
+use Rattle.sets.specs.declared.SetSize.{SetSize}
 use Rattle.sets.specs.Set.{sectors_in, is_misfit_set}
 use Rattle.sets.specs.Held.{how_many, numbers}
 use Rattle.merge.specs.Merge.{is_crowded, at_odds_at, in_either}
-use Rattle.merge.specs.Rule.{merge_rule, MergeAnswer, merge_answer, merge_output}
+use Rattle.merge.specs.Rule.{merge_rule, MergeAnswer, merged_answer, merge_answer, merge_output}
 use Rattle.merge.specs.machine.Tests.{sets_rule, numbers_rule, checked_rule, Settles}
+
+-- a refusal that `?` hands on is that refusal, and nothing is stored
+pub refusal_stores_nothing
+    : (answer : Result SetSize Refusal) (r : Refusal)
+    → IsErrAnd answer (λ e. e ≡ r)
+    → merged_answer answer ≡ record { answer = refused (number_of r) (place_of r); stored = 0 }
+refusal_stores_nothing (Err e) r h = rw h refl
+refusal_stores_nothing (Ok size) r h = absurd h
 
 module _ (first second : List ℕ) where
   -- ---- an earlier rule, then a later one

@@ -1,13 +1,13 @@
 -- Document 02 (vii): what the merge answers and leaves: 13, 15, 17, 9. No lemmas here.
-use Rattle.std.specs.Prelude.{ℕ, cond, ◌||◌, List, eqb, ltb, length}
+use Rattle.std.specs.Prelude.{ℕ, cond, ◌||◌, List, eqb, ltb, length, Result, Ok, Err}
 use Rattle.lists.specs.Place.{anywhere, lowest}
 use Rattle.refusal.specs.Table.{number_of, place_of}
 use Rattle.refusal.specs.Answer.{Answer, accepted, refused, refuse_if, settled}
+use Rattle.refusal.specs.declared.Refusal.{Refusal}
+use Rattle.sets.specs.declared.SetSize.{SetSize}
 use Rattle.sets.specs.Set.{Sector, set_bytes, is_misfit_set, sectors_in}
 use Rattle.sets.specs.Held.{numbers}
 use Rattle.merge.specs.Merge.{merged, is_crowded, at_odds_at}
-use Rattle.merge.specs.declared.Merged.{Merged}
-use Rattle.merge.specs.declared.Merged.TheVariants.{Set, Refused}
 
 -- 9, else the number of sectors
 unfoldable pub room_rule : List Sector → List Sector → ℕ → Answer
@@ -32,9 +32,9 @@ pub record MergeAnswer : Type 0 where
   pub stored : ℕ
 
 -- the merge's answer, as it is declared
-abbrev pub merged_answer : Merged → MergeAnswer
-merged_answer (Set count bytes) = record { answer = accepted count; stored = bytes }
-merged_answer (Refused r) = record { answer = refused (number_of r) (place_of r); stored = 0 }
+abbrev pub merged_answer : Result SetSize Refusal → MergeAnswer
+merged_answer (Ok size) = record { answer = accepted size.count; stored = size.bytes }
+merged_answer (Err r) = record { answer = refused (number_of r) (place_of r); stored = 0 }
 
 -- and as the rules give it
 abbrev pub storing : Answer → ℕ → MergeAnswer

@@ -16,10 +16,8 @@ pub fn merged_size(first: &[u8], a: &[u16; 256], second: &[u8], b: &[u16; 256], 
     ensures { result ≡ length (set_bytes (merged (sectors_in first.now) (sectors_in second.now))) }
 {
     let mut size: usize = 0;
-    let mut n = span.low;
-    while n < span.high {
+    for n in span.low..span.high {
         size += taken_size(first, a[n], second, b[n]);
-        n += 1;
     }
     size
 }
@@ -40,9 +38,7 @@ pub fn write_merged(
         (set_bytes (merged (sectors_in first.now) (sectors_in second.now))) }
 {
     let mut start: usize = 0;
-    let mut n = span.low;
-    while n < span.high {
+    for n in span.low..span.high {
         start = put_taken(first, a[n], second, b[n], out, start);
-        n += 1;
     }
 }

@@ -1,6 +1,6 @@
 // What two sets have of one number: whether they are at odds, and whose copy is taken. A number's entry in a set's
 // index is 0, 65,535, or the place of the sector's length code.
-ghost use Rattle.std.specs.Prelude.{◌≤◌, ◌≡◌, false, length};
+ghost use Rattle.std.specs.Prelude.{◌<◌, ◌≤◌, ◌≡◌, false, length, unwrap_or, IfSome};
 ghost use Rattle.lists.specs.Place.{lowest};
 ghost use Rattle.sets.specs.Set.{sectors_in};
 ghost use Rattle.sets.specs.Held.{numbers};
@@ -19,10 +19,8 @@ fn same_bytes(a: &[u8], b: &[u8]) -> bool
         return false;
     }
     let mut same = true;
-    let mut k: usize = 0;
-    while k < a.len() {
-        same = same & (a[k] == b[k]);
-        k += 1;
+    for (k, byte) in a.iter().enumerate() {
+        same = same & (*byte == b[k]);
     }
     same
 }
@@ -69,25 +67,25 @@ fn at_odds(first: &[u8], a: u16, second: &[u8], b: u16) -> bool
     copies_disagree(first, a as usize, second, b as usize)
 }
 
-// The lowest number at which the sets are at odds; 256 where there is none.
+// The lowest number at which the sets are at odds.
 pub fn lowest_at_odds(
     first: &[u8],
     a: &[u16; 256],
     second: &[u8],
     b: &[u16; 256],
     span: Span,
-) -> usize
+) -> Option<usize>
     requires { Indexes first.now a.now second.now b.now span }
-    ensures { result ≡ lowest (at_odds_at (sectors_in first.now) (sectors_in second.now)) numbers }
+    ensures lowest { unwrap_or result 256
+        ≡ lowest (at_odds_at (sectors_in first.now) (sectors_in second.now)) numbers }
+    ensures number { IfSome result (λ n. n < 256) }
 {
-    let mut n = span.low;
-    while n < span.high {
+    for n in span.low..span.high {
         if at_odds(first, a[n], second, b[n]) {
-            return n;
+            return Some(n);
         }
-        n += 1;
     }
-    256
+    None
 }
 
 // Whether it is the second set's copy that is taken.

@@ -11,7 +11,8 @@ ghost use Rattle.merge.specs.machine.Tests.{sets_rule, numbers_rule, checked_rul
 use ascending::{merged_size, write_merged};
 use choice::lowest_at_odds;
 use numbers::count_numbers;
-use refusal::{Counted, Refusal, Verdict};
+use refusal::Refusal;
+use sets::SetSize;
 use sets::index::{count_sectors, index_set};
 use sets::span::{Span, join};
 
@@ -20,52 +21,46 @@ mod choice;
 mod numbers;
 mod output;
 
-// How many sectors the merged set has and how many bytes it takes.
-#[derive(Clone, Copy)]
-pub enum Merged {
-    Set { count: usize, bytes: usize },
-    Refused(Refusal),
-}
-
-fn check_counts(first: usize, second: usize) -> Verdict
+fn check_counts(first: usize, second: usize) -> Result<(), Refusal>
     ensures { verdict_answer result ≡ refuse_if (ltb 32 first || ltb 32 second) 15 0 (accepted 0) }
 {
     if 32 < first {
-        return Verdict::Refused(Refusal::TooManySectors);
+        return Err(Refusal::TooManySectors);
     }
     if 32 < second {
-        return Verdict::Refused(Refusal::TooManySectors);
+        return Err(Refusal::TooManySectors);
     }
-    Verdict::Accepted
+    Ok(())
 }
 
 // 13, then 15 for a set of more than 32 sectors.
-fn check_sets(first: &[u8], second: &[u8]) -> Verdict
+fn check_sets(first: &[u8], second: &[u8]) -> Result<(), Refusal>
     ensures { verdict_answer result ≡ sets_rule first.now second.now }
 {
-    match count_sectors(first) {
-        Counted::Refused(refusal) => Verdict::Refused(refusal),
-        Counted::Count(a) => match count_sectors(second) {
-            Counted::Refused(refusal) => Verdict::Refused(refusal),
-            Counted::Count(b) => check_counts(a, b),
-        },
-    }
+    let a = count_sectors(first)?;
+    let b = count_sectors(second)?;
+    check_counts(a, b)
 }
 
 // 15 for more than 32 different numbers, then 17; else how many there are.
-fn check_numbers(first: &[u8], a: &[u16; 256], second: &[u8], b: &[u16; 256], span: Span) -> Counted
+fn check_numbers(
+    first: &[u8],
+    a: &[u16; 256],
+    second: &[u8],
+    b: &[u16; 256],
+    span: Span,
+) -> Result<usize, Refusal>
     requires { Indexes first.now a.now second.now b.now span }
     ensures { counted_answer result ≡ numbers_rule (sectors_in first.now) (sectors_in second.now) }
 {
     let count = count_numbers(a, b, span);
     if 32 < count {
-        return Counted::Refused(Refusal::TooManySectors);
+        return Err(Refusal::TooManySectors);
     }
-    let lowest = lowest_at_odds(first, a, second, b, span);
-    if lowest < 256 {
-        return Counted::Refused(Refusal::SectorsAtOdds(lowest as u32));
+    if let Some(number) = lowest_at_odds(first, a, second, b, span) {
+        return Err(Refusal::SectorsAtOdds(number as u32));
     }
-    Counted::Count(count)
+    Ok(count)
 }
 
 // 9, or the merged set at the front of the output.
@@ -77,7 +72,7 @@ fn deliver(
     span: Span,
     count: usize,
     out: &mut [u8],
-) -> Merged
+) -> Result<SetSize, Refusal>
     requires { Indexes first.now a.now second.now b.now span
         × (accepted count ≡ numbers_rule (sectors_in first.now) (sectors_in second.now)) }
     ensures { Settles first.now second.now
@@ -86,14 +81,14 @@ fn deliver(
 {
     let bytes = merged_size(first, a, second, b, span);
     if out.len() < bytes {
-        return Merged::Refused(Refusal::OutputTooShort);
+        return Err(Refusal::OutputTooShort);
     }
     write_merged(first, a, second, b, span, out);
-    Merged::Set { count, bytes }
+    Ok(SetSize { count, bytes })
 }
 
 // Two sets of at most 32 sectors each.
-fn merge_checked(first: &[u8], second: &[u8], out: &mut [u8]) -> Merged
+fn merge_checked(first: &[u8], second: &[u8], out: &mut [u8]) -> Result<SetSize, Refusal>
     requires { accepted 0 ≡ sets_rule first.now second.now }
     ensures { Settles first.now second.now
         (checked_rule (sectors_in first.now) (sectors_in second.now) (length out.old))
@@ -104,19 +99,16 @@ fn merge_checked(first: &[u8], second: &[u8], out: &mut [u8]) -> Merged
     let one = index_set(first, &mut a);
     let other = index_set(second, &mut b);
     let span = join(one, other);
-    match check_numbers(first, &a, second, &b, span) {
-        Counted::Refused(refusal) => Merged::Refused(refusal),
-        Counted::Count(count) => deliver(first, &a, second, &b, span, count, out),
-    }
+    let count = check_numbers(first, &a, second, &b, span)?;
+    deliver(first, &a, second, &b, span, count, out)
 }
 
-// 13, 15, 17, 9. On acceptance the merged set fills the front of the output, by ascending sector number.
-pub fn merge_sets(first: &[u8], second: &[u8], out: &mut [u8]) -> Merged
+// 13, 15, 17, 9; else the size of the merged set. On acceptance it fills the front of the output, by
+// ascending sector number.
+pub fn merge_sets(first: &[u8], second: &[u8], out: &mut [u8]) -> Result<SetSize, Refusal>
     ensures answer { merged_answer result ≡ merge_answer first.now second.now (length out.old) }
     ensures output { out.new ≡ merge_output first.now second.now out.old }
 {
-    match check_sets(first, second) {
-        Verdict::Refused(refusal) => Merged::Refused(refusal),
-        Verdict::Accepted => merge_checked(first, second, out),
-    }
+    check_sets(first, second)?;
+    merge_checked(first, second, out)
 }

@@ -21,12 +21,10 @@ pub fn count_numbers(a: &[u16; 256], b: &[u16; 256], span: Span) -> usize
     ensures { result ≡ how_many (entry_in_either a.now b.now) numbers }
 {
     let mut count: usize = 0;
-    let mut n = span.low;
-    while n < span.high {
+    for n in span.low..span.high {
         if in_either(a[n], b[n]) {
             count += 1;
         }
-        n += 1;
     }
     count
 }

@@ -1,14 +1,13 @@
 // The bytes of one number of the merged set: how many there are, and how they are stored. Each store answers the place
 // after it.
-ghost use Rattle.std.specs.Prelude.{◌+◌, ◌≤◌, ◌≡◌, false, not, eqb, length, get_or};
+ghost use Rattle.std.specs.Prelude.{◌+◌, ◌≤◌, ◌≡◌, false, length, get_or};
 ghost use Rattle.lists.specs.Filled.{stored_at};
 ghost use Rattle.sectors.specs.Sector.{sector_size};
-ghost use Rattle.sets.specs.Set.{as_byte, sector_bytes, set_bytes};
+ghost use Rattle.sets.specs.Set.{sector_bytes, set_bytes};
 ghost use Rattle.sets.specs.machine.Index.{sector_at, end_of, shown, Within};
 ghost use Rattle.merge.specs.Merge.{taken, as_list, at_odds};
 
 use crate::choice::takes_second;
-use lists::copy;
 
 fn entry_size(set: &[u8], entry: u16) -> usize
     requires { Within set.now entry × (entry ≡ 65535 → ⊥) }
@@ -34,13 +33,15 @@ pub fn taken_size(first: &[u8], a: u16, second: &[u8], b: u16) -> usize
     entry_size(first, a)
 }
 
-fn sum_byte(sum: u8) -> u8
-    ensures { result ≡ as_byte (not (eqb sum 0)) }
+// A sector's data from a place on. Not `lists::store`: the compiler knows that a sector is whole blocks of 16 bytes, and
+// not that as many as have room are, which costs 27 instructions a sector.
+fn copy(bytes: &[u8], at: usize, out: &mut [u8])
+    requires { at + length bytes.now ≤ length out.old }
+    ensures { out.new ≡ stored_at out.old at bytes.now }
 {
-    if sum == 0 {
-        return 0;
+    for (k, byte) in bytes.iter().enumerate() {
+        out[at + k] = *byte;
     }
-    1
 }
 
 // The sector whose length code stands at a place.
@@ -54,7 +55,7 @@ fn put_sector(set: &[u8], code: usize, out: &mut [u8], start: usize) -> usize
     let size = sectors::sector_size(set[code]);
     out[start] = set[code - 1];
     out[start + 1] = set[code];
-    out[start + 2] = sum_byte(set[code + 1]);
+    out[start + 2] = u8::from(set[code + 1] != 0);
     let data = code + 2;
     let end = data + size;
     copy(&set[data..end], start + 3, out);

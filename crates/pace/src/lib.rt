@@ -6,7 +6,7 @@ ghost use Rattle.refusal.specs.Answer.{verdict_answer};
 ghost use Rattle.pace.specs.Pace.{difference, off_speed, pace_rule};
 ghost use Rattle.pace.specs.machine.Cut.{cut, cut_from, Small, Measured, Able};
 
-use refusal::{Refusal, Verdict};
+use refusal::Refusal;
 use timing::HalfClocks;
 
 // As many intervals are measured.
@@ -16,7 +16,7 @@ pub const RUN: usize = 64;
 const WIDE: u32 = 65535;
 
 // 32 × T1, and the sums of the even and of the odd ones of the intervals before a lock.
-#[derive(Clone, Copy)]
+#[derive(Clone, Copy, PartialEq, Eq)]
 pub struct Pace {
     pub nominal: u32,
     pub even: u32,
@@ -28,10 +28,7 @@ fn off_speed(nominal: u32, sum: u32) -> bool
     requires { (nominal ≤ 32736) × (sum ≤ 4194240) }
     ensures { result ≡ off_speed nominal sum }
 {
-    if sum < nominal {
-        return nominal < 16 * (nominal - sum);
-    }
-    nominal < 16 * (sum - nominal)
+    nominal < 16 * sum.abs_diff(nominal)
 }
 
 // The signed difference of a sum to 32 × T1.
@@ -48,10 +45,7 @@ fn corrected(nominal: u32, sum: u32, interval: u16) -> u16
     ensures { result ≡ cut nominal sum interval }
 {
     let number = interval as u32 * nominal / sum;
-    if WIDE < number {
-        return 65535;
-    }
-    number as u16
+    number.min(WIDE) as u16
 }
 
 impl Pace {
@@ -63,11 +57,9 @@ impl Pace {
     {
         let mut even: u32 = 0;
         let mut odd: u32 = 0;
-        let mut k: usize = 0;
-        while k < RUN {
-            even += run[k] as u32;
-            odd += run[k + 1] as u32;
-            k += 2;
+        for pair in 0..RUN / 2 {
+            even += run[2 * pair] as u32;
+            odd += run[2 * pair + 1] as u32;
         }
         Pace {
             nominal: 32 * t1.0 as u32,
@@ -77,17 +69,17 @@ impl Pace {
     }
 
     // 18, off speed: the even ones, then the odd.
-    pub fn check(self) -> Verdict
+    pub fn check(self) -> Result<(), Refusal>
         requires { Small self }
         ensures { verdict_answer result ≡ pace_rule self.nominal self.even self.odd }
     {
         if off_speed(self.nominal, self.even) {
-            return Verdict::Refused(Refusal::OffSpeed(0));
+            return Err(Refusal::OffSpeed(0));
         }
         if off_speed(self.nominal, self.odd) {
-            return Verdict::Refused(Refusal::OffSpeed(1));
+            return Err(Refusal::OffSpeed(1));
         }
-        Verdict::Accepted
+        Ok(())
     }
 
     // Intervals of which the first is even: the two sums take turns.
@@ -99,13 +91,11 @@ impl Pace {
         let nominal = self.nominal;
         let mut own = self.even;
         let mut other = self.odd;
-        let mut k: usize = 0;
-        while k < intervals.len() {
-            out[k] = corrected(nominal, own, intervals[k]);
+        for (k, &interval) in intervals.iter().enumerate() {
+            out[k] = corrected(nominal, own, interval);
             let next = other;
             other = own;
             own = next;
-            k += 1;
         }
     }
 }

@@ -1,14 +1,15 @@
 -- Document 02 (xiv): pages into sectors: 12, 13, 9. No lemmas here.
 use Rattle.std.specs.Prelude.{ℕ, suc, ◌-◌, ◌*◌, true, not, List, ◌++◌, map, eqb, ltb, length, take, drop, replicate}
+use Rattle.std.specs.Prelude.{Result, Ok, Err}
 use Rattle.lists.specs.Table.{tabulated}
 use Rattle.refusal.specs.Table.{number_of, place_of}
 use Rattle.refusal.specs.Answer.{Answer, accepted, refused, refuse_if, settled}
+use Rattle.refusal.specs.declared.Refusal.{Refusal}
 use Rattle.timing.specs.Profile.{outside}
+use Rattle.sets.specs.declared.SetSize.{SetSize}
 use Rattle.sets.specs.Set.{Sector, set_bytes}
 use Rattle.merge.specs.Rule.{MergeAnswer, storing}
 use Rattle.page.specs.Page.{page_cells, fill_bytes, page_numbers}
-use Rattle.page.specs.declared.making.Made.{Made}
-use Rattle.page.specs.declared.making.Made.TheVariants.{Set, Refused}
 
 -- page n of a list of cells
 unfoldable pub page_of : List ℕ → ℕ → List ℕ
@@ -47,6 +48,6 @@ unfoldable pub make_output : List ℕ → ℕ → List ℕ → List ℕ
 make_output cells pages old = settled (make_rule cells pages (length old)) (made_set cells pages) old
 
 -- the answer as it is declared
-abbrev pub made_answer : Made → MergeAnswer
-made_answer (Set count bytes) = record { answer = accepted count; stored = bytes }
-made_answer (Refused r) = record { answer = refused (number_of r) (place_of r); stored = 0 }
+abbrev pub made_answer : Result SetSize Refusal → MergeAnswer
+made_answer (Ok size) = record { answer = accepted size.count; stored = size.bytes }
+made_answer (Err r) = record { answer = refused (number_of r) (place_of r); stored = 0 }

@@ -1,5 +1,5 @@
 -- Document 02 (xiv): a page master and its raised dots. No lemmas here.
-use Rattle.std.specs.Prelude.{ℕ, suc, ◌+◌, ◌-◌, ◌*◌, ◌/◌, ◌%◌, ◌^◌, Bool, not, List, [], ◌∷◌, map, eqb, take, drop}
+use Rattle.std.specs.Prelude.{ℕ, suc, ◌-◌, ◌*◌, ◌/◌, ◌%◌, ◌^◌, Bool, not, List, [], ◌∷◌, map, eqb, take, drop}
 use Rattle.lists.specs.Place.{anywhere}
 use Rattle.lists.specs.Sum.{sum_of}
 use Rattle.lists.specs.Table.{tabulated}

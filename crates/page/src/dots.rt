@@ -29,10 +29,8 @@ fn add_rows(rows: &[u8], columns: &mut [u8; 32])
     ensures sum { sum_of columns.new ≡ sum_of columns.old + dots_of rows.now }
     ensures each { (k : ℕ) → get_or columns.new k 0 ≤ get_or columns.old k 0 + 24 }
 {
-    let mut k: usize = 0;
-    while k < 32 {
-        columns[k] = grow(columns[k], rows[k], rows[32 + k], rows[64 + k]);
-        k += 1;
+    for (k, column) in columns.iter_mut().enumerate() {
+        *column = grow(*column, rows[k], rows[32 + k], rows[64 + k]);
     }
 }
 
@@ -41,10 +39,8 @@ fn sum_columns(columns: &[u8; 32]) -> u32
     ensures { result ≡ sum_of columns.now }
 {
     let mut sum: u32 = 0;
-    let mut k: usize = 0;
-    while k < 32 {
-        sum += columns[k] as u32;
-        k += 1;
+    for column in columns {
+        sum += *column as u32;
     }
     sum
 }
@@ -55,10 +51,8 @@ fn count_line(line: &[u8]) -> u32
     ensures { result ≡ dots_of line.now }
 {
     let mut dots: u32 = 0;
-    let mut k: usize = 0;
-    while k < 40 {
-        dots += u8::count_ones(line[k]);
-        k += 1;
+    for cell in line {
+        dots += cell.count_ones();
     }
     dots
 }
@@ -68,12 +62,10 @@ pub fn count_dots(page: &[u8]) -> u32
     ensures { result ≡ dots_of page.now }
 {
     let mut columns = [0u8; 32];
-    let mut turn: usize = 0;
-    while turn < 10 {
+    for turn in 0..10 {
         let start = 96 * turn;
         let end = start + 96;
         add_rows(&page[start..end], &mut columns);
-        turn += 1;
     }
     sum_columns(&columns) + count_line(&page[960..1000])
 }

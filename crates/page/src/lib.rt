@@ -2,7 +2,7 @@
 // cells, one byte a cell, then 24 bytes of 00.
 #![tactic(auto)]
 
-pub use making::{Made, make_pages};
+pub use making::make_pages;
 pub use reading::{Pages, read_pages};
 
 mod dots;

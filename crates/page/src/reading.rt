@@ -13,13 +13,13 @@ ghost use Rattle.page.specs.Reading.{handed_back};
 
 use crate::dots::count_dots;
 use crate::search::{lowest_lost, lowest_soiled};
-use lists::copy;
-use refusal::{Counted, Refusal};
+use lists::store;
+use refusal::{Refusal, Told};
 
 // Number and place of a refusal, 0 where there is none; how many pages were read and how many cells were stored; and
 // the number of raised dots on each page, 0 beyond those read.
 #[repr(C)]
-#[derive(Clone, Copy)]
+#[derive(Clone, Copy, PartialEq, Eq)]
 pub struct Pages {
     pub number: u32,
     pub place: u32,
@@ -38,13 +38,11 @@ fn put_pages(set: &[u8], index: &[u16; 256], pages: usize, cells: &mut [u8], dot
     ensures cells { cells.new ≡ stored_at cells.old 0 (pages_in (sectors_in set.now) pages) }
     ensures dots { dots.new ≡ stored_at dots.old 0 (dots_in (sectors_in set.now) pages) }
 {
-    let mut k: usize = 0;
-    while k < pages {
+    for k in 0..pages {
         let start = index[k + 1] as usize + 2;
         let end = start + 1000;
-        copy(&set[start..end], 1000 * k, cells);
+        store(&set[start..end], 1000 * k, cells);
         dots[k] = count_dots(&set[start..end]);
-        k += 1;
     }
 }
 
@@ -55,7 +53,7 @@ fn deliver(
     pages: usize,
     cells: &mut [u8],
     dots: &mut [u32; 16],
-) -> Counted
+) -> Result<usize, Refusal>
     requires { Indexed set.now index.now
         × (anywhere (is_twice_in (sectors_in set.now)) numbers ≡ false)
         × (pages ≤ 16)
@@ -68,23 +66,26 @@ fn deliver(
         ≡ settled (pages_rule (sectors_in set.now) pages (length cells.old))
         (dots_in (sectors_in set.now) pages) dots.old }
 {
-    let lost = lowest_lost(set, index, pages);
-    if lost < pages {
-        return Counted::Refused(Refusal::PageLost(lost as u32 + 1));
+    if let Some(lost) = lowest_lost(set, index, pages) {
+        return Err(Refusal::PageLost(lost as u32 + 1));
     }
-    let soiled = lowest_soiled(set, index, pages);
-    if soiled < pages {
-        return Counted::Refused(Refusal::FillSoiled(soiled as u32 + 1));
+    if let Some(soiled) = lowest_soiled(set, index, pages) {
+        return Err(Refusal::FillSoiled(soiled as u32 + 1));
     }
     if cells.len() < 1000 * pages {
-        return Counted::Refused(Refusal::OutputTooShort);
+        return Err(Refusal::OutputTooShort);
     }
     put_pages(set, index, pages, cells, dots);
-    Counted::Count(pages)
+    Ok(pages)
 }
 
 // 12, then 13, 15 and 17, then the others.
-fn gather(set: &[u8], pages: usize, cells: &mut [u8], dots: &mut [u32; 16]) -> Counted
+fn gather(
+    set: &[u8],
+    pages: usize,
+    cells: &mut [u8],
+    dots: &mut [u32; 16],
+) -> Result<usize, Refusal>
     requires { length dots.old ≡ 16 }
     ensures answer { counted_answer result ≡ read_rule set.now pages (length cells.old) }
     ensures cells { cells.new ≡ read_output set.now pages cells.old }
@@ -93,16 +94,14 @@ fn gather(set: &[u8], pages: usize, cells: &mut [u8], dots: &mut [u32; 16]) -> C
         (dots_in (sectors_in set.now) pages) dots.old }
 {
     if pages < 1 {
-        return Counted::Refused(Refusal::CountOutOfRange);
+        return Err(Refusal::CountOutOfRange);
     }
     if 16 < pages {
-        return Counted::Refused(Refusal::CountOutOfRange);
+        return Err(Refusal::CountOutOfRange);
     }
     let mut index = [0u16; 256];
-    match sets::index_alone(set, &mut index) {
-        Counted::Refused(refusal) => Counted::Refused(refusal),
-        Counted::Count(_) => deliver(set, &index, pages, cells, dots),
-    }
+    sets::index_alone(set, &mut index)?;
+    deliver(set, &index, pages, cells, dots)
 }
 
 // 12, 13, 15, 17, 19, 20, 9. On acceptance pages 1 to p fill the front of the output, 1,000 cells each.
@@ -111,13 +110,12 @@ pub fn read_pages(set: &[u8], pages: usize, cells: &mut [u8]) -> Pages
     ensures cells { cells.new ≡ read_output set.now pages cells.old }
 {
     let mut dots = [0u32; 16];
-    let read = gather(set, pages, cells, &mut dots);
-    let count = read.count();
+    let read = Told::from(gather(set, pages, cells, &mut dots));
     Pages {
-        number: read.number(),
-        place: read.place(),
-        count: count as u64,
-        used: (1000 * count) as u64,
+        number: read.number,
+        place: read.place,
+        count: read.count as u64,
+        used: (1000 * read.count) as u64,
         dots,
     }
 }

@@ -1,6 +1,5 @@
-// The lowest page that is lost, and the lowest whose fill is soiled, by the index of its set. Both count from 0, and
-// are the number of pages where there is none.
-ghost use Rattle.std.specs.Prelude.{◌≤◌, ◌≡◌, false, length};
+// The lowest page that is lost, and the lowest whose fill is soiled, by the index of its set. Both count from 0.
+ghost use Rattle.std.specs.Prelude.{◌<◌, ◌≤◌, ◌≡◌, false, length, unwrap_or, IfSome};
 ghost use Rattle.lists.specs.Place.{anywhere, lowest};
 ghost use Rattle.sets.specs.Set.{sectors_in};
 ghost use Rattle.sets.specs.Held.{numbers};
@@ -24,20 +23,19 @@ fn is_lost(set: &[u8], entry: u16) -> bool
     set[code + 1] == 0
 }
 
-pub fn lowest_lost(set: &[u8], index: &[u16; 256], pages: usize) -> usize
+pub fn lowest_lost(set: &[u8], index: &[u16; 256], pages: usize) -> Option<usize>
     requires { Indexed set.now index.now
         × (anywhere (is_twice_in (sectors_in set.now)) numbers ≡ false)
         × (pages ≤ 16) }
-    ensures { result ≡ lowest (lost_at (sectors_in set.now)) (page_numbers pages) }
+    ensures lowest { unwrap_or result pages ≡ lowest (lost_at (sectors_in set.now)) (page_numbers pages) }
+    ensures page { IfSome result (λ k. k < pages) }
 {
-    let mut k: usize = 0;
-    while k < pages {
+    for k in 0..pages {
         if is_lost(set, index[k + 1]) {
-            return k;
+            return Some(k);
         }
-        k += 1;
     }
-    k
+    None
 }
 
 // Looks at every byte: a loop that could end early would go byte by byte.
@@ -46,30 +44,27 @@ fn is_soiled(fill: &[u8]) -> bool
     ensures { result ≡ anywhere is_dirt fill.now }
 {
     let mut soiled = false;
-    let mut k: usize = 0;
-    while k < 24 {
-        soiled = soiled | (fill[k] != 0);
-        k += 1;
+    for byte in fill {
+        soiled = soiled | (*byte != 0);
     }
     soiled
 }
 
 // None of the pages is lost, so that the index has the place of each.
-pub fn lowest_soiled(set: &[u8], index: &[u16; 256], pages: usize) -> usize
+pub fn lowest_soiled(set: &[u8], index: &[u16; 256], pages: usize) -> Option<usize>
     requires { Indexed set.now index.now
         × (anywhere (is_twice_in (sectors_in set.now)) numbers ≡ false)
         × (pages ≤ 16)
         × (anywhere (lost_at (sectors_in set.now)) (page_numbers pages) ≡ false) }
-    ensures { result ≡ lowest (soiled_at (sectors_in set.now)) (page_numbers pages) }
+    ensures lowest { unwrap_or result pages ≡ lowest (soiled_at (sectors_in set.now)) (page_numbers pages) }
+    ensures page { IfSome result (λ k. k < pages) }
 {
-    let mut k: usize = 0;
-    while k < pages {
+    for k in 0..pages {
         let fill = index[k + 1] as usize + 1002;
         let end = fill + 24;
         if is_soiled(&set[fill..end]) {
-            return k;
+            return Some(k);
         }
-        k += 1;
     }
-    k
+    None
 }

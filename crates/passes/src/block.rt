@@ -5,7 +5,6 @@ ghost use Rattle.timing.specs.Class.{cursor_after};
 ghost use Rattle.passes.specs.machine.Blocks.{at_first, pass_on, words_of, Reaches};
 
 use intervals::units_of;
-use lists::at_most;
 use shifts::Pass;
 use shifts::shift::shift_units;
 use symbols::Reading;
@@ -13,10 +12,10 @@ use timing::{Cursor, Profile};
 
 // As many intervals as are classed at once, so that it is done in vector instructions, and what a block costs besides
 // weighs little.
-const BLOCK: usize = 128;
+pub const BLOCK: usize = 128;
 
 // How far a pass by blocks came, and where the classing stands.
-#[derive(Clone, Copy)]
+#[derive(Clone, Copy, PartialEq, Eq)]
 pub struct Progress {
     pub pass: Pass,
     pub cursor: Cursor,
@@ -74,7 +73,7 @@ impl Progress {
         ensures output { out.new ≡ stored_at out.old to (words_of 128 most intervals.now self) }
     {
         let from = self.pass.used;
-        let n = at_most(BLOCK, intervals.len() - from);
+        let n = BLOCK.min(intervals.len() - from);
         let mut units = [0u8; BLOCK];
         pass_block(
             self,
@@ -94,7 +93,7 @@ impl Progress {
         ensures output { out.new ≡ stored_at out.old 0 (words_of count most intervals.now self) }
     {
         let first = self.pass.reading.words;
-        let end = self.pass.used + at_most(count, intervals.len() - self.pass.used);
+        let end = self.pass.used + count.min(intervals.len() - self.pass.used);
         let mut at = self;
         while at.goes_on(most, end) {
             let done = at.pass.reading.words - first;

@@ -23,10 +23,7 @@ pub fn last_place(used: usize) -> u32
     requires { used ≤ 2 ^ 32 }
     ensures { result ≡ used - 1 }
 {
-    if used == 0 {
-        return 0;
-    }
-    (used - 1) as u32
+    used.saturating_sub(1) as u32
 }
 
 // One pass, until so many bytes are whole or no interval is left, each interval taken as a cell. The code words that

@@ -9,26 +9,23 @@ ghost use Rattle.symbols.specs.machine.Step.{AllCells};
 ghost use Rattle.shifts.specs.machine.Pass.{pass_from};
 ghost use Rattle.passes.specs.machine.Look.{calmed, Sees, Looking};
 
+use crate::block::BLOCK;
 use crate::scan::scan;
 use intervals::units_of;
-use lists::at_most;
 use shifts::fours::last_bits;
 use shifts::shift::shift_units;
 use symbols::Reading;
 use timing::Cursor;
 
-// As many intervals as are looked at together.
-const BLOCK: usize = 128;
-
 // The register, and whether no gap is open in it.
-#[derive(Clone, Copy)]
+#[derive(Clone, Copy, PartialEq, Eq)]
 pub struct Seen {
     pub reading: Reading,
     pub clear: bool,
 }
 
 // How far it came, and where the classing stands.
-#[derive(Clone, Copy)]
+#[derive(Clone, Copy, PartialEq, Eq)]
 pub struct Look {
     pub seen: Seen,
     pub used: usize,
@@ -44,7 +41,7 @@ fn move_on(m: Reading, units: &[u8], sum: u32) -> Reading
     let mut reading = m;
     reading.bits = last_bits(units, units.len() - 16);
     reading.held = last % 16 + 1;
-    reading.words = std::num::wrapping_add_u32(m.words, last / 16);
+    reading.words = m.words.wrapping_add(last / 16);
     reading
 }
 
@@ -123,7 +120,7 @@ pub fn look_on(at: Look, intervals: &[u16], most: u32) -> Look
     ensures looking { (p : Profile) → Looking p intervals.now at → Looking p intervals.now result }
 {
     let from = at.used;
-    let n = at_most(BLOCK, intervals.len() - from);
+    let n = BLOCK.min(intervals.len() - from);
     let mut units = [0u8; BLOCK];
     look_block(at, &intervals[from..from + n], &mut units[..n], most)
 }

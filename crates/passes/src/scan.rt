@@ -8,7 +8,7 @@ ghost use Rattle.symbols.specs.machine.Gaps.{gaps_from};
 ghost use Rattle.passes.specs.machine.Lanes.{packed, sums_of};
 
 // The half cells counted so far, and whether a gap was among them.
-#[derive(Clone, Copy)]
+#[derive(Clone, Copy, PartialEq, Eq)]
 pub struct Tally {
     pub sum: u32,
     pub gap: bool,
@@ -49,12 +49,13 @@ fn eight_at(units: &[u8], k: usize) -> u64
 }
 
 // In each byte the sum of it and those below.
+#[tactic(auto, unfolding(crate::specs::machine::Lanes::sums_of))]
 fn sums_of(x: u64) -> u64
     ensures { result ≡ sums_of x }
 {
-    let two = std::num::wrapping_add_u64(x, x << 8);
-    let four = std::num::wrapping_add_u64(two, two << 16);
-    std::num::wrapping_add_u64(four, four << 32)
+    let two = x.wrapping_add(x << 8);
+    let four = two.wrapping_add(two << 16);
+    four.wrapping_add(four << 32)
 }
 
 // Eight cells more. That a cell begins at a clock bit is told by the sum of all up to its end, since four is even: the
@@ -64,9 +65,9 @@ fn scan_eight(at: Tally, x: u64) -> Tally
         → (result.sum ≡ at.sum + sum_of us) × (result.gap ≡ (at.gap || gaps_from at.sum us)) }
 {
     let sums = sums_of(x);
-    let even = std::num::wrapping_add_u64(sums << 2, LONG << (at.sum % 2));
+    let even = (sums << 2).wrapping_add(LONG << (at.sum % 2));
     Tally {
-        sum: std::num::wrapping_add_u32(at.sum, (sums >> 56) as u32),
+        sum: at.sum.wrapping_add((sums >> 56) as u32),
         gap: at.gap | (x & even != 0),
     }
 }
@@ -81,10 +82,8 @@ pub fn scan(start: u32, units: &[u8]) -> Tally
         sum: start,
         gap: false,
     };
-    let mut i: usize = 0;
-    while i < EIGHTS {
+    for i in 0..EIGHTS {
         at = scan_eight(at, eight_at(units, 8 * i));
-        i += 1;
     }
     at
 }

@@ -1,5 +1,6 @@
 -- Why the index lists a made sector that a search has ahead of it: the ID's lock is found and reads as an ID, the next
 -- lock after it reads as its data, and the search goes on in the gap behind. Rests on no axiom.
+use Rattle.std.specs.Prelude.{Some}
 use Prim.Native.Nat.{ℕ, ◌≤◌}
 use mathlib.Core.Path.{◌≡◌, sym, ap, ◌∙◌}
 use mathlib.Core.Bool.{true}
@@ -20,7 +21,6 @@ use Rattle.sectors.proofs.SectorCounts.{size_of_code}
 use Rattle.entries.specs.FieldKinds.{opens_with, identifies, is_id, data_bytes, is_data}
 use Rattle.entries.specs.Entries.{has_lock, lock_place, field_end, has_data, data_from, id_byte, entry_at, entry_end, next_start}
 use Rattle.entries.specs.Entries.{entries_at, entries_from}
-use Rattle.entries.specs.declared.DataField.TheVariants.{Found}
 use Rattle.entries.specs.declared.Entry.{Entry}
 use Rattle.entries.proofs.SearchLaws.{search_goes_on}
 use Rattle.track_set.specs.TrackSectors.{data_at}
@@ -74,7 +74,7 @@ listed_as s id_place_there data_place_there =
       sector = s.sector;
       code = s.code;
       place = id_place_there;
-      field = Found data_place_there true;
+      field = Some (record { place = data_place_there; holds = true });
     }
 
 module _
@@ -125,7 +125,7 @@ module _
     has_data_lem =
         rw (data_lock.0, data_lock.1, (field_is_read data_reads).does, items_are_its_bytes data_reads)
 
-    data_is : data_from p changed id_end s.code ≡ Found data_place_there true
+    data_is : data_from p changed id_end s.code ≡ Some (record { place = data_place_there; holds = true })
     unfolding data_from
     data_is = rw (has_data_lem, data_lock.1, (field_is_read data_reads).sum)
 

@@ -1,5 +1,6 @@
 -- Why the set of a track of made sectors is these sectors by number: each entry of the index has its sector's data, the
 -- index ascends, and different numbers leave nothing to the places. Rests on no axiom.
+use Rattle.std.specs.Prelude.{Option, Some, None}
 use Prim.Native.Nat.{ℕ, suc, ◌≤◌, ◌<◌}
 use mathlib.Core.Path.{◌≡◌, refl, sym, ap, ap₂, ◌∙◌, fun_ext}
 use mathlib.Core.Bool.{Bool, true, false, cond, true≢false}
@@ -20,7 +21,6 @@ use Rattle.sets.specs.Held.{Held, Nothing, with_copy, held_of, is_twice, numbers
 use Rattle.merge.specs.Merge.{as_list}
 use Rattle.entries.specs.Entries.{entries_of}
 use Rattle.entries.specs.declared.DataField.{DataField}
-use Rattle.entries.specs.declared.DataField.TheVariants.{Found, Missing}
 use Rattle.entries.specs.declared.Entry.{Entry}
 use Rattle.track.specs.Order.{lower_keys, is_before, in_order, Rearranged, none, one, Ascending}
 use Rattle.track.specs.HandedBack.{data_place_of}
@@ -63,9 +63,9 @@ less_of_other a b h other = elim (dec_lt a b) [ yes less ↦ less | no more ↦ 
 
 module _ (p : Profile) (changed : List ℕ) where
   -- data was found, and its sum holds
-  unfoldable good_field : DataField → Bool
-  good_field (Found place holds) = holds
-  good_field Missing = false
+  unfoldable good_field : Option DataField → Bool
+  good_field (Some field) = field.holds
+  good_field None = false
 
   unfoldable is_good : Entry → Bool
   is_good e = good_field e.field
@@ -79,12 +79,11 @@ module _ (p : Profile) (changed : List ℕ) where
         bytes = data_at p changed (data_place_of e.field) e.code;
       }
 
-  one_sector : (e : Entry) (field : DataField) → e.field ≡ field → good_field field ≡ true
+  one_sector : (e : Entry) (field : Option DataField) → e.field ≡ field → good_field field ≡ true
       → sectors_of p changed e ≡ sector_from e ∷ []
   unfolding sectors_of good_field
-  one_sector e (Found place true) is good = rw is
-  one_sector e (Found place false) is good = absurd (true≢false (sym good))
-  one_sector e Missing is good = absurd (true≢false (sym good))
+  one_sector e (Some field) is good = rw (is, good)
+  one_sector e None is good = absurd (true≢false (sym good))
 
   all_sectors : (es : List Entry) → everywhere is_good es ≡ true → flat_map (sectors_of p changed) es ≡ map sector_from es
   unfolding flat_map is_good

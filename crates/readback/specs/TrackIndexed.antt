@@ -1,6 +1,6 @@
 -- A track of sectors, of any of the four length codes: what the index lists of the stream of their items, written one
 -- after the other. No lemmas here.
-use Rattle.std.specs.Prelude.{ℕ, ◌<◌, ◌≤◌, ◌≡◌, Bool, true, false, List, [], ◌∷◌, ◌++◌, leb, length, replicate}
+use Rattle.std.specs.Prelude.{ℕ, ◌<◌, ◌≤◌, ◌≡◌, Bool, true, false, Option, Some, List, [], ◌∷◌, ◌++◌, leb, length, replicate}
 use Rattle.lists.specs.Place.{everywhere}
 use Rattle.refusal.specs.Answer.{accepted}
 use Rattle.timing.specs.declared.Profile.{Profile}
@@ -8,7 +8,6 @@ use Rattle.items.specs.Item.{is_byte}
 use Rattle.items.specs.Written.{written}
 use Rattle.lengths.specs.Stream.{stream_of}
 use Rattle.sectors.specs.Sector.{sector_items, is_misfit}
-use Rattle.entries.specs.declared.DataField.TheVariants.{Found}
 use Rattle.entries.specs.declared.Entry.{Entry}
 use Rattle.track.specs.Order.{in_order}
 use Rattle.track.specs.Index.{index_rule, padded, index_entries}
@@ -56,13 +55,16 @@ entry_behind before s =
       code = s.code;
       place = place_after (before ++ replicate 12 0x00);
       field =
-          Found
-          (place_after
-          (before
-          ++ (replicate 12 0x00
-          ++ (id_field s.track s.side s.sector s.code s.bytes
-          ++ (replicate 22 0x4e ++ replicate 12 0x00)))))
-          true;
+          Some
+          (record {
+            place =
+                place_after
+                (before
+                ++ (replicate 12 0x00
+                ++ (id_field s.track s.side s.sector s.code s.bytes
+                ++ (replicate 22 0x4e ++ replicate 12 0x00))));
+            holds = true;
+          });
     }
 
 -- the entries of sectors that are written behind other bytes

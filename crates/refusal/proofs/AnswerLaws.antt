@@ -9,7 +9,8 @@ use lib.Dec.{eqb}
 use borrow.Author.Tests.{eqb-true, eqb-false, eq-eqb}
 use Rattle.lists.specs.Filled.{filled}
 use Rattle.refusal.specs.Table.{number_of, place_of}
-use Rattle.refusal.specs.Answer.{Answer, accepted, refused, refuse_if, first_refusal, verdict_answer, settled}
+use Rattle.refusal.specs.Answer.{Answer, accepted, refused, refuse_if, first_refusal}
+use Rattle.refusal.specs.Answer.{verdict_answer, counted_answer, settled}
 use Rattle.refusal.specs.declared.Refusal.{Refusal}
 use Rattle.refusal.specs.declared.Refusal.TheVariants.{ProfileOutOfRange, ProfileInconsistent, NotAnItem}
 use Rattle.refusal.specs.declared.Refusal.TheVariants.{TooLong, IntervalTooShort, IntervalTooLong, NotWholeBytes}
@@ -17,8 +18,7 @@ use Rattle.refusal.specs.declared.Refusal.TheVariants.{MisplacedMark, OutputTooS
 use Rattle.refusal.specs.declared.Refusal.TheVariants.{CountOutOfRange, SectorSizeMismatch, MalformedInput}
 use Rattle.refusal.specs.declared.Refusal.TheVariants.{TooManySectors, UnrulyWord, SectorsAtOdds, OffSpeed}
 use Rattle.refusal.specs.declared.Refusal.TheVariants.{PageLost, FillSoiled}
-use Rattle.refusal.specs.declared.Verdict.{Verdict}
-use Rattle.refusal.specs.declared.Verdict.TheVariants.{Accepted, Refused}
+use Rattle.std.specs.Prelude.{Result, Ok, Err, IsErrAnd}
 
 pub number_is_not_zero : (r : Refusal) → eqb (number_of r) 0 ≡ false
 number_is_not_zero r =
@@ -68,17 +68,21 @@ module _ (r : Refusal) (rule : Answer) where
 -- a verdict that was found, as the functions answer it: a refusal decides, an acceptance leaves the answer to the later
 -- tests
 pub verdict_refuses
-    : (v : Verdict) (r : Refusal) (rule later : Answer)
+    : {T : Type 0} (v : Result T Refusal) (r : Refusal) (rule later : Answer)
     → verdict_answer v ≡ rule
-    → v ≡ Refused r
+    → v ≡ Err r
     → refused (number_of r) (place_of r) ≡ first_refusal rule later
 verdict_refuses v r rule later e q = rw (← e, q, number_is_not_zero r)
 
 pub verdict_passes
-    : (v : Verdict) (rule later : Answer) → verdict_answer v ≡ rule → v ≡ Accepted → later ≡ first_refusal rule later
+    : {T : Type 0} {x : T} (v : Result T Refusal) (rule later : Answer)
+    → verdict_answer v ≡ rule
+    → v ≡ Ok x
+    → later ≡ first_refusal rule later
 verdict_passes v rule later e q = rw (← e, q)
 
-pub verdict_accepts : (v : Verdict) (rule : Answer) → verdict_answer v ≡ rule → v ≡ Accepted → rule.number ≡ 0
+pub verdict_accepts
+    : {T : Type 0} {x : T} (v : Result T Refusal) (rule : Answer) → verdict_answer v ≡ rule → v ≡ Ok x → rule.number ≡ 0
 verdict_accepts v rule e q = rw (← e, q)
 
 -- ---- what acceptance says of the tests on the way
@@ -130,3 +134,11 @@ pub accepted_later : (rule : Answer) (m n : ℕ)
 accepted_later rule m n e =
     let both = first_refusal_accepts rule (accepted n) (rw (← e)) in
     (both.0, ap (λ (a : Answer). a.count) (e ∙ first_refusal_passes rule (accepted n) both.0))
+
+-- a refusal that `?` hands on is that refusal
+pub handed_on
+    : (r : Result ℕ Refusal) (e : Refusal)
+    → IsErrAnd r (λ x. x ≡ e)
+    → counted_answer r ≡ refused (number_of e) (place_of e)
+handed_on (Err x) e h = rw h refl
+handed_on (Ok n) e h = absurd h

@@ -1,12 +1,9 @@
 -- Document 01, "Turned-away numbers": an answer as the paper gives it, number 0 standing for acceptance, and the
 -- order of tests. No lemmas here.
-use Rattle.std.specs.Prelude.{ℕ, List, Bool, cond, eqb}
+use Rattle.std.specs.Prelude.{ℕ, List, Bool, cond, eqb, Result, Ok, Err}
 use Rattle.lists.specs.Filled.{filled}
 use Rattle.refusal.specs.Table.{number_of, place_of}
-use Rattle.refusal.specs.declared.Verdict.{Verdict}
-use Rattle.refusal.specs.declared.Verdict.TheVariants.{Accepted, Refused}
-use Rattle.refusal.specs.declared.Counted.{Counted}
-use Rattle.refusal.specs.declared.Counted.TheVariants.{Count, Refused as NotCounted}
+use Rattle.refusal.specs.declared.Refusal.{Refusal}
 
 pub record Answer : Type 0 where
   pub number : ℕ
@@ -29,15 +26,15 @@ refuse_if test n p later = cond test (refused n p) later
 abbrev pub first_refusal : Answer → Answer → Answer
 first_refusal earlier later = cond (eqb earlier.number 0) later earlier
 
--- a verdict as an answer
-abbrev pub verdict_answer : Verdict → Answer
-verdict_answer Accepted = accepted 0
-verdict_answer (Refused r) = refused (number_of r) (place_of r)
+-- what a test answers that gives no number, as an answer
+abbrev pub verdict_answer : {T : Type 0} → Result T Refusal → Answer
+verdict_answer (Ok u) = accepted 0
+verdict_answer (Err r) = refused (number_of r) (place_of r)
 
--- a count or a refusal as an answer
-abbrev pub counted_answer : Counted → Answer
-counted_answer (Count n) = accepted n
-counted_answer (NotCounted r) = refused (number_of r) (place_of r)
+-- what an operation answers that gives one number, as an answer
+abbrev pub counted_answer : Result ℕ Refusal → Answer
+counted_answer (Ok n) = accepted n
+counted_answer (Err r) = refused (number_of r) (place_of r)
 
 -- a lent buffer afterwards: a refusal changes nothing; on acceptance the result fills the front and the remainder
 -- keeps its bytes

@@ -5,7 +5,7 @@ ghost use Rattle.std.specs.Prelude.{◌≡◌};
 ghost use Rattle.refusal.specs.Table.{number_of, place_of};
 ghost use Rattle.refusal.specs.Answer.{counted_answer};
 
-#[derive(Clone, Copy)]
+#[derive(Clone, Copy, PartialEq, Eq)]
 pub enum Refusal {
     // 1, unset: which of the profile's numbers, from 1
     ProfileOutOfRange(u32),
@@ -47,20 +47,6 @@ pub enum Refusal {
     PageLost(u32),
     // 20, soiled fill: which page, from 1
     FillSoiled(u32),
-}
-
-// What a test answers that gives no value.
-#[derive(Clone, Copy)]
-pub enum Verdict {
-    Accepted,
-    Refused(Refusal),
-}
-
-// What an operation answers that gives one number: a margin, a class, a place, or how many it wrote.
-#[derive(Clone, Copy)]
-pub enum Counted {
-    Count(usize),
-    Refused(Refusal),
 }
 
 impl Refusal {
@@ -121,34 +107,32 @@ impl Refusal {
     }
 }
 
-impl Counted {
-    // The number in document 01's table; 0 for a count.
-    pub fn number(self) -> u32
-        ensures { result ≡ (counted_answer self).number }
-    {
-        match self {
-            Counted::Count(_) => 0,
-            Counted::Refused(refusal) => refusal.number(),
-        }
-    }
+// An answer as numbers: those of the refusal, or 0 and 0, and what was counted, or 0.
+#[derive(Clone, Copy, PartialEq, Eq)]
+pub struct Told {
+    pub number: u32,
+    pub place: u32,
+    pub count: usize,
+}
 
-    // The place in document 01's table; 0 for a count.
-    pub fn place(self) -> u32
-        ensures { result ≡ (counted_answer self).place }
-    {
-        match self {
-            Counted::Count(_) => 0,
-            Counted::Refused(refusal) => refusal.place(),
-        }
-    }
+// The numbers of an answer in document 01's table.
+impl From<Result<usize, Refusal>> for Told {
+    ghost from_gives = { λ counted told. (told.number ≡ (counted_answer counted).number)
+        × (told.place ≡ (counted_answer counted).place)
+        × (told.count ≡ (counted_answer counted).count) };
 
-    // What was counted; 0 for a refusal.
-    pub fn count(self) -> usize
-        ensures { result ≡ (counted_answer self).count }
-    {
-        match self {
-            Counted::Count(count) => count,
-            Counted::Refused(_) => 0,
+    fn from(counted: Result<usize, Refusal>) -> Told {
+        match counted {
+            Ok(count) => Told {
+                number: 0,
+                place: 0,
+                count,
+            },
+            Err(refusal) => Told {
+                number: refusal.number(),
+                place: refusal.place(),
+                count: 0,
+            },
         }
     }
 }

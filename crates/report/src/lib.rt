@@ -6,7 +6,7 @@ ghost use Rattle.std.specs.Prelude.{◌≡◌};
 ghost use Rattle.refusal.specs.Answer.{verdict_answer};
 ghost use Rattle.report.specs.Report.{report_rule, reported, add_reports, add_rule, added};
 
-use refusal::{Refusal, Verdict};
+use refusal::Refusal;
 use timing::{Cursor, Profile};
 
 mod list;
@@ -16,18 +16,15 @@ mod row;
 pub type Report = [[u64; 4]; 5];
 
 // Whether a list of intervals has a report: 1, 2, 4.
-pub fn check_list(p: Profile, intervals: &[u16]) -> Verdict
+#[tactic(auto, using(refusal::proofs::AnswerLaws::refusal_decides, refusal::proofs::AnswerLaws::refusal_keeps_the_buffer), unfolding(crate::specs::Report::report_rule))]
+pub fn check_list(p: Profile, intervals: &[u16]) -> Result<(), Refusal>
     ensures { verdict_answer result ≡ report_rule p intervals.now }
 {
-    match timing::check(p) {
-        Verdict::Refused(refusal) => Verdict::Refused(refusal),
-        Verdict::Accepted => {
-            if 51202 < intervals.len() {
-                return Verdict::Refused(Refusal::TooLong);
-            }
-            Verdict::Accepted
-        }
+    timing::check(p)?;
+    if 51202 < intervals.len() {
+        return Err(Refusal::TooLong);
     }
+    Ok(())
 }
 
 // The report of a list; zeros where it has none.
@@ -35,23 +32,21 @@ pub fn report_list(p: Profile, intervals: &[u16]) -> Report
     ensures { result ≡ reported p intervals.now }
 {
     match check_list(p, intervals) {
-        Verdict::Refused(_) => [[0; 4]; 5],
-        Verdict::Accepted => list::gather(Cursor::start(p), intervals),
+        Err(_) => [[0; 4]; 5],
+        Ok(()) => list::gather(Cursor::start(p), intervals),
     }
 }
 
 // Whether two reports can be added: 4.
-pub fn check_sum(a: Report, b: Report) -> Verdict
+pub fn check_sum(a: Report, b: Report) -> Result<(), Refusal>
     ensures { verdict_answer result ≡ add_rule a b }
 {
-    let mut k: usize = 0;
-    while k < 5 {
+    for k in 0..5 {
         if row::overflows(a[k], b[k]) {
-            return Verdict::Refused(Refusal::TooLong);
+            return Err(Refusal::TooLong);
         }
-        k += 1;
     }
-    Verdict::Accepted
+    Ok(())
 }
 
 // The rows of two reports that can be added, added.
@@ -60,10 +55,8 @@ fn add_rows(a: Report, b: Report) -> Report
     ensures { result ≡ add_reports a b }
 {
     let mut rows: Report = [[0; 4]; 5];
-    let mut k: usize = 0;
-    while k < 5 {
+    for k in 0..5 {
         rows[k] = row::add(a[k], b[k]);
-        k += 1;
     }
     rows
 }
@@ -73,7 +66,7 @@ pub fn add(a: Report, b: Report) -> Report
     ensures { result ≡ added a b }
 {
     match check_sum(a, b) {
-        Verdict::Refused(_) => [[0; 4]; 5],
-        Verdict::Accepted => add_rows(a, b),
+        Err(_) => [[0; 4]; 5],
+        Ok(()) => add_rows(a, b),
     }
 }

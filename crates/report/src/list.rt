@@ -31,15 +31,11 @@ pub fn gather(start: Cursor, intervals: &[u16]) -> Report
 {
     let mut cursor = start;
     let mut rows: Report = [[0; 4]; 5];
-    let mut k: usize = 0;
-    while k < intervals.len() {
-        let interval = intervals[k];
+    for &interval in intervals {
         let classed = cursor.step(interval);
-        let class = classed.class;
-        let next = renew(rows, class, interval);
+        let next = renew(rows, classed.class, interval);
         rows = next;
         cursor = classed.next;
-        k += 1;
     }
     rows
 }

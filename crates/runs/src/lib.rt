@@ -19,12 +19,9 @@ fn all_follow(short: Cursor, intervals: &[u16], from: usize) -> bool
     requires from_in_bounds { from + 32 ≤ length intervals.now }
     ensures { result ≡ true → Following short intervals.now from (from + 32) }
 {
-    let end = from + STRETCH;
     let mut all = true;
-    let mut k = from;
-    while k < end {
-        all = all & short.meets_two(intervals[k]);
-        k += 1;
+    for &interval in &intervals[from..from + STRETCH] {
+        all &= short.meets_two(interval);
     }
     all
 }
@@ -52,15 +49,13 @@ pub fn pass_run(short: Cursor, intervals: &[u16], from: usize) -> usize
     requires from_in_bounds { from ≤ length intervals.now }
     ensures { PassesRun short intervals.now from result }
 {
-    let mut k = pass_stretches(short, intervals, from);
-    while k < intervals.len() {
-        if short.meets_two(intervals[k]) {
-            k += 1;
-        } else {
+    let passed = pass_stretches(short, intervals, from);
+    for k in passed..intervals.len() {
+        if !short.meets_two(intervals[k]) {
             return k;
         }
     }
-    k
+    intervals.len()
 }
 
 // The last place up to `from` whose interval is of class 2, or is not, after either kind; 0 if there is none.
@@ -70,15 +65,13 @@ fn last_sure(short: Cursor, long: Cursor, intervals: &[u16], from: usize) -> usi
     requires from_in_bounds { from < length intervals.now }
     ensures { IsSure short long intervals.now from result }
 {
-    let mut i = from;
-    while 0 < i {
+    for i in (1..from + 1).rev() {
         let interval = intervals[i];
         if short.meets_two(interval) == long.meets_two(interval) {
             return i;
         }
-        i -= 1;
     }
-    i
+    0
 }
 
 // Where the classing stands at a place: it goes from the last sure place on, and so from the start of the list only
@@ -91,10 +84,9 @@ fn cursor_at(p: Profile, intervals: &[u16], from: usize) -> Cursor
     let short = Cursor::after(p, true);
     let long = Cursor::after(p, false);
     let mut cursor = short;
-    let mut i = last_sure(short, long, intervals, from);
-    while i < from {
+    let sure = last_sure(short, long, intervals, from);
+    for i in sure..from {
         cursor = cursor.past(intervals[i]);
-        i += 1;
     }
     cursor
 }
@@ -110,12 +102,10 @@ pub fn next_two(p: Profile, intervals: &[u16], from: usize) -> usize
         return from;
     }
     let long = Cursor::after(p, false);
-    let mut i = from + 1;
-    while i < intervals.len() {
+    for i in from + 1..intervals.len() {
         if long.meets_two(intervals[i]) {
             return i;
         }
-        i += 1;
     }
-    i
+    intervals.len()
 }

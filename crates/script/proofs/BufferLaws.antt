@@ -1,5 +1,6 @@
 -- Items stored in a buffer, one run after the other: two runs are one, and a run from the front fills it as far as it
 -- has room, since what is stored past the end changes nothing. Rests on no axiom.
+use Rattle.std.specs.Prelude.{Some, None}
 use Prim.Native.Nat.{ℕ, ◌+◌, ◌≤◌}
 use mathlib.Core.Path.{◌≡◌, refl, sym, ◌∙◌}
 use mathlib.Core.Bool.{Bool, true, false, false≢true}
@@ -13,7 +14,6 @@ use borrow.Author.Tests.{ltb-true, ltb-false}
 use Rattle.lists.specs.Filled.{filled, stored_at}
 use Rattle.lists.proofs.StoreLaws.{front_fills, stored_at_front_fills, stored_next, stored_none}
 use Rattle.script.specs.machine.Read.{ItemsRead, Stored, within}
-use Rattle.script.specs.declared.ItemLine.TheVariants.{Items, Faulty}
 
 -- what is left to store comes out as all of it did at first
 pub record Storing (buffer : List ℕ) (n : ℕ) (left buffer₀ : List ℕ) (n₀ : ℕ) (items : List ℕ) : Type 0 where
@@ -55,9 +55,9 @@ stored_as_far_as_there_is_room buffer items =
 
 -- a line that was read, and one that was not
 module _ {good : Bool} {items before : List ℕ} {place : ℕ} {after : List ℕ} where
-  pub faulty_read : good ≡ false → ItemsRead good items before place Faulty after
+  pub faulty_read : good ≡ false → ItemsRead good items before place None after
   faulty_read h = record { verdict = sym h; stored = λ n e. absurd (false≢true (cc)) }
 
   pub items_read : {n : ℕ} → good ≡ true → Stored before place items n after
-      → ItemsRead good items before place (Items n) after
+      → ItemsRead good items before place (Some n) after
   items_read {n = n} h k = record { verdict = sym h; stored = λ m e. let q : m ≡ n = cc in rw q k }

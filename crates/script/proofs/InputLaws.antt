@@ -1,20 +1,21 @@
 -- The lines of the input, one at a time: a line ends at the next line feed, and what stands after the last is faulty
 -- unless it is nothing. Rests on no axiom.
+use Rattle.std.specs.Prelude.{Result, Ok, Err}
 use Prim.Native.Nat.{ℕ, suc, min, ◌+◌, ◌-◌, ◌≤◌, ◌<◌}
 use mathlib.Core.Path.{◌≡◌, sym, ◌∙◌, ap}
-use mathlib.Core.Bool.{not}
+use mathlib.Core.Bool.{not, true≢false}
+use lib.Dec.{eqb}
 use mathlib.Core.List.{List, [], ◌∷◌, ◌++◌}
 use native.Mathlib.Nat.{zero-add}
 use native.Mathlib.Omega.{arith}
 use lib.ListN.{length, take, drop, length-take, length-drop}
 use lib.Seq.{drop-drop}
 use Rattle.lists.specs.Filled.{stored_at}
-use Rattle.refusal.specs.Answer.{accepted, refused, refuse_if, first_refusal}
+use Rattle.refusal.specs.Answer.{Answer, accepted, refused, refuse_if, first_refusal}
 use Rattle.refusal.specs.Table.{number_of, place_of}
 use Rattle.refusal.specs.declared.Refusal.{Refusal}
 use Rattle.refusal.specs.declared.Refusal.TheVariants.{MalformedInput}
-use Rattle.refusal.specs.declared.Counted.TheVariants.{Count, Refused}
-use Rattle.refusal.proofs.AnswerLaws.{refusal_decides, refusal_keeps_the_buffer, first_refusal_passes}
+use Rattle.refusal.proofs.AnswerLaws.{number_is_not_zero, refusal_decides, refusal_keeps_the_buffer, first_refusal_passes}
 use Rattle.refusal.proofs.AnswerLaws.{acceptance_fills_the_buffer, refused_earlier, accepted_later}
 use Rattle.text.specs.Ascii.{line_feed}
 use Rattle.text.specs.Pieces.{pieces_of, up_to}
@@ -59,21 +60,21 @@ module _ {lines : List (List ℕ)} {before : List ℕ} where
   -- lines that were read, and lines of which one is faulty
   pub lines_refused : {after : List ℕ} {n : ℕ}
       → garbled_from 2 lines ≡ refused 14 n
-      → LinesRead lines before (Refused (MalformedInput n)) after
+      → LinesRead lines before (Err (MalformedInput n)) after
   lines_refused e =
       record { answer = rw e; output = λ h. absurd (let q : ◌≡◌ {A = ℕ} 14 0 = rw e at h in omega arith) }
 
   pub lines_read : {after : List ℕ} {n : ℕ}
       → garbled_from 2 lines ≡ accepted 0
       → Stored before 0 (items_of_lines lines) n after
-      → LinesRead lines before (Count n) after
+      → LinesRead lines before (Ok n) after
   lines_read e s =
       record { answer = rw e (ap accepted (s.size ∙ zero-add (length (items_of_lines lines)))); output = λ h. s.output }
 
   -- lines that were first read with no room for any item, and then with a buffer
   pub lines_not_stored : (r : Refusal)
       → refused (number_of r) (place_of r) ≡ first_refusal (garbled_from 2 lines) (accepted (length (items_of_lines lines)))
-      → LinesStored lines before (Refused r) before
+      → LinesStored lines before (Err r) before
   lines_not_stored r first =
       let garbled = refused_earlier r (garbled_from 2 lines) _ first in
       record {
@@ -85,7 +86,7 @@ module _ {lines : List (List ℕ)} {before : List ℕ} where
       → accepted count ≡ first_refusal (garbled_from 2 lines) (accepted (length (items_of_lines lines)))
       → ((garbled_from 2 lines).number ≡ 0 → after ≡ stored_at before 0 (items_of_lines lines))
       → n ≡ min (length before) count
-      → LinesStored lines before (Count n) after
+      → LinesStored lines before (Ok n) after
   lines_stored count first second size =
       let counted = accepted_later (garbled_from 2 lines) count _ first in
       record {
@@ -97,3 +98,11 @@ module _ {lines : List (List ℕ)} {before : List ℕ} where
             ∙ stored_as_far_as_there_is_room before (items_of_lines lines)
             ∙ sym (acceptance_fills_the_buffer (garbled_from 2 lines) _ before counted.0);
       }
+
+-- a second reading of lines that were read refuses nothing
+pub read_again : (lines : List (List ℕ)) {n : ℕ} (r : Refusal)
+    → accepted n ≡ first_refusal (garbled_from 2 lines) (accepted (length (items_of_lines lines)))
+    → refused (number_of r) (place_of r) ≡ first_refusal (garbled_from 2 lines) (accepted (length (items_of_lines lines)))
+    → ⊥
+read_again lines r first second =
+    true≢false (ap (λ (a : Answer). eqb a.number 0) (first ∙ sym second) ∙ number_is_not_zero r)

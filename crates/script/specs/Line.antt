@@ -1,5 +1,6 @@
 -- Document 01, "The strip program": a line of the input. No lemmas here.
 -- Fields are parted by one tab.
+use Rattle.std.specs.Prelude.{Option, Some, None}
 use Rattle.std.specs.Prelude.{ℕ, ◌+◌, Bool, true, false, cond, ◌&&◌, ◌||◌, List, [], ◌∷◌, map, eqb, length, drop}
 use Rattle.lists.specs.Place.{everywhere}
 use Rattle.text.specs.Ascii.{ascii, tab, same_text}
@@ -8,8 +9,6 @@ use Rattle.text.specs.Decimal.{is_decimal, value_of}
 use Rattle.text.specs.Hex.{is_hex_byte, hex_byte}
 use Rattle.timing.specs.Numbers.{profile_numbers, from_numbers}
 use Rattle.timing.specs.declared.Profile.{Profile}
-use Rattle.script.specs.declared.ProfileLine.{ProfileLine}
-use Rattle.script.specs.declared.ProfileLine.TheVariants.{Given, Faulty}
 
 -- the first field of a line
 unfoldable pub word_of : List ℕ → List ℕ
@@ -29,8 +28,8 @@ is_profile_line line =
 unfoldable pub profile_of : List ℕ → Profile
 profile_of line = from_numbers (map value_of (arguments_of line))
 
-unfoldable pub profile_read : List ℕ → ProfileLine
-profile_read line = cond (is_profile_line line) (Given (profile_of line)) Faulty
+unfoldable pub profile_read : List ℕ → Option Profile
+profile_read line = cond (is_profile_line line) (Some (profile_of line)) None
 
 abbrev pub is_some : List (List ℕ) → Bool
 is_some [] = false

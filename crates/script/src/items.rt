@@ -5,9 +5,7 @@ ghost use Rattle.text.specs.Ascii.{line_feed};
 ghost use Rattle.text.specs.Pieces.{pieces_of};
 ghost use Rattle.script.specs.machine.Read.{BytesRead, LineRead, LinesRead, LinesStored, fields_after};
 
-use crate::ItemLine;
-use refusal::{Counted, Refusal};
-use text::Byte;
+use refusal::Refusal;
 
 // The item that orders the check bytes.
 const CHECK_ORDER: u16 = 512;
@@ -23,35 +21,40 @@ fn put(out: &mut [u16], at: usize, number: u16) -> usize
 }
 
 // The bytes that stand from a tab on, each with a number added, stored from place `count` on.
-fn read_bytes(line: &[u8], from: usize, base: u16, buffer: &mut [u16], count: usize) -> ItemLine
+fn read_bytes(
+    line: &[u8],
+    from: usize,
+    base: u16,
+    buffer: &mut [u16],
+    count: usize,
+) -> Option<usize>
     requires { (base ≤ 256) × (count + length line.now < 65536) }
     ensures { BytesRead (fields_after (drop from line.now)) base buffer.old count result
         buffer.new }
 {
     if line.len() <= from {
-        return ItemLine::Faulty;
+        return None;
     }
     let mut at = from;
     let mut n = count;
+    // no `for`: the step is where the next tab stands
     while at < line.len() {
         let start = at + 1;
         let end = text::find(line, start, b'\t');
-        match text::parse_byte(&line[start..end]) {
-            Byte::Malformed => return ItemLine::Faulty,
-            Byte::Value(b) => n = put(buffer, n, base + b as u16),
-        }
+        let b = text::parse_byte(&line[start..end])?;
+        n = put(buffer, n, base + b as u16);
         at = end;
     }
-    ItemLine::Items(n)
+    Some(n)
 }
 
 // The items of one line, stored from place `count` on.
-fn read_item_line(line: &[u8], buffer: &mut [u16], count: usize) -> ItemLine
+fn read_item_line(line: &[u8], buffer: &mut [u16], count: usize) -> Option<usize>
     requires { count + length line.now < 65536 }
     ensures { LineRead line.now buffer.old count result buffer.new }
 {
     if text::same(line, b"crc") {
-        return ItemLine::Items(put(buffer, count, CHECK_ORDER));
+        return Some(put(buffer, count, CHECK_ORDER));
     }
     let end = text::find(line, 0, b'\t');
     if text::same(&line[..end], b"data") {
@@ -60,12 +63,12 @@ fn read_item_line(line: &[u8], buffer: &mut [u16], count: usize) -> ItemLine
     if text::same(&line[..end], b"mark") {
         return read_bytes(line, end, 256, buffer, count);
     }
-    ItemLine::Faulty
+    None
 }
 
 // How many items the lines from the second on have, which starts at `from`. As many as the buffer has room for are
 // stored, up to the first fault.
-fn read_items(text: &[u8], from: usize, buffer: &mut [u16]) -> Counted
+fn read_items(text: &[u8], from: usize, buffer: &mut [u16]) -> Result<usize, Refusal>
     requires { (from ≤ length text.now) × (length text.now ≤ 16384) }
     ensures { LinesRead (pieces_of line_feed (drop from text.now)) buffer.old result
         buffer.new }
@@ -73,37 +76,31 @@ fn read_items(text: &[u8], from: usize, buffer: &mut [u16]) -> Counted
     let mut at = from;
     let mut line: u32 = 2;
     let mut count = 0;
+    // no `for`: the step is where the next line ends
     while at < text.len() {
         let end = text::find(text, at, b'\n');
         if end == text.len() {
-            return Counted::Refused(Refusal::MalformedInput(line));
+            return Err(Refusal::MalformedInput(line));
         }
         match read_item_line(&text[at..end], buffer, count) {
-            ItemLine::Faulty => return Counted::Refused(Refusal::MalformedInput(line)),
-            ItemLine::Items(n) => count = n,
+            None => return Err(Refusal::MalformedInput(line)),
+            Some(n) => count = n,
         }
         at = end + 1;
         line += 1;
     }
-    Counted::Count(count)
+    Ok(count)
 }
 
 // The items of the lines from the second on, as many as the buffer has room for. The lines are first read with no room
 // for any, so that a refusal leaves the buffer as it was lent.
-pub fn store_items(text: &[u8], from: usize, buffer: &mut [u16]) -> Counted
+pub fn store_items(text: &[u8], from: usize, buffer: &mut [u16]) -> Result<usize, Refusal>
     requires { (from ≤ length text.now) × (length text.now ≤ 16384) }
     ensures { LinesStored (pieces_of line_feed (drop from text.now)) buffer.old result
         buffer.new }
 {
     let mut no_room = [0u16; 0];
-    match read_items(text, from, &mut no_room) {
-        Counted::Refused(refusal) => Counted::Refused(refusal),
-        Counted::Count(count) => {
-            read_items(text, from, buffer);
-            if count > buffer.len() {
-                return Counted::Count(buffer.len());
-            }
-            Counted::Count(count)
-        }
-    }
+    read_items(text, from, &mut no_room)?;
+    let count = read_items(text, from, buffer)?;
+    Ok(count.min(buffer.len()))
 }

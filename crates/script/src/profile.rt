@@ -3,8 +3,6 @@ ghost use Rattle.std.specs.Prelude.{◌≡◌, length, drop};
 ghost use Rattle.script.specs.Line.{profile_read};
 ghost use Rattle.script.specs.machine.Read.{NumbersRead, fields_after};
 
-use crate::ProfileLine;
-use text::Decimal;
 use timing::{PROFILE_NUMBERS, Profile};
 
 // The decimals that stand from a tab on, if they are as many as the buffer has places.
@@ -14,6 +12,7 @@ fn read_numbers(line: &[u8], from: usize, numbers: &mut [u16]) -> bool
 {
     let mut at = from;
     let mut k = 0;
+    // no `for`: the step is where the next tab stands
     while at < line.len() {
         if k == numbers.len() {
             return false;
@@ -21,8 +20,8 @@ fn read_numbers(line: &[u8], from: usize, numbers: &mut [u16]) -> bool
         let start = at + 1;
         let end = text::find(line, start, b'\t');
         match text::parse_decimal(&line[start..end]) {
-            Decimal::Malformed => return false,
-            Decimal::Number(n) => numbers[k] = n,
+            None => return false,
+            Some(n) => numbers[k] = n,
         }
         k += 1;
         at = end;
@@ -31,15 +30,15 @@ fn read_numbers(line: &[u8], from: usize, numbers: &mut [u16]) -> bool
 }
 
 // The profile of a line.
-pub fn read_profile(line: &[u8]) -> ProfileLine
+pub fn read_profile(line: &[u8]) -> Option<Profile>
     ensures { result ≡ profile_read line.now }
 {
     let end = text::find(line, 0, b'\t');
     if text::same(&line[..end], b"profile") {
         let mut numbers = [0u16; PROFILE_NUMBERS];
         if read_numbers(line, end, &mut numbers) {
-            return ProfileLine::Given(Profile::from_numbers(&numbers));
+            return Some(Profile::from_numbers(&numbers));
         }
     }
-    ProfileLine::Faulty
+    None
 }

@@ -6,7 +6,8 @@ ghost use Rattle.lists.specs.Filled.{stored_at};
 ghost use Rattle.refusal.specs.Answer.{counted_answer};
 ghost use Rattle.sectors.specs.Sector.{sector_size, opening, identity, sector_items, sector_rule, sector_output};
 
-use refusal::{Counted, Refusal};
+use items::MARK_A1;
+use refusal::Refusal;
 
 // The bytes of data in a sector of a length code, 0 to 3.
 pub fn sector_size(code: u8) -> usize
@@ -27,12 +28,9 @@ fn repeat(out: &mut [u16], at: usize, count: usize, item: u16) -> usize
     ensures next { result ≡ at + count }
     ensures output { out.new ≡ stored_at out.old at (replicate count item) }
 {
-    let mut k: usize = 0;
-    while k < count {
-        out[at + k] = item;
-        k += 1;
-    }
-    at + count
+    let end = at + count;
+    out[at..end].fill(item);
+    end
 }
 
 // 12 of 00, three marks A1, and the byte that tells an ID field from a data field.
@@ -42,7 +40,7 @@ fn open_field(out: &mut [u16], at: usize, kind: u16) -> usize
     ensures output { out.new ≡ stored_at out.old at (opening kind) }
 {
     let marks = repeat(out, at, 12, 0x00);
-    let end = repeat(out, marks, 3, 0x1a1);
+    let end = repeat(out, marks, 3, MARK_A1);
     out[end] = kind;
     end + 1
 }
@@ -65,13 +63,12 @@ fn put_data(out: &mut [u16], at: usize, bytes: &[u8]) -> usize
     ensures next { result ≡ at + length bytes.now + 1 }
     ensures output { out.new ≡ stored_at out.old at (bytes.now ++ (512 ∷ [])) }
 {
-    let mut k: usize = 0;
-    while k < bytes.len() {
-        out[at + k] = bytes[k] as u16;
-        k += 1;
+    for (k, byte) in bytes.iter().enumerate() {
+        out[at + k] = *byte as u16;
     }
-    out[at + k] = 512;
-    at + k + 1
+    let end = at + bytes.len();
+    out[end] = 512;
+    end + 1
 }
 
 // The whole sector at the front of the output.
@@ -95,23 +92,23 @@ pub fn make_sector(
     code: u8,
     bytes: &[u8],
     out: &mut [u16],
-) -> Counted
+) -> Result<usize, Refusal>
     ensures answer { counted_answer result ≡ sector_rule track side sector code bytes.now (length out.old) }
     ensures output { out.new ≡ sector_output track side sector code bytes.now out.old }
 {
     if code < 1 {
-        return Counted::Refused(Refusal::SectorSizeMismatch);
+        return Err(Refusal::SectorSizeMismatch);
     }
     if 3 < code {
-        return Counted::Refused(Refusal::SectorSizeMismatch);
+        return Err(Refusal::SectorSizeMismatch);
     }
     if bytes.len() != sector_size(code) {
-        return Counted::Refused(Refusal::SectorSizeMismatch);
+        return Err(Refusal::SectorSizeMismatch);
     }
     let count = bytes.len() + 114;
     if out.len() < count {
-        return Counted::Refused(Refusal::OutputTooShort);
+        return Err(Refusal::OutputTooShort);
     }
     put_sector(out, track, side, sector, code, bytes);
-    Counted::Count(count)
+    Ok(count)
 }

@@ -6,44 +6,41 @@ ghost use Rattle.sets.specs.machine.Index.{end_rule, count_rule, entry_with, Ind
 ghost use Rattle.sets.specs.machine.Span.{Spans};
 
 use crate::span::{Span, join};
-use refusal::{Counted, Refusal};
+use refusal::Refusal;
 
 // The place after the sector that begins at a place.
-fn sector_end(set: &[u8], start: usize) -> Counted
+fn sector_end(set: &[u8], start: usize) -> Result<usize, Refusal>
     requires { start < length set.now }
     ensures { counted_answer result ≡ end_rule set.now start }
 {
     let left = set.len() - start;
     if left < 3 {
-        return Counted::Refused(Refusal::SectorSizeMismatch);
+        return Err(Refusal::SectorSizeMismatch);
     }
     let code = set[start + 1];
     if 3 < code {
-        return Counted::Refused(Refusal::SectorSizeMismatch);
+        return Err(Refusal::SectorSizeMismatch);
     }
     let size = sectors::sector_size(code);
     if left - 3 < size {
-        return Counted::Refused(Refusal::SectorSizeMismatch);
+        return Err(Refusal::SectorSizeMismatch);
     }
-    Counted::Count(start + 3 + size)
+    Ok(start + 3 + size)
 }
 
 // 13, looked for to the end of the set, or how many sectors it has.
-pub fn count_sectors(set: &[u8]) -> Counted
+pub fn count_sectors(set: &[u8]) -> Result<usize, Refusal>
     ensures { counted_answer result ≡ count_rule 0 (set_of set.now) }
 {
     let mut count: usize = 0;
     let mut start: usize = 0;
+    // `for` is no plainer: how long a step is stands in the sector
     while start < set.len() {
-        match sector_end(set, start) {
-            Counted::Refused(refusal) => return Counted::Refused(refusal),
-            Counted::Count(end) => {
-                count += 1;
-                start = end;
-            }
-        }
+        let end = sector_end(set, start)?;
+        count += 1;
+        start = end;
     }
-    Counted::Count(count)
+    Ok(count)
 }
 
 fn entry(old: u16, place: u16) -> u16
@@ -63,6 +60,7 @@ pub fn index_set(set: &[u8], index: &mut [u16; 256]) -> Span
 {
     let mut span = Span { low: 256, high: 0 };
     let mut start: usize = 0;
+    // `for` is no plainer: how long a step is stands in the sector
     while start < set.len() {
         let code = start + 1;
         let number = set[start] as usize;

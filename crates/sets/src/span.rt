@@ -1,24 +1,13 @@
 // The numbers that a loop over an index goes through: from the lowest that is there up to the highest. Most sets have
 // few numbers that stand close together.
-ghost use Rattle.std.specs.Prelude.{max, ◌≡◌};
+ghost use Rattle.std.specs.Prelude.{◌≡◌};
 ghost use Rattle.sets.specs.machine.Span.{joined_span};
 
-use lists::at_most;
-
 // From `low` on, below `high`.
-#[derive(Clone, Copy)]
+#[derive(Clone, Copy, PartialEq, Eq)]
 pub struct Span {
     pub low: usize,
     pub high: usize,
-}
-
-fn at_least(least: usize, number: usize) -> usize
-    ensures { result ≡ max least number }
-{
-    if least < number {
-        return number;
-    }
-    least
 }
 
 // The span of the numbers of either.
@@ -26,7 +15,7 @@ pub fn join(a: Span, b: Span) -> Span
     ensures { result ≡ joined_span a b }
 {
     Span {
-        low: at_most(a.low, b.low),
-        high: at_least(a.high, b.high),
+        low: a.low.min(b.low),
+        high: a.high.max(b.high),
     }
 }

@@ -1,6 +1,6 @@
 -- Eight cells at the top are two fours, of which the first word is taken at once: it is the first four's, or else the
 -- second's. Rests on no axiom.
-use Rattle.std.proofs.Common.{◌≡◌, ℕ, ◌+◌, ◌-◌, ◌/◌, ◌%◌, ◌^◌, ◌<◌, ◌≤◌, List, [], ◌∷◌, ◌++◌, length, sym, refl, ap, ◌∙◌, mod-lt, arith, pow_pos, le-leb}
+use Rattle.std.proofs.Common.{◌≡◌, ℕ, ◌+◌, ◌/◌, ◌%◌, ◌^◌, ◌<◌, ◌≤◌, List, [], ◌∷◌, ◌++◌, length, sym, refl, ap, ◌∙◌, mod-lt, arith, pow_pos, le-leb}
 use native.Mathlib.Decide.{dec_lt}
 use mir.Val.{bool_byte}
 use borrow.Author.Tests.{lt-leb}

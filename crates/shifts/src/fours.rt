@@ -10,11 +10,10 @@ ghost use Rattle.shifts.specs.machine.Fours.{alone, fours_from};
 
 use crate::top::{add_four, ease, is_whole, past_word, top_of, top_word};
 use half_cells::fits;
-use lists::at_most;
 use symbols::Reading;
 
 // The register after some fours, and how many words they made whole.
-#[derive(Clone, Copy)]
+#[derive(Clone, Copy, PartialEq, Eq)]
 pub struct Fours {
     pub reading: Reading,
     pub count: usize,
@@ -49,20 +48,18 @@ pub fn shift_eights(start: Reading, units: &[u8], eights: usize, words: &mut [u3
 {
     let mut t = top_of(start);
     let mut count: usize = 0;
-    let mut i: usize = 0;
-    while i < eights {
+    for i in 0..eights {
         let eight = add_four(add_four(t, units, 8 * i), units, 8 * i + 4);
         words[count] = top_word(eight);
         let next = past_word(eight);
         words[count + 1] = top_word(next);
         count += 1 + is_whole(next) as usize;
         t = ease(next);
-        i += 1;
     }
     let mut reading = start;
     reading.bits = last_bits(units, units.len() - 16);
     reading.held = 64 - t.free;
-    reading.words = std::num::wrapping_add_u32(start.words, (count % 4294967296) as u32);
+    reading.words = start.words.wrapping_add((count % 4294967296) as u32);
     Fours { reading, count }
 }
 
@@ -71,10 +68,8 @@ pub fn all_fit(words: &[u32]) -> bool
     ensures { result ≡ everywhere fits words.now }
 {
     let mut all = true;
-    let mut k: usize = 0;
-    while k < words.len() {
-        all = all & fits(words[k]);
-        k += 1;
+    for &word in words {
+        all &= fits(word);
     }
     all
 }
@@ -87,10 +82,8 @@ pub fn store(words: &[u32], at: usize, out: &mut [u16])
     if out.len() <= at {
         return;
     }
-    let count = at_most(out.len() - at, words.len());
-    let mut k: usize = 0;
-    while k < count {
+    let count = words.len().min(out.len() - at);
+    for k in 0..count {
         out[at + k] = (words[k] % 65536) as u16;
-        k += 1;
     }
 }

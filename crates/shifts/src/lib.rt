@@ -8,7 +8,7 @@ pub mod shift;
 mod top;
 
 // How far a pass came, and how many intervals it used.
-#[derive(Clone, Copy)]
+#[derive(Clone, Copy, PartialEq, Eq)]
 pub struct Pass {
     pub reading: Reading,
     pub used: usize,

@@ -30,11 +30,9 @@ fn shift_in(
 {
     let mut m = start;
     let mut store_at = to;
-    let mut k: usize = 0;
-    while k < units.len() {
-        let next = m.shift(units[k]);
+    for (k, &cell) in units.iter().enumerate() {
+        let next = m.shift(cell);
         let place = from + k;
-        k += 1;
         if next.is_whole() {
             put(out, store_at, next.word());
             store_at += 1;
@@ -51,7 +49,7 @@ fn shift_in(
     }
     Pass {
         reading: m,
-        used: from + k,
+        used: from + units.len(),
     }
 }
 

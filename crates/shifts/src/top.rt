@@ -7,7 +7,7 @@ ghost use Rattle.shifts.specs.machine.Fours.{Tops, added_cell, added_all, past_w
 use symbols::Reading;
 
 // A cell is one difference and one bit set, and no shift waits for another.
-#[derive(Clone, Copy)]
+#[derive(Clone, Copy, PartialEq, Eq)]
 pub struct Top {
     pub cells: u64,
     // the places below them
@@ -25,10 +25,11 @@ pub fn top_of(m: Reading) -> Top
     }
 }
 
+#[tactic(auto, unfolding(crate::specs::machine::Fours::added_cell))]
 fn add_cell(t: Top, units: u8) -> Top
     ensures { result ≡ added_cell t units }
 {
-    let free = std::num::wrapping_sub_u32(t.free, units as u32);
+    let free = t.free.wrapping_sub(units as u32);
     Top {
         cells: t.cells | 1 << (free % 64),
         free,
@@ -58,12 +59,13 @@ pub fn is_whole(t: Top) -> bool
 }
 
 // On to the next byte.
+#[tactic(auto, unfolding(crate::specs::machine::Fours::past_word))]
 pub fn past_word(t: Top) -> Top
     ensures { result ≡ past_word t }
 {
     Top {
         cells: t.cells << 16,
-        free: std::num::wrapping_add_u32(t.free, 16),
+        free: t.free.wrapping_add(16),
     }
 }
 
@@ -74,6 +76,6 @@ pub fn ease(t: Top) -> Top
     let more = 16 * is_whole(t) as u32;
     Top {
         cells: t.cells << more,
-        free: std::num::wrapping_add_u32(t.free, more),
+        free: t.free.wrapping_add(more),
     }
 }

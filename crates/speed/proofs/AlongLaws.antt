@@ -13,7 +13,6 @@ use Rattle.timing.specs.Profile.{profile_rule}
 use Rattle.timing.specs.Class.{Ascending, at_start, classes_from, cursor_after}
 use Rattle.timing.specs.machine.Edges.{units_from}
 use Rattle.timing.specs.declared.Profile.{Profile}
-use Rattle.timing.specs.declared.Class.{Class}
 use Rattle.timing.specs.declared.cursor.Cursor.{Cursor}
 use Rattle.timing.proofs.ClassLaws.{classes_append, classes_count, classes_none, classes_from_start}
 use Rattle.timing.proofs.ClassLaws.{cursor_after-append, cursor_after_none}

@@ -1,17 +1,17 @@
 -- How the pass over corrected numbers ends is how the field reader's does, and the extremes of the used ones tell their
 -- least clearance. Rests on no axiom.
+use Rattle.std.specs.Prelude.{Err}
 use Prim.Native.Nat.{ℕ, ◌≤◌, ◌<◌}
-use mathlib.Core.Path.{◌≡◌, refl, sym, ap, ◌∙◌}
+use mathlib.Core.Path.{◌≡◌, sym, ap, ◌∙◌}
 use mathlib.Core.Bool.{true}
 use mathlib.Core.List.{List, [], ◌∷◌}
 use native.Mathlib.Omega.{arith}
 use lib.Dec.{eqb, ltb}
-use lib.ListN.{length, get_or, take, length-take}
+use lib.ListN.{length, take, length-take}
 use lib.Seq.{get_or-take}
 use Rattle.refusal.specs.Table.{number_of, place_of}
-use Rattle.refusal.specs.Answer.{Answer, accepted, refused, refuse_if, verdict_answer}
+use Rattle.refusal.specs.Answer.{Answer, accepted, refused, verdict_answer}
 use Rattle.refusal.specs.declared.Refusal.{Refusal}
-use Rattle.refusal.specs.declared.Verdict.TheVariants.{Refused}
 use Rattle.refusal.proofs.AnswerLaws.{refuse_if_accepts, refuse_if_passes}
 use Rattle.timing.specs.Profile.{profile_rule}
 use Rattle.timing.specs.Class.{cursor_of, at_start, classes_of}
@@ -21,7 +21,7 @@ use Rattle.timing.proofs.ClassLaws.{classes_of-take}
 use Rattle.items.specs.Written.{fresh_check, after_bytes}
 use Rattle.items.specs.declared.Check.{Check}
 use Rattle.symbols.specs.Reading.{read_bits, read_from}
-use Rattle.symbols.specs.machine.Step.{stray_now, place_now}
+use Rattle.symbols.specs.machine.Step.{stray_now}
 use Rattle.symbols.specs.declared.Cell.{Cell}
 use Rattle.symbols.specs.declared.Reading.{Reading}
 use Rattle.intervals.specs.Cells.{edge_rule}
@@ -82,7 +82,7 @@ module _
     pub edges_are : verdict_answer a.edges ≡ edges p ds n r
     edges_are = ends.edges ∙ ap edge_rule (classes_of-take p r.used ds)
 
-    pub edge_refuses : (q : Refusal) → a.edges ≡ Refused q → refused (number_of q) (place_of q) ≡ gather_rule cs n
+    pub edge_refuses : (q : Refusal) → a.edges ≡ Err q → refused (number_of q) (place_of q) ≡ gather_rule cs n
     edge_refuses q told = ended.refuses q (sym (ap verdict_answer told) ∙ edges_are)
 
     module _ (fair : (edges p ds n r).number ≡ 0) where

@@ -1,5 +1,5 @@
 -- What the functions of the reader hand to each other is the entry's answer. Rests on no axiom.
-use Prim.Native.Nat.{ℕ, ◌+◌, ◌-◌, ◌≤◌, ◌<◌}
+use Prim.Native.Nat.{ℕ, ◌+◌, ◌≤◌, ◌<◌}
 use mathlib.Core.Path.{◌≡◌, refl, sym, ap, ◌∙◌}
 use mathlib.Core.Bool.{Bool, true, false, cond}
 use mathlib.Core.List.{List, map}
@@ -8,6 +8,7 @@ use borrow.Author.Tests.{eqb-true, eqb-false, eq-eqb, leb-true}
 use lib.Dec.{eqb}
 use lib.IntN.{ℤ}
 use lib.ListN.{length, take, drop, length-drop}
+use Rattle.std.specs.Prelude.{Ok, Err}
 use Rattle.lists.proofs.BoolLaws.{both}
 use Rattle.refusal.specs.Table.{number_of, place_of}
 use Rattle.refusal.specs.Answer.{Answer, accepted, refused}
@@ -25,17 +26,17 @@ use Rattle.locks.proofs.FirstLockLaws.{lock_from_found}
 use Rattle.fields.specs.Field.{field_used, field_holds}
 use Rattle.fields.specs.FieldRule.{FieldAnswer, field_answer, field_turned_away, answer_with, field_rule, field_reading, field_output}
 use Rattle.fields.specs.machine.Gather.{gather_rule, checked_rule, checked_reading, checked_output}
-use Rattle.fields.specs.declared.reader.FieldRead.TheVariants.{Field}
+use Rattle.fields.specs.declared.reader.Field.{Field}
 use Rattle.fields.proofs.ReaderLaws.{answer_is_its_rule, count_refuses, checked_settles}
 use Rattle.fields.proofs.RuleLaws.{gather_refuses}
 use Rattle.clearance.specs.Clearance.{least_clearance}
 use Rattle.clearance.specs.Answers.{clear_field_answer, clearance_for, least_used, field_with_clearance}
-use Rattle.clearance.specs.declared.ClearFieldRead.{ClearFieldRead}
+use Rattle.clearance.specs.declared.Clear.{Clear}
 use Rattle.pace.specs.Pace.{difference, pace_rule}
 use Rattle.pace.specs.machine.Cut.{cut_off, slowed, Measured, Able}
 use Rattle.pace.specs.declared.Pace.{Pace}
 use Rattle.speed.specs.Speed.{s0, s1, nominal, speed_rule, run_before, corrected_at}
-use Rattle.speed.specs.Reading.{turned_away, comes_with, rule_at, reading_at, output_at}
+use Rattle.speed.specs.Reading.{turned_away, corrected_answer, comes_with, rule_at, reading_at, output_at}
 use Rattle.speed.specs.Reading.{corrected_rule, corrected_reading, corrected_output}
 use Rattle.speed.specs.machine.Along.{TellsLeast}
 use Rattle.speed.specs.machine.Read.{cleared_by, checked_with_clearance, told_by}
@@ -58,6 +59,9 @@ cleared p ds a used e holds same = split (eqb a.number 0) refl
     split true h = rw (h, h) (same (eqb-true _ _ h))
     split false h = rw (h, h) refl
 
+pub refused_cleared : (r : Refusal) (e : ℕ) → clear_field_answer (Err r) ≡ cleared_by (field_answer (Err r)) e
+refused_cleared r e = rw (number_is_not_zero r)
+
 module _ (p : Profile) (ds : List ℕ) (n room : ℕ) where
   abbrev cs : List Class
   cs = classes_of p ds
@@ -65,7 +69,7 @@ module _ (p : Profile) (ds : List ℕ) (n room : ℕ) where
   pub gather_refuses_cleared
       : (r : Refusal)
       → refused (number_of r) (place_of r) ≡ gather_rule cs n
-      → cleared_by (field_turned_away (refused (number_of r) (place_of r))) 0 ≡ checked_with_clearance p ds n room
+      → clear_field_answer (Err r) ≡ checked_with_clearance p ds n room
   unfolding checked_with_clearance
   gather_refuses_cleared r e = rw (← gather_refuses cs n r e room, number_is_not_zero r)
 
@@ -99,19 +103,19 @@ module _ (p : Profile) (ds : List ℕ) (n : ℕ) (old : List ℕ) (accepts : (pr
   checked_is_field h =
       let (answer, output) = checked_settles p ds n old accepts h in (rw answer, output)
 
-pub told_field
-    : (pace : Pace) (lock : ℕ) (field : ClearFieldRead) (count used : ℕ) (holds : Bool) (even odd : ℤ)
-    → field.read ≡ Field count used holds
-    → even ≡ difference pace.nominal pace.even
-    → odd ≡ difference pace.nominal pace.odd
-    → record {
-      field = record { reading = field_answer (Field count used holds); clearance = field.clearance };
-      lock = lock;
-      even = even;
-      odd = odd;
-    }
-    ≡ told_by pace lock (clear_field_answer field)
-told_field pace lock field count used holds even odd is e o = rw (is, e, o)
+-- ---- with the lock's place and the differences
+
+module _ (pace : Pace) (lock : ℕ) where
+  pub told_refusal : (r : Refusal) → corrected_answer (Err r) ≡ told_by pace lock (clear_field_answer (Err r))
+  told_refusal r = rw (number_is_not_zero r)
+
+  pub told_field
+      : (field : Clear Field) (even odd : ℤ)
+      → even ≡ difference pace.nominal pace.even
+      → odd ≡ difference pace.nominal pace.odd
+      → corrected_answer (Ok (record { field = field; lock = lock; even = even; odd = odd }))
+      ≡ told_by pace lock (clear_field_answer (Ok field))
+  told_field field even odd e o = rw (e, o)
 
 -- ---- at a lock, where 18 is not answered
 
@@ -198,9 +202,9 @@ module _ (p : Profile) (ds : List ℕ) (lock n : ℕ) (old : List ℕ) where
 
 -- ---- the entry
 
-stands_after_64 : (cs : List Class) (k : ℕ) → lock_at cs k ≡ true → 64 ≤ k
+stands_after_64 : (kinds : List Class) (k : ℕ) → lock_at kinds k ≡ true → 64 ≤ k
 unfolding lock_at
-stands_after_64 cs k e = leb-true 64 k (both _ _ (both _ _ e).0).0
+stands_after_64 kinds k e = leb-true 64 k (both _ _ (both _ _ e).0).0
 
 module _ (p : Profile) (ds : List ℕ) (start n : ℕ) (old : List ℕ) where
   pub find_refuses

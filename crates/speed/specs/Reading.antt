@@ -1,13 +1,15 @@
 -- Document 02, (xi): n bytes at the first lock from a start, answered as the field reader does, places counted from the
 -- lock. Its order is 1, 2, 10, 18, 12, then 5, 6 or 11 as first met, 8, 9. No lemmas here.
-use Rattle.std.specs.Prelude.{ℕ, cond, List, eqb, ℤ, pos, length}
-use Rattle.refusal.specs.Answer.{Answer, first_refusal, settled}
+use Rattle.std.specs.Prelude.{ℕ, cond, List, Result, Ok, Err, eqb, ℤ, pos, length}
+use Rattle.refusal.specs.Table.{number_of, place_of}
+use Rattle.refusal.specs.Answer.{Answer, refused, first_refusal, settled}
+use Rattle.refusal.specs.declared.Refusal.{Refusal}
 use Rattle.timing.specs.Class.{classes_of}
 use Rattle.timing.specs.declared.Profile.{Profile}
 use Rattle.locks.specs.Lock.{find_rule}
 use Rattle.fields.specs.Field.{field_items}
-use Rattle.fields.specs.FieldRule.{field_answer, field_turned_away, field_rule}
-use Rattle.clearance.specs.Answers.{ClearFieldAnswer, field_with_clearance}
+use Rattle.fields.specs.FieldRule.{field_turned_away, field_rule}
+use Rattle.clearance.specs.Answers.{ClearFieldAnswer, clear_field_answer, field_with_clearance}
 use Rattle.pace.specs.Pace.{difference}
 use Rattle.speed.specs.Speed.{s0, s1, nominal, speed_rule, corrected_at}
 use Rattle.speed.specs.declared.reader.Corrected.{Corrected}
@@ -25,14 +27,10 @@ turned_away a =
     record { field = record { reading = field_turned_away a; clearance = 0 }; lock = 0; even = pos 0; odd = pos 0 }
 
 -- as it is declared
-abbrev pub corrected_answer : Corrected → CorrectedAnswer
-corrected_answer c =
-    record {
-      field = record { reading = field_answer c.read; clearance = c.clearance };
-      lock = c.lock;
-      even = c.even;
-      odd = c.odd;
-    }
+abbrev pub corrected_answer : Result Corrected Refusal → CorrectedAnswer
+corrected_answer (Ok c) =
+    record { field = clear_field_answer (Ok c.field); lock = c.lock; even = c.even; odd = c.odd }
+corrected_answer (Err r) = turned_away (refused (number_of r) (place_of r))
 
 -- ---- at a lock
 

@@ -18,10 +18,9 @@ use clearance::seen::Seen;
 use fields::gather::{conclude, sum_up};
 use intervals::edges::check_edges_from;
 use items::Check;
-use lists::at_most;
 use pace::Pace;
 use passes::block::{Progress, pass_block};
-use refusal::{Counted, Verdict};
+use refusal::Refusal;
 use timing::{Cursor, Profile};
 
 // As many intervals are corrected at once: an even number, so that each block begins with an even interval.
@@ -31,39 +30,44 @@ const BLOCK: usize = 64;
 const BLOCK_WORDS: usize = 17;
 
 // How far the reading of a block came.
-#[derive(Clone, Copy)]
+#[derive(Clone, Copy, PartialEq, Eq)]
 struct BlockRead {
     at: Progress,
     check: Check,
 }
 
 // How far the pass came: the check register after its items, the first interval that is no cell, and the extremes.
-#[derive(Clone, Copy)]
+#[derive(Clone, Copy, PartialEq, Eq)]
 pub struct Along {
     pub at: Progress,
     pub check: Check,
-    pub edges: Verdict,
+    pub edges: Result<(), Refusal>,
     pub seen: Seen,
 }
 
-// How the pass ends: why it is refused, or how many intervals it used; whether the register is zero; the clearance.
-#[derive(Clone, Copy)]
+// How the pass ends: why it is refused, or how many intervals it used; whether the register is zero; the clearance. The
+// clauses `answer`, `sum` and `least` of `gather` name each, so it is no `Result` of the three.
+#[derive(Clone, Copy, PartialEq, Eq)]
 pub struct Gathered {
-    pub end: Counted,
+    pub end: Result<usize, Refusal>,
     pub holds: bool,
     pub clearance: u16,
 }
 
 // The first interval that is no cell, in all before or in these.
-fn edges_after(before: Verdict, start: Cursor, from: usize, intervals: &[u16]) -> Verdict
+#[tactic(auto, using(refusal::proofs::AnswerLaws::refusal_decides))]
+fn edges_after(
+    before: Result<(), Refusal>,
+    start: Cursor,
+    from: usize,
+    intervals: &[u16],
+) -> Result<(), Refusal>
     requires ascending { Ascending start }
     requires intervals_bound { from + length intervals.now ≤ 2 ^ 32 }
     ensures { verdict_answer result ≡ edges_after (verdict_answer before) start from intervals.now }
 {
-    match before {
-        Verdict::Refused(refusal) => Verdict::Refused(refusal),
-        Verdict::Accepted => check_edges_from(start, from, intervals),
-    }
+    before?;
+    check_edges_from(start, from, intervals)
 }
 
 // The intervals of a block, read: their items through the register, and to their places.
@@ -94,7 +98,7 @@ impl Along {
         Along {
             at: Progress::start(p),
             check: Check::fresh(),
-            edges: Verdict::Accepted,
+            edges: Ok(()),
             seen: Seen {
                 extremes: Extremes::none(),
                 cursor: Cursor::start(p),
@@ -140,7 +144,7 @@ impl Along {
     {
         let mut block = [0u16; BLOCK];
         let from = self.at.pass.used;
-        let count = at_most(BLOCK, intervals.len() - from);
+        let count = BLOCK.min(intervals.len() - from);
         pace.correct(&intervals[from..from + count], &mut block[..count]);
         self.next(&block[..count], n, out)
     }
@@ -176,12 +180,12 @@ pub fn gather(p: Profile, pace: Pace, intervals: &[u16], n: u32, out: &mut [u16]
     let holds = along.check.register == 0;
     let edges = along.edges;
     match edges {
-        Verdict::Refused(refusal) => Gathered {
-            end: Counted::Refused(refusal),
+        Err(refusal) => Gathered {
+            end: Err(refusal),
             holds,
             clearance: 0,
         },
-        Verdict::Accepted => Gathered {
+        Ok(()) => Gathered {
             end: conclude(pass.reading, pass.used, n),
             holds,
             clearance: along.seen.extremes.least(p.min.0, p.rpt.0),

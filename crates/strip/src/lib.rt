@@ -12,9 +12,8 @@ ghost use Rattle.strip.specs.Output.{Printed};
 ghost use Rattle.strip.specs.machine.Room.{Front, output_length};
 
 use output::{refuse, report};
-use refusal::{Counted, Refusal};
+use refusal::Refusal;
 pub use script::INPUT_BYTES;
-use script::Script;
 use timing::Profile;
 
 // The most written bytes that a list may have here.
@@ -35,8 +34,8 @@ fn print_list(profile: Profile, margin: usize, items: &[u16], out: &mut [u8]) ->
 {
     let mut stream = [0u16; CELLS];
     match codec::writer::write(profile, items, &mut stream) {
-        Counted::Refused(refusal) => refuse(refusal, out),
-        Counted::Count(cells) => report(profile, margin, &stream[..cells], out),
+        Err(refusal) => refuse(refusal, out),
+        Ok(cells) => report(profile, margin, &stream[..cells], out),
     }
 }
 
@@ -46,8 +45,8 @@ fn print_script(profile: Profile, items: &[u16], out: &mut [u8]) -> usize
     ensures { Printed (script_text profile items.now) result out.old out.new }
 {
     match lengths::margin(profile) {
-        Counted::Refused(refusal) => refuse(refusal, out),
-        Counted::Count(margin) => {
+        Err(refusal) => refuse(refusal, out),
+        Ok(margin) => {
             if items::written_bytes(items) > WRITTEN_BYTES {
                 return refuse(Refusal::TooLong, out);
             }
@@ -64,7 +63,7 @@ pub fn run(input: &[u8], out: &mut [u8; OUTPUT_BYTES]) -> usize
 {
     let mut items = [0u16; WRITTEN_BYTES + 1];
     match script::read(input, &mut items) {
-        Script::Refused(refusal) => refuse(refusal, out),
-        Script::Given(profile, count) => print_script(profile, &items[..count], out),
+        Err(refusal) => refuse(refusal, out),
+        Ok(script) => print_script(script.profile, &items[..script.count], out),
     }
 }

@@ -39,14 +39,10 @@ fn append_cells(profile: Profile, stream: &[u16], out: &mut [u8], at: usize) -> 
 {
     let mut cursor = Cursor::start(profile);
     let mut end = at;
-    let mut place = 0;
-    while place < stream.len() {
-        let interval = stream[place];
+    for (place, &interval) in stream.iter().enumerate() {
         let classed = cursor.step(interval);
-        let class = classed.class;
-        end = append_cell(place, class, interval, out, end);
+        end = append_cell(place, classed.class, interval, out, end);
         cursor = classed.next;
-        place += 1;
     }
     end
 }

@@ -6,7 +6,7 @@ ghost use Rattle.symbols.specs.machine.Step.{fresh_reading, shifted, is_whole, c
 ghost use Rattle.symbols.specs.machine.Step.{empty_reading, stray_now, place_now};
 
 // A cell as it is read: of 2, 3 or 4 units.
-#[derive(Clone, Copy)]
+#[derive(Clone, Copy, PartialEq, Eq)]
 pub enum Cell {
     Short,
     Medium,
@@ -15,7 +15,7 @@ pub enum Cell {
 
 // Where the reading of cells stands: a shift register of half cells, as a data separator has one. A transition is a 1,
 // and a cell of so many units puts the next 1 so many half cells after the last.
-#[derive(Clone, Copy)]
+#[derive(Clone, Copy, PartialEq, Eq)]
 pub struct Reading {
     // the half cells read, the latest in the least significant place
     pub bits: u32,
@@ -49,7 +49,7 @@ impl Reading {
     {
         let more = units as u32;
         self.bits = self.bits << (more % 32) | 1;
-        self.held = std::num::wrapping_add_u32(self.held, more);
+        self.held = self.held.wrapping_add(more);
         self
     }
 
@@ -92,7 +92,7 @@ impl Reading {
         let x = (self.bits >> surplus) % 131072;
         let gaps = half_cells::missing(x);
         self.held -= 16;
-        self.words = std::num::wrapping_add_u32(self.words, 1);
+        self.words = self.words.wrapping_add(1);
         if gaps == 0 {
             return self;
         }

@@ -1,8 +1,7 @@
 -- Document 01, "The strip program": decimals, as they are printed and as they are read. No lemmas here.
+use Rattle.std.specs.Prelude.{Option, Some, None}
 use Rattle.std.specs.Prelude.{ℕ, zero, suc, ◌+◌, ◌-◌, ◌*◌, ◌/◌, ◌%◌, Bool, true, false, cond, not, ◌&&◌, List, [], ◌∷◌, ◌++◌, eqb, leb, ltb}
 use Rattle.lists.specs.Place.{everywhere}
-use Rattle.text.specs.declared.Decimal.{Decimal}
-use Rattle.text.specs.declared.Decimal.TheVariants.{Number, Malformed}
 
 -- the character of a digit, 0 to 9
 abbrev pub digit : ℕ → ℕ
@@ -46,9 +45,9 @@ unfoldable pub is_decimal : List ℕ → Bool
 is_decimal field = no_leading_zero field && is_short field
 
 -- what digits are as a number
-unfoldable pub digits_read : List ℕ → Decimal
-digits_read field = cond (is_short field) (Number (value_of field)) Malformed
+unfoldable pub digits_read : List ℕ → Option ℕ
+digits_read field = cond (is_short field) (Some (value_of field)) None
 
 -- what a field is as a decimal
-unfoldable pub decimal_read : List ℕ → Decimal
-decimal_read field = cond (is_decimal field) (Number (value_of field)) Malformed
+unfoldable pub decimal_read : List ℕ → Option ℕ
+decimal_read field = cond (is_decimal field) (Some (value_of field)) None

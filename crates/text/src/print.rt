@@ -4,7 +4,7 @@ ghost use Rattle.lists.specs.Filled.{stored_at};
 ghost use Rattle.text.specs.Decimal.{decimal};
 ghost use Rattle.text.specs.Line.{fields_of, line_of};
 
-use lists::copy;
+use lists::store;
 
 // A text as it is.
 fn append(out: &mut [u8], at: usize, text: &[u8]) -> usize
@@ -12,7 +12,7 @@ fn append(out: &mut [u8], at: usize, text: &[u8]) -> usize
     ensures value { result ≡ at + length text.now }
     ensures out_after { out.new ≡ stored_at out.old at text.now }
 {
-    copy(text, at, out);
+    store(text, at, out);
     at + text.len()
 }
 
@@ -38,11 +38,9 @@ fn append_fields(out: &mut [u8], at: usize, numbers: &[usize]) -> usize
     ensures out_after { out.new ≡ stored_at out.old at (fields_of numbers.now) }
 {
     let mut end = at;
-    let mut i = 0;
-    while i < numbers.len() {
+    for &number in numbers {
         out[end] = b'\t';
-        end = append_decimal(out, end + 1, numbers[i]);
-        i += 1;
+        end = append_decimal(out, end + 1, number);
     }
     end
 }

@@ -1,13 +1,15 @@
 -- What the profile's rule means: where it accepts, every number is in range and every window holds its lengths, since
 -- each test of the definition gave the answer that let the next be asked; and where that is so it accepts. Rests on no
 -- axiom.
-use Rattle.std.proofs.Common.{◌≡◌, ℕ, suc, ◌+◌, ◌*◌, ◌<◌, ◌≤◌, Bool, true, false, cond, not, ◌&&◌, refl, ap, zero-add, arith, ltb-true, lt-ltb, le-leb, leb-true}
+use Rattle.std.proofs.Common.{◌≡◌, ℕ, suc, ◌+◌, ◌*◌, ◌<◌, ◌≤◌, Bool, true, false, cond, not, ◌&&◌, Some, None, refl, sym}
+use Rattle.std.proofs.Common.{zero-add, arith, ltb-true, lt-ltb, le-leb, leb-true}
+use Rattle.std.proofs.lemmas.Option.{cond_some, none-some}
 use Rattle.lists.specs.Place.{anywhere, lowest, passed}
 use Rattle.lists.proofs.BoolLaws.{both}
 use Rattle.refusal.specs.Answer.{accepted, refused, refuse_if}
 use Rattle.timing.specs.Numbers.{ranges, numbers_of}
 use Rattle.timing.specs.Profile.{unset, swing, advance, delay, is_true_short, is_true_long, is_true, profile_rule}
-use Rattle.timing.specs.Profile.{lowest_unset, InRange}
+use Rattle.timing.specs.Profile.{unset_place, InRange}
 use Rattle.timing.specs.declared.Profile.{Profile}
 use Rattle.timing.proofs.RangeLaws.{none_outside_all_inside, all_inside_none_outside, unset_from}
 
@@ -102,37 +104,31 @@ unfolding profile_rule unset
 accepts_if_kept p k = rw (all_inside_none_outside ranges (numbers_of p) k.ranges, true_if_kept p k)
 
 -- a number that is out of range decides the rule; where none is, the windows do
-rule_by_place
-    : (any true_one : Bool) (place w : ℕ)
-    → w ≡ cond any (suc place) 0
-    → (w ≡ 0 → ⊥)
-    → refused 1 w ≡ refuse_if any 1 (suc place) (refuse_if (not true_one) 2 0 (accepted 0))
-rule_by_place true true_one place w e h = ap (refused 1) e
-rule_by_place false true_one place w e h = absurd (h e)
-
 windows : (t : Bool) → cond t (accepted 0) (refused 2 0) ≡ refuse_if (not t) 2 0 (accepted 0)
 windows true = refl
 windows false = refl
 
-none_found : (any : Bool) (place : ℕ) → cond any (suc place) 0 ≡ 0 → any ≡ false
-none_found true place e = absurd (omega arith)
+none_found : (any : Bool) (place : ℕ) → cond any (Some place) None ≡ None → any ≡ false
+none_found true place e = absurd (none-some place (sym e))
 none_found false place e = refl
 
-pub rule_of_unset : (p : Profile) (w : ℕ) → w ≡ lowest_unset p → (w ≡ 0 → ⊥) → refused 1 w ≡ profile_rule p
-unfolding profile_rule lowest_unset
-rule_of_unset p w e h = rule_by_place (anywhere passed (unset p)) (is_true p) (lowest passed (unset p)) w e h
+pub rule_of_unset : (p : Profile) (w : ℕ) → unset_place p ≡ Some w → refused 1 w ≡ profile_rule p
+unfolding profile_rule unset_place
+rule_of_unset p w e =
+    let found = cond_some (anywhere passed (unset p)) (suc (lowest passed (unset p))) w e in
+    rw (found.0, found.1)
 
 pub rule_of_windows
-    : (p : Profile) (t : Bool) → lowest_unset p ≡ 0 → t ≡ is_true p → cond t (accepted 0) (refused 2 0) ≡ profile_rule p
-unfolding profile_rule lowest_unset
+    : (p : Profile) (t : Bool) → unset_place p ≡ None → t ≡ is_true p → cond t (accepted 0) (refused 2 0) ≡ profile_rule p
+unfolding profile_rule unset_place
 rule_of_windows p t none same = rw (none_found (anywhere passed (unset p)) _ none, same) (windows (is_true p))
 
-pub in_range : (p : Profile) → lowest_unset p ≡ 0 → InRange p
-unfolding lowest_unset
+pub in_range : (p : Profile) → unset_place p ≡ None → InRange p
+unfolding unset_place
 in_range p e = none_unset_in_range p (none_found _ _ e)
 
 -- ---- a scan of the numbers finds the lowest that is unset
 
-pub scan_finds_lowest : (p : Profile) → unset_from ranges (numbers_of p) 0 ≡ lowest_unset p
-unfolding lowest_unset unset
+pub scan_finds_lowest : (p : Profile) → unset_from ranges (numbers_of p) 0 ≡ unset_place p
+unfolding unset_place unset
 scan_finds_lowest p = rw zero-add

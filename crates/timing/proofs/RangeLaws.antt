@@ -2,6 +2,7 @@
 -- round; and a scan from the first number on finds the lowest that is out, since a number that is inside moves the scan
 -- on by one. Rests on no axiom.
 use Rattle.std.proofs.Common.{◌≡◌, ℕ, suc, ◌+◌, ◌<◌, ◌≤◌, Bool, true, false, cond, ltb, List, [], ◌∷◌, length, get_or, drop, ◌∙◌, add-zero, add-suc, suc-add, drop_of_length-le, drop-cons, ltb-false, le-ltb}
+use Rattle.std.specs.Prelude.{Option, Some, None}
 use mathlib.Mathlib.Data.Bool.Basic.{or-eq-false-eq-eq-false-and-eq-false}
 use Rattle.lists.specs.Place.{anywhere, lowest, passed}
 use Rattle.lists.proofs.PlaceLaws.{anywhere_of_none, anywhere_of_failing, nowhere_fails_at_first, nowhere_in_rest}
@@ -31,19 +32,19 @@ all_inside_none_outside (range ∷ rs) (n ∷ ns) within =
 
 -- ---- a scan
 
--- where the first of some tests passes, counted from 1, the first of them having place k; 0 for none
-abbrev pub place_from : ℕ → List Bool → ℕ
-place_from k ts = cond (anywhere passed ts) (suc (k + lowest passed ts)) 0
+-- where the first of some tests passes, counted from 1, the first of them having place k
+abbrev pub place_from : ℕ → List Bool → Option ℕ
+place_from k ts = cond (anywhere passed ts) (Some (suc (k + lowest passed ts))) None
 
 -- what a scan that has passed k numbers is still to find
-abbrev pub unset_from : List Range → List ℕ → ℕ → ℕ
+abbrev pub unset_from : List Range → List ℕ → ℕ → Option ℕ
 unset_from rs ns k = place_from k (outside_of (drop k rs) (drop k ns))
 
 module _ (rs : List Range) (ns : List ℕ) (d : Range) (k : ℕ) (hr : k < length rs) (hn : k < length ns) where
   abbrev test : Bool
   test = outside (get_or rs k d).low (get_or rs k d).high (get_or ns k 0)
 
-  pub scan_ends_here : test ≡ true → unset_from rs ns k ≡ suc k
+  pub scan_ends_here : test ≡ true → unset_from rs ns k ≡ Some (suc k)
   unfolding anywhere lowest
   scan_ends_here e = rw (drop-cons rs k d hr, drop-cons ns k 0 hn, e, add-zero)
 
@@ -51,6 +52,6 @@ module _ (rs : List Range) (ns : List ℕ) (d : Range) (k : ℕ) (hr : k < lengt
   unfolding anywhere lowest
   scan_goes_on e = rw (drop-cons rs k d hr, drop-cons ns k 0 hn, e, add-suc, suc-add)
 
-pub scan_finds_none : (rs : List Range) (ns : List ℕ) (k : ℕ) → length rs ≤ k → unset_from rs ns k ≡ 0
+pub scan_finds_none : (rs : List Range) (ns : List ℕ) (k : ℕ) → length rs ≤ k → unset_from rs ns k ≡ None
 unfolding anywhere
 scan_finds_none rs ns k h = rw (drop_of_length-le rs h)

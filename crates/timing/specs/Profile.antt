@@ -1,5 +1,6 @@
 -- Document 01, "Profile": when a profile's numbers are in range, and when it is true. No lemmas here.
 use Rattle.std.specs.Prelude.{ℕ, suc, ◌+◌, ◌-◌, ◌*◌, ◌≤◌, Bool, cond, not, ◌&&◌, ◌||◌, List, [], ◌∷◌, nat_le, nat_lt}
+use Rattle.std.specs.Prelude.{Option, Some, None}
 use Rattle.lists.specs.Place.{anywhere, lowest, passed}
 use Rattle.refusal.specs.Answer.{Answer, accepted, refuse_if}
 use Rattle.timing.specs.Numbers.{ranges, numbers_of}
@@ -71,6 +72,10 @@ profile_rule p =
 -- the lowest place of a number out of range, or 0
 unfoldable pub lowest_unset : Profile → ℕ
 lowest_unset p = cond (anywhere passed (unset p)) (suc (lowest passed (unset p))) 0
+
+-- and where there is one
+unfoldable pub unset_place : Profile → Option ℕ
+unset_place p = cond (anywhere passed (unset p)) (Some (suc (lowest passed (unset p)))) None
 
 -- each number is in its range
 abbrev pub Inside : List Range → List ℕ → Type 0

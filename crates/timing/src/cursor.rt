@@ -1,5 +1,5 @@
 // The one way to class intervals: a cursor that goes over a list from its first interval on.
-ghost use Rattle.std.specs.Prelude.{◌≡◌, if◌then◌else◌};
+ghost use Rattle.std.specs.Prelude.{◌≡◌};
 ghost use Rattle.timing.specs.Class.{cursor_of, at_start, class_in, is_two, behind, cursor_past};
 ghost use Rattle.timing.specs.Class.{classed, Ascending};
 ghost use Rattle.timing.specs.machine.Edges.{units_in, is_steady};
@@ -8,7 +8,7 @@ use crate::{Bounds, Class, HalfClocks, Profile};
 
 // Where the classing of a list stands: the edges of the windows for the next interval, and the bounds among which those
 // for the one after it are chosen. The bounds are held, and not the kind before, so that a loop chooses once a turn.
-#[derive(Clone, Copy)]
+#[derive(Clone, Copy, PartialEq, Eq)]
 pub struct Cursor {
     pub min: HalfClocks,
     pub bounds: Bounds,
@@ -19,15 +19,8 @@ pub struct Cursor {
     pub long: Bounds,
 }
 
-// The bounds after an interval of class 2, or after any other.
-fn chosen(two: bool, short: Bounds, long: Bounds) -> Bounds
-    ensures { result ≡ (if two then short else long) }
-{
-    if two { short } else { long }
-}
-
 // The class of an interval, and where the classing stands after it.
-#[derive(Clone, Copy)]
+#[derive(Clone, Copy, PartialEq, Eq)]
 pub struct Classed {
     pub class: Class,
     pub next: Cursor,
@@ -44,7 +37,7 @@ impl Cursor {
         let rpt = p.rpt;
         Cursor {
             min,
-            bounds: chosen(two, short, long),
+            bounds: if two { short } else { long },
             rpt,
             short,
             long,
@@ -94,7 +87,7 @@ impl Cursor {
         requires { Ascending self }
         ensures { result ≡ is_two (class_in self interval) }
     {
-        std::num::wrapping_sub_u16(interval, self.min.0) < self.bounds.b23.0 - self.min.0
+        interval.wrapping_sub(self.min.0) < self.bounds.b23.0 - self.min.0
     }
 
     // The units of its cell, where it is one: one more for each bound between the windows that it reaches.
@@ -111,7 +104,7 @@ impl Cursor {
         let short = self.short;
         let long = self.long;
         let mut next = self;
-        next.bounds = chosen(two, short, long);
+        next.bounds = if two { short } else { long };
         next
     }
 
@@ -119,10 +112,7 @@ impl Cursor {
     pub fn is_steady(self) -> bool
         ensures { result ≡ is_steady self }
     {
-        (self.bounds.b23.0 == self.short.b23.0)
-            & (self.bounds.b34.0 == self.short.b34.0)
-            & (self.bounds.b23.0 == self.long.b23.0)
-            & (self.bounds.b34.0 == self.long.b34.0)
+        (self.bounds == self.short) & (self.bounds == self.long)
     }
 
     // Where it stands after the next interval.

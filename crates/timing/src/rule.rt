@@ -1,10 +1,10 @@
 // When a profile may be used: its numbers in their ranges, and the windows true.
 ghost use Rattle.std.specs.Prelude.{◌≡◌, ◌-◌, ◌*◌, ◌<◌};
 ghost use Rattle.refusal.specs.Answer.{verdict_answer};
-ghost use Rattle.timing.specs.Profile.{lowest_unset, InRange, is_true_short, is_true_long, is_true, profile_rule};
+ghost use Rattle.timing.specs.Profile.{unset_place, InRange, is_true_short, is_true_long, is_true, profile_rule};
 
 use crate::{Clocks, HalfClocks, PROFILE_NUMBERS, Profile, Range};
-use refusal::{Refusal, Verdict};
+use refusal::Refusal;
 
 // The range of each number, in document 02's order.
 const RANGES: [Range; PROFILE_NUMBERS] = [
@@ -21,22 +21,19 @@ const RANGES: [Range; PROFILE_NUMBERS] = [
     Range { low: 1, high: 4095 }, // Rpt
 ];
 
-// Which of the numbers is the first out of range, from 1; 0 for none.
-fn lowest_unset(p: Profile) -> u32
-    ensures { result ≡ lowest_unset p }
+// Which of the numbers is the first out of range, from 1.
+fn lowest_unset(p: Profile) -> Option<u32>
+    ensures { result ≡ unset_place p }
 {
     let numbers = p.numbers();
     let ranges = RANGES;
-    let mut k = 0;
-    while k < PROFILE_NUMBERS {
-        let range = ranges[k];
+    for (k, range) in ranges.iter().enumerate() {
         let x = numbers[k];
         if (x < range.low) | (range.high < x) {
-            return k as u32 + 1;
+            return Some(k as u32 + 1);
         }
-        k += 1;
     }
-    0
+    None
 }
 
 // The distance from a point to a later one, in half clocks; 0 where they are out of order.
@@ -44,10 +41,7 @@ fn apart(from: Clocks, to: Clocks) -> HalfClocks
     requires { to.0 < 32768 }
     ensures { result.0 ≡ 2 * (to.0 - from.0) }
 {
-    if to.0 < from.0 {
-        return HalfClocks(0);
-    }
-    Clocks(to.0 - from.0).in_half_clocks()
+    Clocks(to.0.saturating_sub(from.0)).in_half_clocks()
 }
 
 // The distance between the latest and the earliest point (document 01's D).
@@ -118,15 +112,14 @@ fn is_true(p: Profile) -> bool
 }
 
 // Whether the profile may be used: 1, then 2.
-pub fn check(p: Profile) -> Verdict
+pub fn check(p: Profile) -> Result<(), Refusal>
     ensures { verdict_answer result ≡ profile_rule p }
 {
-    let which = lowest_unset(p);
-    if which != 0 {
-        return Verdict::Refused(Refusal::ProfileOutOfRange(which));
+    if let Some(which) = lowest_unset(p) {
+        return Err(Refusal::ProfileOutOfRange(which));
     }
     if is_true(p) {
-        return Verdict::Accepted;
+        return Ok(());
     }
-    Verdict::Refused(Refusal::ProfileInconsistent)
+    Err(Refusal::ProfileInconsistent)
 }

@@ -1,5 +1,6 @@
 -- How the index is gathered: the entries stored, in order, and those that the search from the present start on still
 -- adds, are the entries of the track. Rests on no axiom.
+use Rattle.std.specs.Prelude.{Result, Ok, Err}
 use Prim.Native.Nat.{ℕ, ◌+◌, ◌<◌, ◌≤◌}
 use mathlib.Core.Path.{◌≡◌, refl, sym, ap, ◌∙◌}
 use mathlib.Core.Bool.{true, false}
@@ -12,8 +13,6 @@ use lib.Seq.{append_snoc}
 use Rattle.refusal.specs.Table.{number_of, place_of}
 use Rattle.refusal.specs.Answer.{Answer, accepted, refused, verdict_answer}
 use Rattle.refusal.specs.declared.Refusal.{Refusal}
-use Rattle.refusal.specs.declared.Verdict.{Verdict}
-use Rattle.refusal.specs.declared.Verdict.TheVariants.{Refused}
 use Rattle.refusal.proofs.AnswerLaws.{number_is_not_zero}
 use Rattle.timing.specs.Profile.{profile_rule}
 use Rattle.timing.specs.declared.Profile.{Profile}
@@ -46,9 +45,9 @@ module _ (p : Profile) (ds : List ℕ) where
 
   -- a refusal of the profile decides
   pub profile_refuses
-      : (v : Verdict) (r : Refusal)
+      : (v : (Result (Unit {0}) Refusal)) (r : Refusal)
       → verdict_answer v ≡ profile_rule p
-      → v ≡ Refused r
+      → v ≡ Err r
       → (refused (number_of r) (place_of r) ≡ index_rule p ds) × (replicate 32 no_entry ≡ index_entries p ds)
   unfolding index_rule index_entries handed_back
   profile_refuses v r e q =

@@ -1,24 +1,23 @@
 -- The index of a track as it is handed back, also through the C interface: numbers alone. No lemmas here.
-use Rattle.std.specs.Prelude.{ℕ, List, map}
+use Rattle.std.specs.Prelude.{ℕ, List, map, Option, Some, None}
 use Rattle.lists.specs.YesNo.{as_number}
 use Rattle.refusal.specs.Answer.{Answer}
 use Rattle.entries.specs.declared.DataField.{DataField}
-use Rattle.entries.specs.declared.DataField.TheVariants.{Found, Missing}
 use Rattle.entries.specs.declared.Entry.{Entry}
 use Rattle.track.specs.declared.index.IndexEntry.{IndexEntry}
 use Rattle.track.specs.declared.index.TrackIndex.{TrackIndex}
 
-abbrev pub data_place_of : DataField → ℕ
-data_place_of (Found place holds) = place
-data_place_of Missing = 0
+abbrev pub data_place_of : Option DataField → ℕ
+data_place_of (Some field) = field.place
+data_place_of None = 0
 
-abbrev pub found_of : DataField → ℕ
-found_of (Found place holds) = 1
-found_of Missing = 0
+abbrev pub found_of : Option DataField → ℕ
+found_of (Some field) = 1
+found_of None = 0
 
-abbrev pub holds_of : DataField → ℕ
-holds_of (Found place holds) = as_number holds
-holds_of Missing = 0
+abbrev pub holds_of : Option DataField → ℕ
+holds_of (Some field) = as_number field.holds
+holds_of None = 0
 
 -- an entry with its data field as three numbers: without data all of them 0
 abbrev pub index_entry_of : Entry → IndexEntry

@@ -1,10 +1,9 @@
 -- Document 02, (iii), (x): the index of a track, from the entries that are on it. No lemmas here.
-use Rattle.std.specs.Prelude.{ℕ, ◌-◌, cond, List, ◌++◌, eqb, ltb, length, replicate}
+use Rattle.std.specs.Prelude.{ℕ, None, ◌-◌, cond, List, ◌++◌, eqb, ltb, length, replicate}
 use Rattle.refusal.specs.Answer.{Answer, accepted, refuse_if, first_refusal}
 use Rattle.timing.specs.Profile.{profile_rule}
 use Rattle.timing.specs.declared.Profile.{Profile}
 use Rattle.entries.specs.Entries.{entries_of}
-use Rattle.entries.specs.declared.DataField.TheVariants.{Missing}
 use Rattle.entries.specs.declared.Entry.{Entry}
 use Rattle.track.specs.Order.{in_order}
 
@@ -18,7 +17,7 @@ index_rule p ds = first_refusal (profile_rule p) (crowd_rule (entries_of p ds))
 
 -- an entry of zeros, without data
 abbrev pub no_entry : Entry
-no_entry = record { track = 0; side = 0; sector = 0; code = 0; place = 0; field = Missing }
+no_entry = record { track = 0; side = 0; sector = 0; code = 0; place = 0; field = None }
 
 -- 32 entries: those that there are, and blank ones after them
 unfoldable pub padded : List Entry → List Entry

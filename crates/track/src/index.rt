@@ -5,8 +5,8 @@ ghost use Rattle.track.specs.Index.{index_rule, index_entries};
 ghost use Rattle.track.specs.HandedBack.{index_entry_of, index_answer_of};
 
 use crate::order::goes_before;
-use entries::{DataField, Entry, Step, find_entry};
-use refusal::{Counted, Refusal, Verdict};
+use entries::{Entry, Step, find_entry};
+use refusal::{Refusal, Told};
 use timing::Profile;
 
 // Found and holds are 1 or 0; without data found, holds and data_place are 0.
@@ -46,31 +46,32 @@ const BLANK: IndexEntry = IndexEntry {
     holds: 0,
 };
 
-fn converted(entry: Entry) -> IndexEntry
-    ensures { result ≡ index_entry_of entry }
-{
-    let field = entry.field;
-    match field {
-        DataField::Found { place, holds } => IndexEntry {
-            id_place: entry.place as u64,
-            data_place: place as u64,
-            track: entry.track,
-            side: entry.side,
-            sector: entry.sector,
-            code: entry.code,
-            found: 1,
-            holds: holds as u8,
-        },
-        DataField::Missing => IndexEntry {
-            id_place: entry.place as u64,
-            data_place: 0,
-            track: entry.track,
-            side: entry.side,
-            sector: entry.sector,
-            code: entry.code,
-            found: 0,
-            holds: 0,
-        },
+impl From<Entry> for IndexEntry {
+    ghost from_gives = { λ entry handed. handed ≡ index_entry_of entry };
+
+    fn from(entry: Entry) -> IndexEntry {
+        match entry.field {
+            Some(data) => IndexEntry {
+                id_place: entry.place as u64,
+                data_place: data.place as u64,
+                track: entry.track,
+                side: entry.side,
+                sector: entry.sector,
+                code: entry.code,
+                found: 1,
+                holds: data.holds as u8,
+            },
+            None => IndexEntry {
+                id_place: entry.place as u64,
+                data_place: 0,
+                track: entry.track,
+                side: entry.side,
+                sector: entry.sector,
+                code: entry.code,
+                found: 0,
+                holds: 0,
+            },
+        }
     }
 }
 
@@ -83,17 +84,18 @@ pub fn index_track(p: Profile, intervals: &[u16]) -> TrackIndex
     let mut count: usize = 0;
     let mut start: usize = 0;
     let found = match timing::check(p) {
-        Verdict::Refused(refusal) => Counted::Refused(refusal),
-        Verdict::Accepted => 'search: loop {
+        Err(refusal) => Err(refusal),
+        Ok(()) => 'search: loop {
             match find_entry(p, intervals, start) {
-                Step::End => break 'search Counted::Count(count),
+                Step::End => break 'search Ok(count),
                 Step::Other { next } => start = next,
                 Step::Begins { entry, next } => {
                     if count == 32 {
                         entries = [BLANK; 32];
-                        break 'search Counted::Refused(Refusal::TooManySectors);
+                        break 'search Err(Refusal::TooManySectors);
                     }
-                    let new = converted(entry);
+                    let new = IndexEntry::from(entry);
+                    // no `for` over the places downwards, since the place at which it stops is used behind it
                     let mut at = count;
                     'slide: while 0 < at {
                         let last = entries[at - 1];
@@ -111,10 +113,11 @@ pub fn index_track(p: Profile, intervals: &[u16]) -> TrackIndex
             }
         },
     };
+    let told = Told::from(found);
     TrackIndex {
-        number: found.number(),
-        place: found.place(),
-        count: found.count() as u64,
+        number: told.number,
+        place: told.place,
+        count: told.count as u64,
         entries,
     }
 }

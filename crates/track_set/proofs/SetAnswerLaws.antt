@@ -2,18 +2,21 @@
 -- axiom.
 use Prim.Native.Nat.{ℕ, ◌+◌, ◌-◌, ◌≤◌, ◌<◌}
 use mathlib.Core.Path.{◌≡◌, refl, sym, ap, ◌∙◌}
-use mathlib.Core.Bool.{true, false, cond}
+use mathlib.Core.Bool.{Bool, true, false, cond}
 use mathlib.Core.List.{List, [], ◌∷◌, ◌++◌, map, flat_map}
 use native.Mathlib.Numerals.{add-one}
 use native.Mathlib.Omega.{arith}
-use borrow.Author.Tests.{eq-eqb, ne_eqb, le-ltb, lt-ltb, ltb-false}
+use borrow.Author.Tests.{eq-eqb, le-ltb, lt-ltb, ltb-false}
 use lib.Dec.{ltb}
 use lib.ListN.{length, get_or, drop, replicate, length-append, length-map, length-replicate, drop_of_length-le}
 use lib.Seq.{drop-cons}
 use Rattle.lists.specs.Filled.{stored_at}
 use Rattle.lists.proofs.StoreLaws.{stored_at_front_fills}
-use Rattle.refusal.specs.Answer.{accepted, refused}
-use Rattle.refusal.proofs.AnswerLaws.{first_refusal_accepts}
+use Rattle.refusal.specs.Table.{number_of, place_of}
+use Rattle.refusal.specs.Answer.{Answer, accepted, refused, refuse_if}
+use Rattle.refusal.specs.declared.Refusal.{Refusal}
+use Rattle.refusal.proofs.AnswerLaws.{number_is_not_zero, refusal_decides, first_refusal_accepts}
+use Rattle.refusal.proofs.AnswerLaws.{first_refusal_passes}
 use Rattle.timing.specs.Profile.{profile_rule}
 use Rattle.timing.specs.declared.Profile.{Profile}
 use Rattle.sets.specs.Set.{set_bytes}
@@ -134,16 +137,44 @@ module _ (p : Profile) (ds old : List ℕ) where
   abbrev Settles : MergeAnswer → List ℕ → Type 0
   Settles answer new = (answer ≡ track_answer p ds (length old)) × (new ≡ track_output p ds old)
 
+  profile_decides
+      : (r : Refusal) (room : ℕ)
+      → refused (number_of r) (place_of r) ≡ profile_rule p
+      → refused (number_of r) (place_of r) ≡ track_rule p ds room
+  unfolding index_rule track_rule
+  profile_decides r room e = refusal_decides r _ _ (refusal_decides r _ _ e)
+
+  pub profile_refuses
+      : (r : Refusal)
+      → refused (number_of r) (place_of r) ≡ profile_rule p
+      → Settles (record { answer = refused (number_of r) (place_of r); stored = 0 }) old
+  unfolding track_answer track_output
+  profile_refuses r e = rw (← profile_decides r (length old) e, number_is_not_zero r) (refl, refl)
+
+  -- under a true profile an index is refused as crowded
+  crowd_refuses
+      : (profile_rule p).number ≡ 0 → ((index_rule p ds).number ≡ 0 → ⊥) → index_rule p ds ≡ refused 15 0
+  unfolding index_rule crowd_rule
+  crowd_refuses fair some =
+      let rule = first_refusal_passes (profile_rule p) (crowd_rule (entries_of p ds)) fair in
+      rule ∙ by (ltb 32 (length (entries_of p ds))) (λ zero. some (ap (λ (a : Answer). a.number) rule ∙ zero))
+    where
+      by
+          : (t : Bool)
+          → ((refuse_if t 15 0 (accepted (length (entries_of p ds)))).number ≡ 0 → ⊥)
+          → refuse_if t 15 0 (accepted (length (entries_of p ds))) ≡ refused 15 0
+      by true refuses = refl
+      by false refuses = absurd (refuses refl)
+
   pub index_refuses
       : (index : TrackIndex)
       → index ≡ index_answer_of (index_rule p ds) (index_entries p ds)
+      → (profile_rule p).number ≡ 0
       → (index.number ≡ 0 → ⊥)
-      → Settles
-      (record { answer = record { number = index.number; place = index.place; count = index.count }; stored = 0 }) old
+      → Settles (record { answer = refused 15 0; stored = 0 }) old
   unfolding track_answer track_rule track_output
-  index_refuses index is some =
-      let refuses : (index_rule p ds).number ≡ 0 → ⊥ = λ e. some (ap (λ (i : TrackIndex). i.number) is ∙ e) in
-      rw (is, ne_eqb (index_rule p ds).number 0 refuses, ne_eqb (index_rule p ds).number 0 refuses) (refl, refl)
+  index_refuses index is fair some =
+      rw (crowd_refuses fair (λ e. some (ap (λ (i : TrackIndex). i.number) is ∙ e))) (refl, refl)
 
   module _ {entries : List IndexEntry} (list : Listed p ds entries) where
     abbrev bytes : List ℕ

@@ -2,12 +2,13 @@
 -- that are stored are those found. Rests on no axiom.
 use Prim.Native.Nat.{ℕ, zero, suc, ◌-◌, ◌≤◌}
 use mathlib.Core.Path.{◌≡◌, refl, ◌∙◌}
-use mathlib.Core.Bool.{Bool, true, false, cond, ◌&&◌}
+use mathlib.Core.Bool.{Bool, true, false, cond, not, ◌&&◌}
 use mathlib.Core.List.{List, [], ◌∷◌, ◌++◌, map, flat_map}
 use native.Mathlib.Omega.{arith}
 use borrow.Author.Tests.{leb-true, le-leb}
-use lib.Dec.{leb}
+use lib.Dec.{eqb, leb}
 use lib.ListN.{length, drop, replicate}
+use Rattle.std.specs.Prelude.{Option, Some, None}
 use Rattle.lists.specs.YesNo.{as_number}
 use Rattle.lists.specs.Place.{everywhere}
 use Rattle.lists.proofs.BoolLaws.{both}
@@ -18,7 +19,6 @@ use Rattle.entries.specs.FieldKinds.{field_of, is_id, data_bytes, is_data}
 use Rattle.entries.specs.Entries.{has_lock, lock_place, field_end, has_data, data_from, id_byte, entry_at, next_start}
 use Rattle.entries.specs.Entries.{entries_at, entries_by, entries_from, entries_of}
 use Rattle.entries.specs.declared.DataField.{DataField}
-use Rattle.entries.specs.declared.DataField.TheVariants.{Found, Missing}
 use Rattle.entries.specs.declared.Entry.{Entry}
 use Rattle.entries.proofs.SearchLaws.{lock_is_ahead}
 use Rattle.track.specs.Order.{in_order}
@@ -32,9 +32,9 @@ use Rattle.track_set.proofs.HandedLaws.{AllStand}
 module _ (p : Profile) (ds : List ℕ) where
   -- ---- what an entry says of its data is so
 
-  unfoldable data_stands : ℕ → DataField → Bool
-  data_stands code (Found place holds) = is_data p (drop place ds) code && leb place (length ds)
-  data_stands code Missing = true
+  unfoldable data_stands : ℕ → Option DataField → Bool
+  data_stands code (Some field) = is_data p (drop field.place ds) code && leb field.place (length ds)
+  data_stands code None = true
 
   unfoldable entry_stands : Entry → Bool
   entry_stands e = data_stands e.code e.field
@@ -46,7 +46,11 @@ module _ (p : Profile) (ds : List ℕ) where
       has_lock p ds start ≡ t
       → data_stands code
       (cond (t && is_data p (drop (lock_place p ds start) ds) code)
-      (Found (lock_place p ds start) (field_of p (drop (lock_place p ds start) ds) (data_bytes code)).holds) Missing)
+      (Some (record {
+        place = lock_place p ds start;
+        holds = (field_of p (drop (lock_place p ds start) ds) (data_bytes code)).holds;
+      }))
+      None)
       ≡ true) [
         | true ↦ λ lock.
             let ahead = lock_is_ahead p ds start lock in
@@ -54,8 +58,12 @@ module _ (p : Profile) (ds : List ℕ) where
             elim (is_data p (drop (lock_place p ds start) ds) code) as (λ u.
             is_data p (drop (lock_place p ds start) ds) code ≡ u
             → data_stands code
-            (cond u (Found (lock_place p ds start) (field_of p (drop (lock_place p ds start) ds) (data_bytes code)).holds)
-            Missing)
+            (cond u
+            (Some (record {
+              place = lock_place p ds start;
+              holds = (field_of p (drop (lock_place p ds start) ds) (data_bytes code)).holds;
+            }))
+            None)
             ≡ true) [
               | true ↦ λ is. rw (is, within)
               | false ↦ λ is. refl
@@ -93,21 +101,25 @@ module _ (p : Profile) (ds : List ℕ) where
   number_is_small true = omega arith
   number_is_small false = omega arith
 
+  number_tells : (t : Bool) → not (eqb (as_number t) 0) ≡ t
+  number_tells true = refl
+  number_tells false = refl
+
   handed_stands
-      : (e : Entry) (field : DataField)
+      : (e : Entry) (field : Option DataField)
       → e.field ≡ field
       → data_stands e.code field ≡ true
       → Stands p ds (index_entry_of e)
   unfolding data_stands
-  handed_stands e (Found place holds) is stands =
-      let (reads, within) = both (is_data p (drop place ds) e.code) (leb place (length ds)) stands in
+  handed_stands e (Some field) is stands =
+      let (reads, within) = both (is_data p (drop field.place ds) e.code) (leb field.place (length ds)) stands in
       record {
         one = rw is (omega arith);
-        sum = rw is (number_is_small holds);
+        sum = rw is (number_is_small field.holds);
         reads = λ some. rw is reads;
-        within = λ some. rw is (leb-true place (length ds) within);
+        within = λ some. rw is (leb-true field.place (length ds) within);
       }
-  handed_stands e Missing is stands =
+  handed_stands e None is stands =
       record {
         one = rw is (omega arith);
         sum = rw is (omega arith);
@@ -141,11 +153,10 @@ module _ (p : Profile) (ds : List ℕ) where
 
   -- ---- the sectors found
 
-  same_sectors : (e : Entry) (field : DataField) → e.field ≡ field → handed_sectors p ds (index_entry_of e) ≡ sectors_of p ds e
+  same_sectors : (e : Entry) (field : Option DataField) → e.field ≡ field → handed_sectors p ds (index_entry_of e) ≡ sectors_of p ds e
   unfolding handed_sectors sectors_of
-  same_sectors e (Found place true) is = rw is
-  same_sectors e (Found place false) is = rw is
-  same_sectors e Missing is = rw is
+  same_sectors e (Some field) is = rw (is, number_tells field.holds)
+  same_sectors e None is = rw is
 
   all_sectors : (es : List Entry) → flat_map (handed_sectors p ds) (map index_entry_of es) ≡ flat_map (sectors_of p ds) es
   unfolding flat_map

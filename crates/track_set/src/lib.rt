@@ -10,17 +10,9 @@ ghost use Rattle.track_set.specs.machine.Handed.{handed_sectors, Stands, size_of
 
 use fields::data::read_bytes;
 use refusal::Refusal;
+use sets::SetSize;
 use timing::Profile;
 use track::{IndexEntry, index_track};
-
-// Number and place of a refusal, 0 where there is none; how many sectors there are, and how many bytes are stored.
-#[derive(Clone, Copy)]
-pub struct TrackSet {
-    pub number: u32,
-    pub place: u32,
-    pub count: usize,
-    pub bytes: usize,
-}
 
 fn entry_size(entry: IndexEntry) -> usize
     ensures { result ≡ size_of entry }
@@ -53,50 +45,30 @@ fn store_entry(p: Profile, intervals: &[u16], entry: IndexEntry, at: usize, out:
     read_bytes(p, &intervals[place..], size + 6, 4, &mut out[data..end]);
 }
 
-// 1, 2, 15, 9. On acceptance the set fills the front of the output, in the index's order.
-pub fn read_track(p: Profile, intervals: &[u16], out: &mut [u8]) -> TrackSet
+// 1, 2, 15, 9; else the size of the set. On acceptance it fills the front of the output, in the index's order.
+pub fn read_track(p: Profile, intervals: &[u16], out: &mut [u8]) -> Result<SetSize, Refusal>
     ensures answer { track_set_answer result ≡ track_answer p intervals.now (length out.old) }
     ensures output { out.new ≡ track_output p intervals.now out.old }
 {
+    timing::check(p)?;
     let index = index_track(p, intervals);
+    // under a true profile nothing else refuses an index
     if index.number != 0 {
-        return TrackSet {
-            number: index.number,
-            place: index.place,
-            count: index.count as usize,
-            bytes: 0,
-        };
+        return Err(Refusal::TooManySectors);
     }
     let mut count: usize = 0;
     let mut bytes: usize = 0;
-    let mut k: usize = 0;
-    while k < 32 {
-        let entry = index.entries[k];
+    for entry in &index.entries[..] {
         count += entry.found as usize;
-        bytes += entry_size(entry);
-        k += 1;
+        bytes += entry_size(*entry);
     }
     if out.len() < bytes {
-        let full = Refusal::OutputTooShort;
-        return TrackSet {
-            number: full.number(),
-            place: full.place(),
-            count: 0,
-            bytes: 0,
-        };
+        return Err(Refusal::OutputTooShort);
     }
     let mut at: usize = 0;
-    let mut j: usize = 0;
-    while j < 32 {
-        let entry = index.entries[j];
-        store_entry(p, intervals, entry, at, out);
-        at += entry_size(entry);
-        j += 1;
+    for entry in &index.entries[..] {
+        store_entry(p, intervals, *entry, at, out);
+        at += entry_size(*entry);
     }
-    TrackSet {
-        number: 0,
-        place: 0,
-        count,
-        bytes,
-    }
+    Ok(SetSize { count, bytes })
 }

@@ -3,19 +3,13 @@
 
 mod table;
 
-ghost use Rattle.std.specs.Prelude.{◌≡◌, cond};
+ghost use Rattle.std.specs.Prelude.{◌≡◌};
 ghost use Rattle.words.specs.Words.{word_of, last_bit, code_words};
 ghost use Rattle.words.specs.machine.Spread.{spread_word};
 
+use half_cells::{WORD_A1, WORD_C2};
+use items::{MARK_A1, MARK_C2};
 pub use table::code_words;
-
-const MARK_A1: u16 = 0x1a1;
-
-const MARK_C2: u16 = 0x1c2;
-
-const WORD_A1: u16 = 0x4489;
-
-const WORD_C2: u16 = 0x5224;
 
 // The word of a written byte after the byte before, whose last bit is the previous bit.
 pub fn word_of(table: &[u16; 512], previous: u16, byte: u16) -> u16
@@ -42,12 +36,6 @@ fn spread_word(previous: u16, byte: u16) -> u16
     data | (clocks << 1)
 }
 
-fn either(test: bool, yes: u16, no: u16) -> u16
-    ensures { result ≡ cond test yes no }
-{
-    if test { yes } else { no }
-}
-
 // The same without the table, which is slow to copy where few words are asked for and large where all are. A mark's
 // word is chosen after the other is made: with no jump, so that the words of many bytes are made in vector
 // instructions.
@@ -55,5 +43,11 @@ pub fn made_word(previous: u16, w: u16) -> u16
     ensures { result ≡ word_of (last_bit previous) w }
 {
     let word = spread_word(previous % 2, w % 256);
-    either(w == MARK_A1, WORD_A1, either(w == MARK_C2, WORD_C2, word))
+    if w == MARK_A1 {
+        WORD_A1
+    } else if w == MARK_C2 {
+        WORD_C2
+    } else {
+        word
+    }
 }

@@ -1,6 +1,6 @@
 -- Machine, not meaning: the five numbers with windows that are in range, so that the profile's rule decides about the
 -- five alone.
-use Rattle.std.specs.Prelude.{ℕ, suc, cond}
+use Rattle.std.specs.Prelude.{ℕ, suc, cond, Option, Some, None}
 use Rattle.lists.specs.Place.{anywhere, lowest, passed}
 use Rattle.timing.specs.declared.Profile.{Profile}
 use Rattle.best.specs.Best.{unset_of}
@@ -20,6 +20,6 @@ trial_of w =
       rpt = record { 0 = 1 };
     }
 
--- the lowest place of one of the five out of range, or 0
-unfoldable pub lowest_unset_of : Writing → ℕ
-lowest_unset_of w = cond (anywhere passed (unset_of w)) (suc (lowest passed (unset_of w))) 0
+-- the lowest place of one of the five out of range, from 1
+unfoldable pub lowest_unset_of : Writing → Option ℕ
+lowest_unset_of w = cond (anywhere passed (unset_of w)) (Some (suc (lowest passed (unset_of w)))) None

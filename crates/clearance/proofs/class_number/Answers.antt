@@ -1,23 +1,24 @@
 -- Why `class_number` answers `class_with_clearance`: a refusal decides, and the class of an interval comes with its own
 -- clearance, under a profile that was accepted. Rests on no axiom.
+use Rattle.std.proofs.Common.{ℕ, rules}
 use Rattle.refusal.proofs.AnswerLaws.{first_refusal_accepts}
 use Rattle.timing.specs.Class.{class_rule}
 use Rattle.clearance.specs.Answers.{class_with_clearance}
 use Rattle.clearance.proofs.AnswerLaws.{refused_comes_without, counted_comes_with, count_accepts}
 use Rattle.clearance.proofs.class_number.Goals as goal
 
-pub of_interval-requires : goal.of_interval-requires
+pub of_interval-clearance-requires : goal.of_interval-clearance-requires
 unfolding class_rule
-of_interval-requires c =
-    (first_refusal_accepts _ _
-    (count_accepts c.class_number.ensures _ c.in-Count.is)).0
+of_interval-clearance-requires c =
+    (first_refusal_accepts _ _ (count_accepts c.class_number.ensures _ c.in_ok-read.was)).0
 
-pub returns-in-Refused : goal.returns-in-Refused
+pub returns-in_err-read : goal.returns-in_err-read
 unfolding class_with_clearance
-returns-in-Refused c = refused_comes_without c.class_number.ensures _ _ c.in-Refused.is
+returns-in_err-read c =
+    let refused = λ (e : ℕ). refused_comes_without c.class_number.ensures _ e c.in_err-read.was in
+    search (rules, refused)
 
-pub returns-in-Count : goal.returns-in-Count
+pub returns : goal.returns
 unfolding class_with_clearance
-returns-in-Count c =
-    rw c.of_interval.ensures
-    (counted_comes_with c.class_number.ensures _ _ c.in-Count.is)
+returns c =
+    rw c.of_interval-clearance.ensures (counted_comes_with c.class_number.ensures _ _ c.in_ok-read.was)

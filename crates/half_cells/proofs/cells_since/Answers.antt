@@ -8,12 +8,6 @@ use Rattle.half_cells.proofs.cells_since.Goals as goal
 power : (n : ℕ) → 1 * 2 ^ (n % 32) % 2 ^ 32 ≡ 2 ^ (n % 32)
 power n = shl_exact {a = 1} 1 (n % 32) 32 (omega arith) (omega arith) ∙ one-mul (2 ^ (n % 32))
 
-pub overflow_sub-below : goal.overflow_sub-below
-overflow_sub-below c = omega (arith, leading_le 32 c.args.gaps)
-
-pub overflow_sub-result : goal.overflow_sub-result
-overflow_sub-result c = rw (power _) (pow_pos _)
-
 pub returns : goal.returns
 unfolding cells_since
 returns c = rw power (ap ones (and_mask _ _))

@@ -5,11 +5,4 @@ use Rattle.half_cells.proofs.first_of_cells.Goals as goal
 
 pub returns : goal.returns
 unfolding first_of_cells
-returns c =
-    omega (
-      arith,
-      c.wrapping_sub_u32.ensures.value,
-      c.wrapping_add_u32.ensures.value,
-      c.wrapping_sub_u32.type_inv,
-      c.ranges.cells.fits,
-    )
+returns c = omega (arith, c.ranges.cells.fits)

@@ -6,13 +6,13 @@ use Rattle.limits.proofs.push.Goals as goal
 pub returns-then-at-lt10 : goal.returns-then-at-lt10
 returns-then-at-lt10 c =
     rw c.beyond-moved.ensures
-    (sym (pushed_one _ _ _ _ _ _ (sym c.search.ensures ∙ c.in-At.is)
+    (sym (pushed_one _ _ _ _ _ _ (sym c.search.ensures ∙ c.in-Some.is)
     c.if-at-lt10.true))
 
-pub returns-in-Nowhere : goal.returns-in-Nowhere
-returns-in-Nowhere c = sym (pushed_nothing _ _ _ _ (sym c.search.ensures ∙ c.in-Nowhere.is))
+pub returns-in-None : goal.returns-in-None
+returns-in-None c = sym (pushed_nothing _ _ _ _ (sym c.search.ensures ∙ c.in-None.is))
 
 pub returns-else-at-lt10 : goal.returns-else-at-lt10
 returns-else-at-lt10 c =
-    sym (pushed_over _ _ _ _ _ _ (sym c.search.ensures ∙ c.in-At.is)
+    sym (pushed_over _ _ _ _ _ _ (sym c.search.ensures ∙ c.in-Some.is)
     c.if-at-lt10.false)

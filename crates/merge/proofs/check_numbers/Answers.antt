@@ -9,17 +9,18 @@ use Rattle.merge.proofs.check_numbers.Goals as goal
 pub returns-then-count-gt32 : goal.returns-then-count-gt32
 returns-then-count-gt32 c =
     let pre = c.requires in
-    rw (lt-ltb 32 c.count_numbers-count.result (omega arith)) at
+    rw (lt-ltb 32 c.count_numbers-count.result (omega (arith, c.if-count-gt32.true))) at
     (numbers_decide _ _ _ _ _ _ pre.one pre.other c.count_numbers-count.ensures refl)
 
-pub returns-then-lowest-lt256 : goal.returns-then-lowest-lt256
-returns-then-lowest-lt256 c =
+pub returns-in-Some : goal.returns-in-Some
+returns-in-Some c =
     let pre = c.requires in
-    rw (le-ltb 32 _ c.if-count-gt32.false, lt-ltb _ _ c.if-lowest-lt256.true) at
-    (numbers_decide _ _ _ _ _ _ pre.one pre.other c.count_numbers-count.ensures c.lowest_at_odds-lowest.ensures)
+    let odds = c.in-Some.ensures in
+    rw (le-ltb 32 c.count_numbers-count.result (omega (arith, c.if-count-gt32.false)), lt-ltb _ _ odds.number) at
+    (numbers_decide _ _ _ _ _ _ pre.one pre.other c.count_numbers-count.ensures odds.lowest)
 
 pub returns : goal.returns
 returns c =
     let pre = c.requires in
-    rw (le-ltb 32 _ c.if-count-gt32.false, le-ltb _ _ c.if-lowest-lt256.false) at
-    (numbers_decide _ _ _ _ _ _ pre.one pre.other c.count_numbers-count.ensures c.lowest_at_odds-lowest.ensures)
+    rw (le-ltb 32 c.count_numbers-count.result (omega (arith, c.if-count-gt32.false))) at
+    (numbers_decide _ _ _ _ _ 256 pre.one pre.other c.count_numbers-count.ensures c.in_default.ensures.lowest)

@@ -1,6 +1,6 @@
 -- Machine, not meaning: laws tie it to Pace (`speed/proofs/CutOffLaws`). No lemmas here.
 -- Corrected numbers as the code has them: cut off at 65,535, which is wide under every profile.
-use Rattle.std.specs.Prelude.{ℕ, ◌*◌, ◌/◌, ◌≤◌, ◌<◌, min, ◌≡◌, List, [], ◌∷◌}
+use Rattle.std.specs.Prelude.{ℕ, ◌*◌, ◌≤◌, ◌<◌, min, ◌≡◌, List, [], ◌∷◌}
 use Rattle.lists.specs.Sum.{sum_of}
 use Rattle.pace.specs.Pace.{even_ones, odd_ones, corrected}
 use Rattle.pace.specs.declared.Pace.{Pace}

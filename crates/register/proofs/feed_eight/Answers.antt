@@ -8,9 +8,6 @@ use Rattle.register.proofs.feed_eight.Goals as goal
 low_bits : (n : ℕ) → n % 65536 < 65536
 low_bits n = omega arith
 
-pub overflow_cast-x : goal.overflow_cast-x
-overflow_cast-x c = record { fits = low_bits _ }
-
 pub returns : goal.returns
 returns c =
     let args = c.args in

@@ -1,4 +1,3 @@
-use Prim.Native.Nat.{◌-◌, ◌≤◌}
 use mathlib.Core.Path.{◌≡◌}
 use mathlib.Core.List.{◌++◌}
 use lib.ListN.{take, drop}
@@ -6,7 +5,4 @@ use Rattle.report.specs.Report.{add_reports, no_report}
 use Rattle.report.proofs.add_rows.Given as goal
 
 abbrev pub invariant-loop-k : goal.invariant-loop-k
-invariant-loop-k l = (l.k ≤ 5) × (l.rows ≡ take l.k (add_reports l.a l.b) ++ drop l.k no_report)
-
-abbrev pub decreases-loop-k : goal.decreases-loop-k
-decreases-loop-k l = 5 - l.k
+invariant-loop-k l = l.rows ≡ take l.k (add_reports l.a l.b) ++ drop l.k no_report

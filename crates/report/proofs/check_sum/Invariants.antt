@@ -1,4 +1,3 @@
-use Prim.Native.Nat.{◌-◌, ◌≤◌}
 use mathlib.Core.Path.{◌≡◌}
 use lib.ListN.{drop}
 use Rattle.lists.specs.Place.{anywhere}
@@ -8,7 +7,4 @@ use Rattle.report.proofs.check_sum.Given as goal
 
 abbrev pub invariant-loop-k : goal.invariant-loop-k
 invariant-loop-k l =
-    (l.k ≤ 5) × (anywhere is_overlarge (drop l.k (add_reports l.a l.b)) ≡ anywhere is_overlarge (add_reports l.a l.b))
-
-abbrev pub decreases-loop-k : goal.decreases-loop-k
-decreases-loop-k l = 5 - l.k
+    anywhere is_overlarge (drop l.k (add_reports l.a l.b)) ≡ anywhere is_overlarge (add_reports l.a l.b)

@@ -9,14 +9,14 @@ use Rattle.report.proofs.report_list.Goals as goal
 pub gather-requires : goal.gather-requires
 gather-requires c =
     reported_list_is_short _ _
-    (verdict_accepts _ _ c.check_list.ensures c.in-Accepted.is)
+    (verdict_accepts _ _ c.check_list.ensures c.in-Ok.is)
 
-pub returns-in-Refused : goal.returns-in-Refused
+pub returns-in-Err : goal.returns-in-Err
 unfolding reported
-returns-in-Refused c = refused_gives_zeros _ _ _ c.check_list.ensures _ c.in-Refused.is
+returns-in-Err c = refused_gives_zeros _ _ _ c.check_list.ensures _ c.in-Err.is
 
-pub returns-in-Accepted : goal.returns-in-Accepted
+pub returns-in-Ok : goal.returns-in-Ok
 unfolding reported
-returns-in-Accepted c =
+returns-in-Ok c =
     rw (c.gather.ensures, c.start.ensures, ← report_from_start _ _)
-    (accepted_gives_report _ _ _ c.check_list.ensures c.in-Accepted.is)
+    (accepted_gives_report _ _ _ c.check_list.ensures c.in-Ok.is)

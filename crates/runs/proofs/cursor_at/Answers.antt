@@ -7,20 +7,13 @@ use Rattle.timing.proofs.EdgeLaws.{either_ascends}
 use Rattle.runs.proofs.RunLaws.{known_if_sure, known_after}
 use Rattle.runs.proofs.cursor_at.Goals as goal
 
-pub last_sure-i-requires : goal.last_sure-i-requires
-last_sure-i-requires c =
+pub last_sure-sure-requires : goal.last_sure-sure-requires
+last_sure-sure-requires c =
     record {
       ascending = rw c.after-short.ensures (either_ascends _ true c.requires.p_value);
       ascending_2 = rw c.after-long.ensures (either_ascends _ false c.requires.p_value);
       from_in_bounds = c.requires.from_in_bounds;
     }
-
-pub loop-i-init : goal.loop-i-init
-loop-i-init c = (c.last_sure-i.ensures.low, λ p known. known)
-
--- no place is past what a place can be
-pub overflow_add-i : goal.overflow_add-i
-overflow_add-i c = omega (arith, c.ranges)
 
 pub loop-i-preserved : goal.loop-i-preserved
 loop-i-preserved c =
@@ -31,7 +24,7 @@ pub returns : goal.returns
 returns c =
     let looped = c.loop-i in
     let short = c.after-short.ensures in
-    let sure = rw (short, c.after-long.ensures) at c.last_sure-i.ensures in
+    let sure = rw (short, c.after-long.ensures) at c.last_sure-sure.ensures in
     let here : looped.i ≡ c.args.from = omega (arith, c.loop-i-test.false, looped.invariant.0) in
     let known = looped.invariant.1 c.args.p (rw short (known_if_sure _ _ _ _ c.requires.from_in_bounds sure)) in
     rw here at known

@@ -1,6 +1,6 @@
 -- Why `runs::next_two` finds the next of class 2: where the classing stands tells of the first whether it is,
 -- and behind one that is not the next goes by the bounds after any other. Rests on no axiom.
-use Prim.Native.Nat.{ℕ, ◌+◌, ◌-◌, ◌<◌}
+use Prim.Native.Nat.{ℕ, ◌-◌, ◌<◌}
 use mathlib.Core.Path.{◌≡◌, sym, ap, ◌∙◌}
 use mathlib.Core.Bool.{Bool, false}
 use mathlib.Core.List.{List}
@@ -29,40 +29,10 @@ tells_next p ds i none low high is e =
     ∙ ap (λ (cursor : Cursor). is_two (class_in cursor (get_or ds i 0))) (sym is)
     ∙ e
 
--- none before the loop
-none_here_2
-    : (c : goal.After-loop-i)
-    → let args = c.args in
-    NoTwos (classes_of args.p args.intervals.now) args.from (args.from + 1)
-none_here_2 c =
-    not_one_two _
-    (sym c.cursor_at-cursor.ensures.tells ∙ sym c.meets_two.ensures ∙ c.if-meets_two.false)
-
--- none before the loop
-none_here
-    : (c : goal.Then-meets_two-2)
-    → let args = c.args in
-    NoTwos (classes_of args.p args.intervals.now) args.from (args.from + 1)
-none_here c =
-    not_one_two _
-    (sym c.cursor_at-cursor.ensures.tells ∙ sym c.meets_two.ensures ∙ c.if-meets_two.false)
-
 pub meets_two-requires : goal.meets_two-requires
 meets_two-requires c =
     let known = c.cursor_at-cursor.ensures in
     rw known.is (either_ascends _ known.two c.requires.p_value)
-
-pub returns-then-meets_two : goal.returns-then-meets_two
-returns-then-meets_two c =
-    record {
-      low = omega arith;
-      high = omega (arith, c.requires.from_in_bounds);
-      none = no_twos_between;
-      here = λ h. sym c.cursor_at-cursor.ensures.tells ∙ sym c.meets_two.ensures ∙ c.if-meets_two.true;
-    }
-
-pub loop-i-init : goal.loop-i-init
-loop-i-init c = (omega arith, omega arith, λ p is none. none)
 
 pub meets_two-requires-in-loop-i : goal.meets_two-requires-in-loop-i
 meets_two-requires-in-loop-i c = rw c.after-long.ensures (either_ascends _ false c.requires.p_value)
@@ -70,7 +40,8 @@ meets_two-requires-in-loop-i c = rw c.after-long.ensures (either_ascends _ false
 pub returns-then-meets_two-2 : goal.returns-then-meets_two-2
 returns-then-meets_two-2 c =
     let inv = c.loop-i.invariant in
-    let so_far = inv.2 _ c.after-long.ensures (none_here c) in
+    let none = not_one_two _ (sym c.cursor_at-cursor.ensures.tells ∙ sym c.meets_two.ensures ∙ c.if-meets_two.false) in
+    let so_far = inv.2 _ c.after-long.ensures none in
     record {
       low = omega arith;
       high = inv.1;
@@ -79,10 +50,6 @@ returns-then-meets_two-2 c =
           tells_next _ _ _ so_far inv.0 (omega arith) c.after-long.ensures
           (sym c.meets_two-in-loop-i.ensures ∙ c.if-meets_two-2.true);
     }
-
--- no place is past what a place can be
-pub overflow_add-i-in-loop-i : goal.overflow_add-i-in-loop-i
-overflow_add-i-in-loop-i c = omega (arith, c.loop-i-test.true, c.well_formed)
 
 pub loop-i-preserved : goal.loop-i-preserved
 loop-i-preserved c =
@@ -95,13 +62,3 @@ loop-i-preserved c =
           (not_one_two _ (tells_next p _ _ so_far inv.0 (omega arith) is
           (sym c.meets_two-in-loop-i.ensures ∙ c.if-meets_two-2.false))),
     )
-
-pub returns : goal.returns
-returns c =
-    let inv = c.loop-i.invariant in
-    record {
-      low = omega arith;
-      high = inv.1;
-      none = inv.2 _ c.after-long.ensures (none_here_2 c);
-      here = λ h. absurd (omega (arith, h, c.loop-i-test.false));
-    }

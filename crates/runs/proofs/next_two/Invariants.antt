@@ -1,4 +1,4 @@
-use Prim.Native.Nat.{◌-◌, ◌<◌, ◌≤◌}
+use Prim.Native.Nat.{◌<◌, ◌≤◌}
 use mathlib.Core.Path.{◌≡◌}
 use mathlib.Core.Bool.{false}
 use lib.ListN.{length}
@@ -15,6 +15,3 @@ invariant-loop-i l =
     → l.long ≡ cursor_of p false
     → NoTwos (classes_of p l.intervals) l.from l.initial.i
     → NoTwos (classes_of p l.intervals) l.from l.i)
-
-abbrev pub decreases-loop-i : goal.decreases-loop-i
-decreases-loop-i l = length l.intervals - l.i

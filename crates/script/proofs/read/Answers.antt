@@ -11,7 +11,7 @@ use Rattle.refusal.specs.Answer.{counted_answer}
 use Rattle.text.specs.Ascii.{line_feed}
 use Rattle.text.specs.Pieces.{up_to}
 use Rattle.script.proofs.ScriptLaws.{long_input_is_refused, first_line_ends_in_text, no_line_feed_is_refused}
-use Rattle.script.proofs.ScriptLaws.{no_profile_is_refused, script_refused, script_of_lines}
+use Rattle.script.proofs.ScriptLaws.{no_profile_is_refused, script_refused, script_of_lines, handed_on}
 use Rattle.script.proofs.read.Goals as goal
 
 -- the first line ends in a line feed
@@ -43,19 +43,20 @@ overflow_add-end c = omega (arith, line_found _ _ c.if-text-gt-INPUT_BYTES.false
 pub store_items-requires : goal.store_items-requires
 store_items-requires c = omega (arith, line_found _ _ c.if-text-gt-INPUT_BYTES.false c.find-end.ensures c.if-end-text.false, c.if-text-gt-INPUT_BYTES.false)
 
-pub returns-in-Faulty : goal.returns-in-Faulty
-returns-in-Faulty c =
+pub returns-in-None : goal.returns-in-None
+returns-in-None c =
     script_refused (no_profile_is_refused _ _ c.if-text-gt-INPUT_BYTES.false c.find-end.ensures
-    (line_found _ _ c.if-text-gt-INPUT_BYTES.false c.find-end.ensures c.if-end-text.false) (sym c.read_profile.ensures ∙ c.in-Faulty.is))
+    (line_found _ _ c.if-text-gt-INPUT_BYTES.false c.find-end.ensures c.if-end-text.false) (sym c.read_profile.ensures ∙ c.in-None.is))
 
-pub returns-in-Refused : goal.returns-in-Refused
-returns-in-Refused c =
+pub returns-in_err-count-in-Some : goal.returns-in_err-count-in-Some
+returns-in_err-count-in-Some c =
+    let told = handed_on c.in-Some.profile _ _ c.from_residual.ensures.1 in
     script_of_lines _ _ c.if-text-gt-INPUT_BYTES.false c.find-end.ensures (line_found _ _ c.if-text-gt-INPUT_BYTES.false c.find-end.ensures c.if-end-text.false)
-    (sym c.read_profile.ensures ∙ c.in-Given.is) c.store_items.ensures
-    (sym (ap counted_answer c.in-Refused.is)) refl
+    (sym c.read_profile.ensures ∙ c.in-Some.is) c.store_items.ensures
+    (told.0 ∙ sym (ap counted_answer c.in_err-count-in-Some.was)) told.1
 
-pub returns-in-Count : goal.returns-in-Count
-returns-in-Count c =
+pub returns-in_ok-count-in-Some : goal.returns-in_ok-count-in-Some
+returns-in_ok-count-in-Some c =
     script_of_lines _ _ c.if-text-gt-INPUT_BYTES.false c.find-end.ensures (line_found _ _ c.if-text-gt-INPUT_BYTES.false c.find-end.ensures c.if-end-text.false)
-    (sym c.read_profile.ensures ∙ c.in-Given.is) c.store_items.ensures
-    (sym (ap counted_answer c.in-Count.is)) refl
+    (sym c.read_profile.ensures ∙ c.in-Some.is) c.store_items.ensures
+    (sym (ap counted_answer c.in_ok-count-in-Some.was)) refl

@@ -1,4 +1,3 @@
-use Prim.Native.Nat.{◌-◌, ◌≤◌}
 use mathlib.Core.Path.{◌≡◌}
 use lib.ListN.{length, take}
 use Rattle.lists.specs.Filled.{stored_at}
@@ -6,7 +5,4 @@ use Rattle.sectors.proofs.put_data.Given as goal
 
 abbrev pub invariant-loop-k : goal.invariant-loop-k
 invariant-loop-k l =
-    (l.k ≤ length l.bytes) × (l.out ≡ stored_at l.initial.out l.at (take l.k l.bytes)) × (length l.out ≡ length l.initial.out)
-
-abbrev pub decreases-loop-k : goal.decreases-loop-k
-decreases-loop-k l = length l.bytes - l.k
+    (l.out ≡ stored_at l.initial.out l.at (take l.k l.bytes)) × (length l.out ≡ length l.initial.out)

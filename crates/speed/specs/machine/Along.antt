@@ -1,8 +1,8 @@
 -- Machine, not meaning: laws tie it to the field reader's (`proofs/AlongLaws`). No lemmas here.
 -- How far the pass over corrected numbers came, block by block.
+use Rattle.std.specs.Prelude.{Ok}
 use Rattle.std.specs.Prelude.{ℕ, ◌-◌, ◌%◌, ◌≤◌, ◌<◌, ◌≡◌, List, map, length, take}
 use Rattle.refusal.specs.Answer.{Answer, verdict_answer, first_refusal}
-use Rattle.refusal.specs.declared.Verdict.TheVariants.{Accepted}
 use Rattle.timing.specs.Class.{at_start, classes_from, classes_of, cursor_after}
 use Rattle.timing.specs.declared.Profile.{Profile}
 use Rattle.timing.specs.declared.cursor.Cursor.{Cursor}
@@ -24,7 +24,7 @@ abbrev pub unseen : Profile → Seen
 unseen p = record { extremes = none_met; cursor = at_start p }
 
 unfoldable pub at_onset : Profile → Along
-at_onset p = record { at = at_first p; check = fresh_check; edges = Accepted; seen = unseen p }
+at_onset p = record { at = at_first p; check = fresh_check; edges = (Ok tt); seen = unseen p }
 
 -- the first interval that is no cell, in all before or in some more
 abbrev pub edges_after : Answer → Cursor → ℕ → List ℕ → Answer

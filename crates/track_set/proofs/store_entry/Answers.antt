@@ -75,24 +75,6 @@ bounds-out-at-3 c =
     writes_keep c.args.out.now c.args.at c.args.entry.sector c.args.entry.code c.args.entry.holds in
     omega (arith, room, second)
 
-pub offset_bounds-intervals-place : goal.offset_bounds-intervals-place
-offset_bounds-intervals-place c =
-    let (room, small, within) =
-    fits c.args.at _ (length c.args.out.now) c.requires.stands c.if-entry-eq0.false c.sector_size-size.ensures in
-    omega (arith, within, c.well_formed)
-
-pub slice_bounds-read_bytes-count : goal.slice_bounds-read_bytes-count
-slice_bounds-read_bytes-count c =
-    let (room, small, within) =
-    fits c.args.at _ (length c.args.out.now) c.requires.stands c.if-entry-eq0.false c.sector_size-size.ensures in
-    within
-
-pub slice_bounds-read_bytes-start : goal.slice_bounds-read_bytes-start
-slice_bounds-read_bytes-start c =
-    let (room, small, within) =
-    fits c.args.at _ (length c.args.out.now) c.requires.stands c.if-entry-eq0.false c.sector_size-size.ensures in
-    within
-
 pub overflow_add-size : goal.overflow_add-size
 overflow_add-size c =
     let (room, small, within) =
@@ -134,6 +116,3 @@ returns c =
     _ _ c.requires.stands.0 c.if-entry-eq0.false c.sector_size-size.ensures room
     (as_long args.out.now args.at c.sector_size-size.result _ _ _ room)
     (part_to_end args.intervals.now args.entry.data_place) c.read_bytes.ensures
-
-pub shape_of-out : goal.shape_of-out
-shape_of-out c = ap length (returns c) ∙ stored_length _ _ _

@@ -1,4 +1,3 @@
-use Prim.Native.Nat.{◌-◌, ◌≤◌}
 use mathlib.Core.Path.{◌≡◌}
 use mathlib.Core.List.{map}
 use lib.ListN.{take, replicate}
@@ -7,8 +6,4 @@ use Rattle.answers.specs.Cards.{limit_numbers, no_limit}
 use Rattle.answers.proofs.card.converted.Given as goal
 
 abbrev pub invariant-loop-k : goal.invariant-loop-k
-invariant-loop-k l =
-    (l.k ≤ l.count) × (l.made ≡ stored_at (replicate 10 no_limit) 0 (map limit_numbers (take l.k l.limits)))
-
-abbrev pub decreases-loop-k : goal.decreases-loop-k
-decreases-loop-k l = l.count - l.k
+invariant-loop-k l = l.made ≡ stored_at (replicate 10 no_limit) 0 (map limit_numbers (take l.k l.limits))

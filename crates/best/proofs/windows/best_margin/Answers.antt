@@ -31,4 +31,4 @@ overflow_sub-w-4 c = let h = below _ _ c.requires.w_value c.shifts_of-s.ensures 
 
 pub returns : goal.returns
 unfolding best_margin
-returns c = rw (c.least.ensures, c.shifts_of-s.ensures)
+returns c = rw (c.min.ensures, c.shifts_of-s.ensures)

@@ -3,12 +3,12 @@ use Rattle.std.proofs.Common.{refl, add-one, drop_of_length-le, drop-cons}
 use Rattle.clearance.specs.machine.Nearest.{met_with, alike_from}
 use Rattle.clearance.proofs.blocks.extremes_alike.Goals as goal
 
-pub loop-k-init : goal.loop-k-init
-loop-k-init c = refl
+pub loop-interval-init : goal.loop-interval-init
+loop-interval-init c = refl
 
-pub loop-k-preserved : goal.loop-k-preserved
+pub loop-interval-preserved : goal.loop-interval-preserved
 unfolding alike_from met_with
-loop-k-preserved c =
+loop-interval-preserved c =
     let ds = c.args.intervals.now in
     rw (
       c.last-below.ensures,
@@ -18,10 +18,11 @@ loop-k-preserved c =
       c.last-longest.ensures,
       c.first-shortest.ensures,
       add-one,
-    ) (rw (drop-cons ds c.loop-k.k 0 c.loop-k-test.true) at c.loop-k.invariant)
+    ) (rw (drop-cons ds c.loop-interval.interval-index 0 c.loop-interval-test.true) at c.loop-interval.invariant)
 
 pub returns : goal.returns
 unfolding alike_from
 returns c =
     let ds = c.args.intervals.now in
-    rw (drop_of_length-le ds {i = c.loop-k.k} c.loop-k-test.false) at c.loop-k.invariant
+    let k = c.loop-interval.interval-index in
+    rw (drop_of_length-le ds {i = k} c.loop-interval-test.false) at c.loop-interval.invariant

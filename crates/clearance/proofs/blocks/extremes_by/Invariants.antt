@@ -1,4 +1,4 @@
-use Rattle.std.proofs.Common.{◌≡◌, ◌-◌, length, drop}
+use Rattle.std.proofs.Common.{◌≡◌, drop}
 use Rattle.clearance.specs.machine.Masks.{masked_from}
 use Rattle.clearance.proofs.blocks.extremes_by.Given as goal
 
@@ -13,6 +13,3 @@ invariant-loop-k l =
       below = l.initial.below;
     }) l.short l.long
     l.intervals l.masks
-
-abbrev pub decreases-loop-k : goal.decreases-loop-k
-decreases-loop-k l = length l.intervals - l.k

@@ -19,5 +19,4 @@ borrows a b r small narrow fits wraps =
 
 pub returns : goal.returns
 returns c =
-    borrows c.args.a c.args.b _ (omega arith) (omega arith) (omega arith)
-    c.wrapping_sub_u32.ensures.value
+    borrows c.args.a c.args.b _ (omega arith) (omega arith) (omega arith) (omega arith)

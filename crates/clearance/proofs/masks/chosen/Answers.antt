@@ -1,6 +1,6 @@
 -- Why `masks::chosen` chooses: a mask of all ones leaves the whole way from one bound to the other, and 0 none of it.
 -- Rests on no axiom.
-use Rattle.std.proofs.Common.{◌≡◌, ℕ, ◌+◌, ◌%◌, ◌<◌, Bool, true, false, cond, sym, ap, arith}
+use Rattle.std.proofs.Common.{◌≡◌, ℕ, ◌+◌, ◌%◌, ◌<◌, Bool, true, false, cond, refl, sym, ap, arith}
 use lib.Bits.{bit_and, and_mask}
 use Rattle.timing.specs.declared.HalfClocks.{HalfClocks}
 use Rattle.clearance.specs.machine.Masks.{mask_of, is_ones}
@@ -28,4 +28,4 @@ pub returns : goal.returns
 returns c =
     let args = c.args in
     goes_over (is_ones args.mask) _ _ _ args.short args.long c.requires (omega arith) (omega arith) (omega arith)
-    c.wrapping_sub_u16-change.ensures.value c.wrapping_add_u16.ensures.value
+    (omega arith) refl

@@ -7,13 +7,13 @@ use Rattle.clearance.specs.machine.Masks.{mask_in}
 use Rattle.clearance.proofs.masks.fill_alike.Goals as goal
 
 pub loop-k-init : goal.loop-k-init
-loop-k-init c = (omega arith, refl, refl)
+loop-k-init c = (refl, refl)
 
 pub meets_two-requires : goal.meets_two-requires
 meets_two-requires c = c.requires.ascending
 
 pub bounds-masks-k : goal.bounds-masks-k
-bounds-masks-k c = omega (arith, c.loop-k-test.true, c.loop-k.invariant.1, c.requires.masks_len)
+bounds-masks-k c = omega (arith, c.loop-k-test.true, c.loop-k.invariant.0, c.requires.masks_len)
 
 pub loop-k-preserved : goal.loop-k-preserved
 unfolding mask_in
@@ -22,18 +22,17 @@ loop-k-preserved c =
     let more = c.loop-k-test.true in
     let args = c.args in
     rw (c.mask_of.ensures, c.meets_two.ensures, add-one) (
-      more,
-      length-set {A = ℕ} c.loop-k.masks c.loop-k.k _ ∙ inv.1,
+      length-set {A = ℕ} c.loop-k.masks c.loop-k.k _ ∙ inv.0,
       stored_next _ _ _ _ _ _ (sym (stored_one _ _ _)) (sym (add-one _))
-          ∙ rw (drop-cons args.intervals.now c.loop-k.k 0 more) at inv.2,
+          ∙ rw (drop-cons args.intervals.now c.loop-k.k 0 more) at inv.1,
     )
 
 pub shape_of-masks : goal.shape_of-masks
-shape_of-masks c = c.loop-k.invariant.1
+shape_of-masks c = c.loop-k.invariant.0
 
 pub returns : goal.returns
 returns c =
-    let (within, same, stored) = c.loop-k.invariant in
+    let (same, stored) = c.loop-k.invariant in
     let ds = c.args.intervals.now in
     let none = drop_of_length-le ds {i = c.loop-k.k} c.loop-k-test.false in
     let all = map (mask_in c.args.cursor) ds in

@@ -1,13 +1,9 @@
-use Rattle.std.proofs.Common.{◌≡◌, ◌-◌, ◌≤◌, map, length, drop}
+use Rattle.std.proofs.Common.{◌≡◌, map, length, drop}
 use Rattle.lists.specs.Filled.{stored_at}
 use Rattle.clearance.specs.machine.Masks.{mask_in}
 use Rattle.clearance.proofs.masks.fill_alike.Given as goal
 
 abbrev pub invariant-loop-k : goal.invariant-loop-k
 invariant-loop-k l =
-    (l.k ≤ length l.intervals)
-    × (length l.masks ≡ length l.initial.masks)
+    (length l.masks ≡ length l.initial.masks)
     × (stored_at l.masks l.k (map (mask_in l.cursor) (drop l.k l.intervals)) ≡ stored_at l.initial.masks 0 (map (mask_in l.cursor) l.intervals))
-
-abbrev pub decreases-loop-k : goal.decreases-loop-k
-decreases-loop-k l = length l.intervals - l.k

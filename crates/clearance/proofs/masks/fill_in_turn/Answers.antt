@@ -8,13 +8,13 @@ use Rattle.clearance.proofs.MaskLaws.{mask_in_is_mask, behind_mask, masks_none, 
 use Rattle.clearance.proofs.masks.fill_in_turn.Goals as goal
 
 pub loop-k-init : goal.loop-k-init
-loop-k-init c = (omega arith, refl, c.requires.ascending, refl)
+loop-k-init c = (refl, c.requires.ascending, refl)
 
 pub mask_in-mask-requires : goal.mask_in-mask-requires
-mask_in-mask-requires c = c.loop-k.invariant.2
+mask_in-mask-requires c = c.loop-k.invariant.1
 
 pub bounds-masks-k : goal.bounds-masks-k
-bounds-masks-k c = omega (arith, c.loop-k-test.true, c.loop-k.invariant.1, c.requires.masks_len)
+bounds-masks-k c = omega (arith, c.loop-k-test.true, c.loop-k.invariant.0, c.requires.masks_len)
 
 pub behind_mask-cursor-requires : goal.behind_mask-cursor-requires
 behind_mask-cursor-requires c = rw c.mask_in-mask.ensures (mask_in_is_mask _ _)
@@ -25,18 +25,17 @@ loop-k-preserved c =
     let more = c.loop-k-test.true in
     let cursor = c.loop-k.cursor in
     rw (c.behind_mask-cursor.ensures, c.mask_in-mask.ensures, behind_mask, add-one) (
-      more,
-      length-set {A = ℕ} c.loop-k.masks c.loop-k.k _ ∙ inv.1,
-      ascending_past cursor _ inv.2,
-      stored_next _ _ _ _ _ _ (sym (stored_one _ _ _)) (sym (add-one _)) ∙ rw (masks_here cursor _ _ more) at inv.3,
+      length-set {A = ℕ} c.loop-k.masks c.loop-k.k _ ∙ inv.0,
+      ascending_past cursor _ inv.1,
+      stored_next _ _ _ _ _ _ (sym (stored_one _ _ _)) (sym (add-one _)) ∙ rw (masks_here cursor _ _ more) at inv.2,
     )
 
 pub shape_of-masks : goal.shape_of-masks
-shape_of-masks c = c.loop-k.invariant.1
+shape_of-masks c = c.loop-k.invariant.0
 
 pub returns : goal.returns
 returns c =
-    let (within, same, ascends, stored) = c.loop-k.invariant in
+    let (same, ascends, stored) = c.loop-k.invariant in
     let ds = c.args.intervals.now in
     let none = drop_of_length-le ds {i = c.loop-k.k} c.loop-k-test.false in
     let all = masks_from c.args.start ds in

@@ -1,4 +1,4 @@
-use Rattle.std.proofs.Common.{◌≡◌, ◌-◌, ◌≤◌, length, drop}
+use Rattle.std.proofs.Common.{◌≡◌, length, drop}
 use Rattle.lists.specs.Filled.{stored_at}
 use Rattle.timing.specs.Class.{Ascending}
 use Rattle.clearance.specs.machine.Masks.{masks_from}
@@ -6,10 +6,6 @@ use Rattle.clearance.proofs.masks.fill_in_turn.Given as goal
 
 abbrev pub invariant-loop-k : goal.invariant-loop-k
 invariant-loop-k l =
-    (l.k ≤ length l.intervals)
-    × (length l.masks ≡ length l.initial.masks)
+    (length l.masks ≡ length l.initial.masks)
     × Ascending l.cursor
     × (stored_at l.masks l.k (masks_from l.cursor (drop l.k l.intervals)) ≡ stored_at l.initial.masks 0 (masks_from l.initial.cursor l.intervals))
-
-abbrev pub decreases-loop-k : goal.decreases-loop-k
-decreases-loop-k l = length l.intervals - l.k

@@ -8,5 +8,5 @@ pub returns : goal.returns
 unfolding mask_in
 returns c =
     c.below.ensures
-    ∙ ap mask_of (two_by_difference _ _ _ c.requires c.wrapping_sub_u16-past.ensures.value
+    ∙ ap mask_of (two_by_difference _ _ _ c.requires (omega arith)
     (omega (arith, c.well_formed)) (omega arith))

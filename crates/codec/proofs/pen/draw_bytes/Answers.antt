@@ -1,7 +1,7 @@
 -- Why `codec::pen::draw_bytes` draws all bytes: each turn draws one more, and the rest makes the whole. Rests on no
 -- axiom.
 use Prim.Native.Nat.{ℕ, ◌+◌, ◌≤◌, ◌<◌}
-use mathlib.Core.Path.{◌≡◌, refl, sym, ap, ◌∙◌}
+use mathlib.Core.Path.{◌≡◌, sym, ap, ◌∙◌}
 use mathlib.Core.List.{List}
 use native.Mathlib.Omega.{arith}
 use lib.ListN.{length, get_or, drop, drop_of_length-le}
@@ -34,21 +34,12 @@ module _ {table bytes : List ℕ} {s₀ s : Writing} {k : ℕ} (whole : Whole ta
         ap (λ (x : Writing). x.pen.cells) a_byte_more.same in
         omega (arith, same_length)
 
-pub loop-k-init : goal.loop-k-init
-loop-k-init c = (omega arith, record { same = refl })
-
 pub draw_byte-pen-requires : goal.draw_byte-pen-requires
-draw_byte-pen-requires c = fits c.loop-k.invariant.1 c.loop-k-test.true c.requires
+draw_byte-pen-requires c = fits c.loop-byte.invariant c.loop-byte-test.true c.requires
 
-pub loop-k-preserved : goal.loop-k-preserved
-loop-k-preserved c =
-    let head = c.loop-k in (
-      omega (arith, c.loop-k-test.true),
-      rw c.draw_byte-pen.ensures (a_byte_more head.invariant.1 c.loop-k-test.true),
-    )
-
-pub shape_of-out : goal.shape_of-out
-shape_of-out c = same_length c.loop-k.invariant.1
+pub loop-byte-preserved : goal.loop-byte-preserved
+loop-byte-preserved c =
+    rw c.draw_byte-pen.ensures (a_byte_more c.loop-byte.invariant c.loop-byte-test.true)
 
 pub returns : goal.returns
-returns c = at_end c.loop-k.invariant.1 c.loop-k-test.false
+returns c = at_end c.loop-byte.invariant c.loop-byte-test.false

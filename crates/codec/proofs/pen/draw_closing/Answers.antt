@@ -9,38 +9,25 @@ use Rattle.codec.proofs.PenLaws.{entered-length}
 use borrow.Author.Rules.{rules}
 use Rattle.codec.proofs.pen.draw_closing.Goals as goal
 
-abbrev start : (c : goal.After-out-2-1) → Drawing
-start c = drawing c.args.pen.cells c.args.out.now
-
-abbrev window : (c : goal.After-out-2-1) → ℕ
-window c = first_window c.args.pen.previous 0
-
-abbrev window_2 : (c : goal.After-enter-arg-1) → ℕ
-window_2 c = first_window c.args.pen.previous 0
-
 -- no bit is 1
-as_window : (c : goal.After-enter-arg-1) → c.args.pen.previous % 16 * 4 ≡ (window_2 c)
-as_window c = omega arith
-
--- no bit is 1
-as_window_2 : (c : goal.After-out-2-1) → c.args.pen.previous % 16 * 4 ≡ (window c)
-as_window_2 c = omega arith
+as_window : (previous : ℕ) → previous % 16 * 4 ≡ first_window previous 0
+as_window previous = omega arith
 
 pub enter-at-requires : goal.enter-at-requires
 unfolding closed
 enter-at-requires c =
-    record {
-      window_bound = rw (as_window c) (omega arith);
-      window_in_bounds = rw (as_window c) (omega (arith, c.requires));
-    }
+    let window = as_window c.args.pen.previous in
+    record { window_bound = rw window (omega arith); window_in_bounds = rw window (omega (arith, c.requires)) }
 
 pub bounds-out-at : goal.bounds-out-at
 unfolding closed
 bounds-out-at c =
-    let e = rw (as_window_2 c) at c.enter-at.ensures in
+    let e = rw (as_window c.args.pen.previous) at c.enter-at.ensures in
+    let start = drawing c.args.pen.cells c.args.out.now in
     let cells = ap (λ (d : Drawing). d.cells) e in
     let same =
-    ap (λ (d : Drawing). length d.out) e ∙ entered-length c.args.table.now (start c) (window c) in
+    ap (λ (d : Drawing). length d.out) e
+    ∙ entered-length c.args.table.now start (first_window c.args.pen.previous 0) in
     omega (arith, c.requires)
 
 pub offset_bounds-out-at : goal.offset_bounds-out-at
@@ -52,6 +39,6 @@ overflow_add-result c = let inside = bounds-out-at c in search rules
 pub returns : goal.returns
 unfolding closed
 returns c =
-    let e = rw (as_window_2 c) at c.enter-at.ensures in
+    let e = rw (as_window c.args.pen.previous) at c.enter-at.ensures in
     ap (λ (d : Drawing). drawing (d.cells + 1)
     (set d.out d.cells (get_or c.args.table.now (c.args.pen.previous % 4 * 32) 0))) e

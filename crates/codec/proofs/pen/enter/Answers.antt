@@ -1,15 +1,9 @@
 -- Why `codec::pen::enter` enters a byte: at the front of a list the window's last length alone is stored, and else the
 -- window is laid. Rests on no axiom.
 use mathlib.Core.Path.{refl, sym, ◌∙◌}
-use native.Mathlib.Omega.{arith}
 use Rattle.codec.specs.machine.Pen.{drawing, laid, entered}
-use Rattle.codec.proofs.PenLaws.{entered_moves_on, entered_later}
+use Rattle.codec.proofs.PenLaws.{entered_later}
 use Rattle.codec.proofs.pen.enter.Goals as goal
-
-pub bounds-out-0 : goal.bounds-out-0
-bounds-out-0 c =
-    let d = drawing c.args.at c.args.out.now in
-    omega (arith, entered_moves_on c.args.table.now d c.args.window, c.requires.window_in_bounds)
 
 pub returns-then-at-eq0 : goal.returns-then-at-eq0
 unfolding entered

@@ -3,7 +3,6 @@
 use Prim.Native.Nat.{ℕ}
 use mathlib.Core.Path.{◌≡◌, refl}
 use mathlib.Core.List.{List, [], ◌∷◌}
-use native.Mathlib.Omega.{arith}
 use Rattle.lists.specs.Table.{tabulated}
 use Rattle.timing.specs.declared.Profile.{Profile}
 use Rattle.lengths.specs.Neighbours.{between}
@@ -49,42 +48,6 @@ module _ (p : Profile) where
       → listed s2s s2l s3s s3l s4s s4l l2s l2l l3s l3l l4s l4l ≡ window_table p
   made s2s s2l s3s s3l s4s s4l l2s l2l l3s l3l l4s l4l e0 e1 e2 e3 e4 e5 e6 e7 e8 e9 e10 e11 =
       rw (e0, e1, e2, e3, e4, e5, e6, e7, e8, e9, e10, e11) all_are_listed
-
-pub length_between-s2s-requires : goal.length_between-s2s-requires
-length_between-s2s-requires c = record { p_value = c.requires; zeros_bound = omega arith }
-
-pub length_between-s2l-requires : goal.length_between-s2l-requires
-length_between-s2l-requires c = record { p_value = c.requires; zeros_bound = omega arith }
-
-pub length_between-s3s-requires : goal.length_between-s3s-requires
-length_between-s3s-requires c = record { p_value = c.requires; zeros_bound = omega arith }
-
-pub length_between-s3l-requires : goal.length_between-s3l-requires
-length_between-s3l-requires c = record { p_value = c.requires; zeros_bound = omega arith }
-
-pub length_between-s4s-requires : goal.length_between-s4s-requires
-length_between-s4s-requires c = record { p_value = c.requires; zeros_bound = omega arith }
-
-pub length_between-s4l-requires : goal.length_between-s4l-requires
-length_between-s4l-requires c = record { p_value = c.requires; zeros_bound = omega arith }
-
-pub length_between-l2s-requires : goal.length_between-l2s-requires
-length_between-l2s-requires c = record { p_value = c.requires; zeros_bound = omega arith }
-
-pub length_between-l2l-requires : goal.length_between-l2l-requires
-length_between-l2l-requires c = record { p_value = c.requires; zeros_bound = omega arith }
-
-pub length_between-l3s-requires : goal.length_between-l3s-requires
-length_between-l3s-requires c = record { p_value = c.requires; zeros_bound = omega arith }
-
-pub length_between-l3l-requires : goal.length_between-l3l-requires
-length_between-l3l-requires c = record { p_value = c.requires; zeros_bound = omega arith }
-
-pub length_between-l4s-requires : goal.length_between-l4s-requires
-length_between-l4s-requires c = record { p_value = c.requires; zeros_bound = omega arith }
-
-pub length_between-l4l-requires : goal.length_between-l4l-requires
-length_between-l4l-requires c = record { p_value = c.requires; zeros_bound = omega arith }
 
 pub returns : goal.returns
 unfolding listed

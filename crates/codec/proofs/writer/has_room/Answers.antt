@@ -22,6 +22,3 @@ returns-then-bytes-room c =
     let many = length_of_written start.items.now in
     let few = cells_at_most bytes in
     sym (le-leb _ start.room (omega (arith, c.requires.bytes_value)))
-
-pub returns : goal.returns
-returns c = rw c.count_cells.ensures

@@ -10,9 +10,8 @@ use Rattle.items.specs.Item.{is_check}
 use Rattle.items.specs.Written.{after_bytes, check_bytes, after_check, written_from, written}
 use Rattle.items.specs.declared.Check.{Check}
 use Rattle.items.proofs.RunLaws.{rest_of, run_at, last_run_from, run_from}
-use Rattle.codec.specs.machine.Pen.{Writing, writing, fresh_pen, wrote}
+use Rattle.codec.specs.machine.Pen.{Writing, wrote}
 use Rattle.codec.proofs.PenLaws.{bytes_move_on, bytes_length, wrote-append}
-use borrow.Author.Rules.{rules}
 use Rattle.codec.proofs.writer.write_items.Invariants.{WritingOn}
 use Rattle.codec.proofs.writer.write_items.Goals as goal
 
@@ -78,18 +77,6 @@ unfolding written
 loop-run-init c =
     rw c.fresh.ensures (record { within = omega arith; told = c.find_check-run.ensures; whole = refl })
 
-pub overflow_sub-items : goal.overflow_sub-items
-overflow_sub-items c = c.loop-run.invariant.within
-
-pub overflow_add-end : goal.overflow_add-end
-overflow_add-end c = let h = c.loop-run.invariant.within in omega arith
-
-pub offset_bounds-items-from : goal.offset_bounds-items-from
-offset_bounds-items-from c = let h = c.loop-run.invariant.within in search rules
-
-pub slice_bounds-write_run-end : goal.slice_bounds-write_run-end
-slice_bounds-write_run-end c = let h = c.loop-run.invariant.within in search rules
-
 pub write_run-part-requires : goal.write_run-part-requires
 write_run-part-requires c =
     fits c.loop-run.invariant c.loop-run-test.true
@@ -103,18 +90,6 @@ loop-run-preserved c =
     a_run_more head.invariant c.loop-run-test.true _ _ _ c.write_run-part.ensures.check
     c.write_run-part.ensures.pen told
 
-pub offset_bounds-items-from-2 : goal.offset_bounds-items-from-2
-offset_bounds-items-from-2 c = let h = c.loop-run.invariant.within in search rules
-
-pub slice_bounds-draw_bytes-count : goal.slice_bounds-draw_bytes-count
-slice_bounds-draw_bytes-count c = c.loop-run.invariant.within
-
-pub slice_bounds-draw_bytes-start : goal.slice_bounds-draw_bytes-start
-slice_bounds-draw_bytes-start c = let h = c.loop-run.invariant.within in search rules
-
-pub slice_bounds-draw_bytes-end : goal.slice_bounds-draw_bytes-end
-slice_bounds-draw_bytes-end c = let h = c.loop-run.invariant.within in search rules
-
 pub draw_bytes-requires : goal.draw_bytes-requires
 draw_bytes-requires c =
     rw (rest_of c.args.items.now c.loop-run.from)
@@ -126,9 +101,3 @@ returns c =
     c.draw_bytes.ensures
     ∙ ap (wrote args.table.now _) (rest_of args.items.now c.loop-run.from)
     ∙ last c.loop-run.invariant c.loop-run-test.false
-
-pub shape_of-out : goal.shape_of-out
-shape_of-out c =
-    let args = c.args in
-    ap (λ (x : Writing). length x.out) (returns c)
-    ∙ bytes_length args.table.now (writing fresh_pen args.out.now) (written args.items.now)

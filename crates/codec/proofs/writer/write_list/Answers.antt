@@ -4,9 +4,6 @@ use mathlib.Core.Path.{sym, ◌∙◌}
 use Rattle.codec.proofs.WriterLaws.{too_short, stream_fits, long_enough}
 use Rattle.codec.proofs.writer.write_list.Goals as goal
 
-pub has_room-requires : goal.has_room-requires
-has_room-requires c = record { value = c.requires.value; bytes_value = c.written_bytes-bytes.ensures }
-
 pub write_stream-count-requires : goal.write_stream-count-requires
 write_stream-count-requires c =
     let room = sym c.has_room.ensures ∙ c.if-has_room.true in

@@ -3,9 +3,6 @@
 use Rattle.codec.proofs.WriterLaws.{items_fit, closing_fits, stream_is_written}
 use Rattle.codec.proofs.writer.write_stream.Goals as goal
 
-pub window_table-table-requires : goal.window_table-table-requires
-window_table-table-requires c = c.requires.p_value
-
 pub write_items-pen-requires : goal.write_items-pen-requires
 write_items-pen-requires c = items_fit _ _ _ _ c.window_table-table.ensures c.requires.value c.requires.in_bounds
 

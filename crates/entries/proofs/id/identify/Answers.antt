@@ -8,7 +8,7 @@ four_bytes-requires c = (c.requires, cc)
 
 pub returns-then-is_identity : goal.returns-then-is_identity
 unfolding identified
-returns-then-is_identity c = c.four_bytes.ensures ∙ rw (sym c.is_identity.ensures ∙ c.if-is_identity.true)
+returns-then-is_identity c = rw (sym c.is_identity.ensures ∙ c.if-is_identity.true, c.four_bytes.ensures)
 
 pub returns : goal.returns
 unfolding identified

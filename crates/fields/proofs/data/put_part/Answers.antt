@@ -19,7 +19,7 @@ returns-then-skip-number c =
 
 pub returns : goal.returns
 returns c =
-    let first = c.at_most-first in
+    let first = c.min-first in
     let args = c.args in
     let items = c.words_to_bytes.new.words in
     rw (← c.words_to_bytes.ensures)

@@ -6,14 +6,13 @@ use mathlib.Core.List.{List}
 use native.Mathlib.Omega.{arith}
 use lib.ListN.{length, take, drop}
 use Rattle.timing.specs.declared.Profile.{Profile}
+use Rattle.std.specs.Prelude.{Result}
+use Rattle.refusal.specs.declared.Refusal.{Refusal}
 use Rattle.fields.specs.FieldRule.{FieldAnswer, field_answer, field_reading, field_rest, rest_place}
-use Rattle.fields.specs.declared.reader.FieldRead.{FieldRead}
+use Rattle.fields.specs.declared.reader.Field.{Field}
 use Rattle.locks.proofs.LockLaws.{part_to_end}
 use Rattle.fields.proofs.ReaderLaws.{used_is_within}
 use Rattle.fields.proofs.reader.read_rest.Goals as goal
-
-abbrev used_of : FieldRead → ℕ
-used_of r = (field_answer r).used
 
 module _ (p : Profile) (ds : List ℕ) (n room used : ℕ) (e : used ≡ (field_reading p ds n room).used) where
   within : used ≤ length ds
@@ -33,54 +32,38 @@ module _ (p : Profile) (ds : List ℕ) (n room used : ℕ) (e : used ≡ (field_
       → ◌≡◌ {A = ℕ × ℕ} (block, place) (rest_place p ds n room (block, at))
   rest_stands block at place is = ap (λ (o : ℕ). (block, o)) (omega (arith, e))
 
--- what the reading used, where it was accepted
+-- what an answer tells of the intervals used
 used_is
-    : (c : goal.After-result-1)
-    → let args = c.args in
-    c.in-Field.used
-    ≡ (field_reading args.p args.intervals.now args.n (length args.out.now)).used
-used_is c =
-    sym (ap used_of c.in-Field.is)
-    ∙ ap (λ (a : FieldAnswer). a.used) c.read_field.ensures.answer
+    : (p : Profile) (ds : List ℕ) (n room : ℕ) (read answer : Result Field Refusal)
+    → field_answer read ≡ field_reading p ds n room
+    → read ≡ answer
+    → (field_answer answer).used ≡ (field_reading p ds n room).used
+used_is p ds n room read answer same is =
+    sym (ap (λ (r : Result Field Refusal). (field_answer r).used) is) ∙ ap (λ (a : FieldAnswer). a.used) same
 
--- what the reading used, where it was accepted
-used_is_2
-    : (c : goal.In-Field)
-    → let args = c.args in
-    c.in-Field.used
-    ≡ (field_reading args.p args.intervals.now args.n (length args.out.now)).used
-used_is_2 c =
-    sym (ap used_of c.in-Field.is)
-    ∙ ap (λ (a : FieldAnswer). a.used) c.read_field.ensures.answer
-
-used_in_list
-    : (c : goal.In-Field)
-    → c.in-Field.used
-    ≤ length c.args.intervals.now
-used_in_list c = within _ _ _ _ _ (used_is_2 c)
-
-pub offset_bounds-intervals-used : goal.offset_bounds-intervals-used
-offset_bounds-intervals-used c = omega (arith, used_in_list c, c.well_formed)
+pub offset_bounds-intervals-field : goal.offset_bounds-intervals-field
+offset_bounds-intervals-field c =
+    let within = within _ _ _ _ _ (used_is _ _ _ _ _ _ c.read_field.ensures.answer c.in-Ok.is) in
+    omega (arith, within, c.well_formed)
 
 pub slice_bounds-result-count : goal.slice_bounds-result-count
-slice_bounds-result-count c = used_in_list c
+slice_bounds-result-count c = within _ _ _ _ _ (used_is _ _ _ _ _ _ c.read_field.ensures.answer c.in-Ok.is)
 
 pub slice_bounds-result-start : goal.slice_bounds-result-start
-slice_bounds-result-start c = used_in_list c
+slice_bounds-result-start c = within _ _ _ _ _ (used_is _ _ _ _ _ _ c.read_field.ensures.answer c.in-Ok.is)
 
-pub returns-in-Refused : goal.returns-in-Refused
-returns-in-Refused c =
-    let none =
-    sym (ap used_of c.in-Refused.is) ∙ ap (λ (a : FieldAnswer). a.used) c.read_field.ensures.answer in
+pub returns-in-Err : goal.returns-in-Err
+returns-in-Err c =
+    let none = used_is _ _ _ _ _ _ c.read_field.ensures.answer c.in-Err.is in
     record {
       place = rest_stands _ _ _ _ 0 none _ _ _ (omega arith);
       rest = rest_is _ _ _ _ 0 none;
       output = c.read_field.ensures.output;
     }
 
-pub returns-in-Field : goal.returns-in-Field
-returns-in-Field c =
-    let used = used_is c in
+pub returns-in-Ok : goal.returns-in-Ok
+returns-in-Ok c =
+    let used = used_is _ _ _ _ _ _ c.read_field.ensures.answer c.in-Ok.is in
     record {
       place = rest_stands _ _ _ _ _ used _ _ _ refl;
       rest = part_is _ _ _ _ _ used;

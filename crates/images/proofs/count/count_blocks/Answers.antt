@@ -1,6 +1,6 @@
 -- `count::count_blocks` is a fold over blocks of items: the tally so far, and then the bytes of the items from a place
 -- on, make the whole, wherever a block ends. Rests on no axiom.
-use Prim.Native.Nat.{ℕ, ◌+◌, ◌-◌, ◌≤◌, ◌<◌}
+use Prim.Native.Nat.{ℕ, ◌+◌, ◌-◌, ◌≤◌, ◌<◌, min}
 use mathlib.Core.Path.{◌≡◌, refl, sym, ap, ap₂, ◌∙◌}
 use mathlib.Core.List.{List}
 use native.Mathlib.Omega.{arith}
@@ -17,7 +17,6 @@ use Rattle.items.proofs.WrittenLaws.{length_of_written_from, written_from_piece,
 use Rattle.images.specs.machine.Tally.{no_tally, tallied}
 use Rattle.images.specs.declared.count.Tally.{Tally}
 use Rattle.images.proofs.TallyLaws.{tallied-append, tallied_none, tally_at_least, tally_of_list_fits}
-use borrow.Author.Rules.{rules}
 use Rattle.images.proofs.count.count_blocks.Invariants.{Counting}
 use Rattle.images.proofs.count.count_blocks.Goals as goal
 
@@ -58,68 +57,9 @@ module _ {items : List ℕ} {tally : Tally} {check : Check} {bytes : List ℕ} {
         (omega (arith, has_room, on.room))
 
 -- the items that are taken together: some, and as many as there are and fit
-taken_4
-    : (c : goal.After-bytes-in-loop-from-1)
-    → (0 < c.at_most.result)
-    × (c.at_most.result ≤ 64)
-    × (c.loop-from.from + c.at_most.result
-    ≤ length c.args.items.now)
-taken_4 c =
-    let test = c.loop-from-test.true in
-    let e = c.at_most.ensures in
-    omega (arith, test, e)
-
--- the items that are taken together: some, and as many as there are and fit
-taken_3
-    : (c : goal.After-check-1)
-    → (0 < c.at_most.result)
-    × (c.at_most.result ≤ 64)
-    × (c.loop-from.from + c.at_most.result
-    ≤ length c.args.items.now)
-taken_3 c =
-    let test = c.loop-from-test.true in
-    let e = c.at_most.ensures in
-    omega (arith, test, e)
-
--- the items that are taken together: some, and as many as there are and fit
-taken_2
-    : (c : goal.After-bytes-in-loop-from-2-1)
-    → (0 < c.at_most.result)
-    × (c.at_most.result ≤ 64)
-    × (c.loop-from.from + c.at_most.result
-    ≤ length c.args.items.now)
-taken_2 c =
-    let test = c.loop-from-test.true in
-    let e = c.at_most.ensures in
-    omega (arith, test, e)
-
--- the bytes of the items are the front of the array
-fits_2
-    : (c : goal.After-bytes-in-loop-from-2-1)
-    → c.write_bytes-stored.result.count ≤ length c.write_bytes-stored.new.out
-fits_2 c =
-    stored_has_room c.loop-from.invariant c.at_most.result (taken_2 c).1 _ c.write_bytes-stored.ensures.count _
-    c.write_bytes-stored.ensures.output
-
--- the bytes of the items are the front of the array
-fits
-    : (c : goal.After-bytes-in-loop-from-1)
-    → c.write_bytes-stored.result.count ≤ length c.write_bytes-stored.new.out
-fits c =
-    stored_has_room c.loop-from.invariant c.at_most.result (taken_4 c).1 _ c.write_bytes-stored.ensures.count _
-    c.write_bytes-stored.ensures.output
-
--- the items that are taken together: some, and as many as there are and fit
-taken
-    : (c : goal.After-at_most)
-    → (0 < c.at_most.result)
-    × (c.at_most.result ≤ 64)
-    × (c.loop-from.from + c.at_most.result
-    ≤ length c.args.items.now)
-taken c =
-    let test = c.loop-from-test.true in
-    let e = c.at_most.ensures in
-    omega (arith, test, e)
+taken : (from count size : ℕ) → from < count → size ≡ min 64 (count - from)
+    → (0 < size) × (size ≤ 64) × (from + size ≤ count)
+taken from count size more is_least = omega (arith, more, is_least)
 
 pub loop-from-init : goal.loop-from-init
 unfolding written
@@ -131,56 +71,40 @@ loop-from-init c =
       whole = ap (λ (s : Check). tallied no_tally (written_from s items)) c.fresh-check.ensures;
     }
 
-pub overflow_sub-items : goal.overflow_sub-items
-overflow_sub-items c = c.loop-from.invariant.within
-
-pub overflow_add-end : goal.overflow_add-end
-overflow_add-end c = omega (arith, (taken c).2)
-
-pub offset_bounds-items-from : goal.offset_bounds-items-from
-offset_bounds-items-from c = let h = c.loop-from.invariant.within in search rules
-
-pub slice_bounds-write_bytes-start : goal.slice_bounds-write_bytes-start
-slice_bounds-write_bytes-start c = let h = c.loop-from.invariant.within in search rules
-
-pub slice_bounds-write_bytes-end : goal.slice_bounds-write_bytes-end
-slice_bounds-write_bytes-end c = let h = taken c in search rules
-
-pub slice_bounds-write_bytes-end-in-loop-from : goal.slice_bounds-write_bytes-end-in-loop-from
-slice_bounds-write_bytes-end-in-loop-from c = sym c.loop-from.invariant.room
-
 pub slice_bounds-bytes-end : goal.slice_bounds-bytes-end
-slice_bounds-bytes-end c = fits c
+slice_bounds-bytes-end c =
+    let few = (taken _ _ _ c.loop-from-test.true c.min.ensures).1 in
+    stored_has_room c.loop-from.invariant _ few _ c.write_bytes-stored.ensures.count _ c.write_bytes-stored.ensures.output
 
 pub slice_bounds-count_bytes-end : goal.slice_bounds-count_bytes-end
-slice_bounds-count_bytes-end c = sym (length-take-le _ _ (fits_2 c))
+slice_bounds-count_bytes-end c =
+    let few = (taken _ _ _ c.loop-from-test.true c.min.ensures).1 in
+    let stored = c.write_bytes-stored.ensures in
+    sym (length-take-le _ _ (stored_has_room c.loop-from.invariant _ few _ stored.count _ stored.output))
 
 pub count_bytes-tally-requires : goal.count_bytes-tally-requires
 count_bytes-tally-requires c =
     let head = c.loop-from in
-    let few = (taken_2 c).1 in
-    rw (c.write_bytes-stored.ensures.output, front head.invariant c.at_most.result few _ c.write_bytes-stored.ensures.count)
-    (block_fits head.invariant c.at_most.result few c.requires)
-
-pub loop-from-smaller : goal.loop-from-smaller
-loop-from-smaller c = omega (arith, taken_3 c)
+    let few = (taken _ _ _ c.loop-from-test.true c.min.ensures).1 in
+    rw (c.write_bytes-stored.ensures.output, front head.invariant c.min.result few _ c.write_bytes-stored.ensures.count)
+    (block_fits head.invariant c.min.result few c.requires)
 
 pub loop-from-preserved : goal.loop-from-preserved
 loop-from-preserved c =
     let head = c.loop-from in
-    let few = (taken_3 c).1 in
+    let few = (taken _ _ _ c.loop-from-test.true c.min.ensures).1 in
     let count : ℕ = c.write_bytes-stored.result.count in
-    let bytes = front head.invariant c.at_most.result few count c.write_bytes-stored.ensures.count in
+    let bytes = front head.invariant c.min.result few count c.write_bytes-stored.ensures.count in
     let rest : List ℕ =
-    drop (head.from + c.at_most.result) c.args.items.now in
+    drop (head.from + c.min.result) c.args.items.now in
     record {
-      within = (taken_3 c).2;
+      within = (taken _ _ _ c.loop-from-test.true c.min.ensures).2;
       room = ap length c.write_bytes-stored.ensures.output ∙ stored_length _ _ _ ∙ head.invariant.room;
       whole =
           ap₂ (λ (t : Tally) (s : Check). tallied t (written_from s rest))
           (c.count_bytes-tally.ensures ∙ ap (tallied head.tally) (ap (take count) c.write_bytes-stored.ensures.output ∙ bytes))
           c.write_bytes-stored.ensures.check
-          ∙ rest_makes_whole head.invariant c.at_most.result few;
+          ∙ rest_makes_whole head.invariant c.min.result few;
     }
 
 pub returns : goal.returns

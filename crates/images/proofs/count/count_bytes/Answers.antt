@@ -1,6 +1,6 @@
 -- `count::count_bytes` is a fold: the tally so far, and then the bytes from k on, make the whole. Rests on no axiom.
 use Prim.Native.Nat.{ℕ, ◌+◌, ◌<◌}
-use mathlib.Core.Path.{◌≡◌, refl, sym, ap, ◌∙◌}
+use mathlib.Core.Path.{◌≡◌, sym, ap, ◌∙◌}
 use mathlib.Core.List.{List}
 use native.Mathlib.Omega.{arith}
 use lib.ListN.{length, get_or, drop, drop_of_length-le}
@@ -22,27 +22,22 @@ small_on_the_way start tally bytes k h whole small =
     ap (λ (t : Tally). t.cells) (sym (tallied_from tally bytes k h) ∙ whole) in
     omega arith
 
-pub loop-k-init : goal.loop-k-init
-loop-k-init c = (omega arith, refl)
-
 pub count_byte-tally-requires : goal.count_byte-tally-requires
 count_byte-tally-requires c =
-    let head = c.loop-k in
-    small_on_the_way c.args.start head.tally c.args.bytes.now head.k c.loop-k-test.true
-    head.invariant.1 c.requires
+    let head = c.loop-byte in
+    small_on_the_way c.args.start head.tally c.args.bytes.now head.byte-index c.loop-byte-test.true
+    head.invariant c.requires
 
-pub loop-k-preserved : goal.loop-k-preserved
-loop-k-preserved c =
-    let head = c.loop-k in
-    let bytes = c.args.bytes.now in (
-      omega arith,
-      ap (λ (t : Tally). tallied t (drop (head.k + 1) bytes)) c.count_byte-tally.ensures
-          ∙ sym (tallied_from head.tally bytes head.k c.loop-k-test.true)
-          ∙ head.invariant.1,
-    )
+pub loop-byte-preserved : goal.loop-byte-preserved
+loop-byte-preserved c =
+    let head = c.loop-byte in
+    let bytes = c.args.bytes.now in
+    ap (λ (t : Tally). tallied t (drop (head.byte-index + 1) bytes)) c.count_byte-tally.ensures
+    ∙ sym (tallied_from head.tally bytes head.byte-index c.loop-byte-test.true)
+    ∙ head.invariant
 
 pub returns : goal.returns
 returns c =
-    let head = c.loop-k in
+    let head = c.loop-byte in
     let bytes = c.args.bytes.now in
-    rw (drop_of_length-le bytes c.loop-k-test.false, tallied_none head.tally) at head.invariant.1
+    rw (drop_of_length-le bytes c.loop-byte-test.false, tallied_none head.tally) at head.invariant

@@ -25,6 +25,3 @@ returns-then-bytes-items c =
     let items = c.args.items.now in
     c.count_bytes.ensures
     ∙ ap (tallied no_tally) (sym (own items (sym c.requires.1 ∙ c.if-bytes-items.true)))
-
-pub returns : goal.returns
-returns c = c.count_blocks.ensures

@@ -1,5 +1,5 @@
 -- `make::make_words` answers `make_rule`: the list is accepted, and the room decides. Rests on no axiom.
-use Rattle.images.proofs.MakeLaws.{make_refuses, front_count, make_accepts}
+use Rattle.images.proofs.MakeLaws.{make_refuses, make_accepts}
 use Rattle.images.proofs.make.make_words.Goals as goal
 
 pub returns-then-out-n : goal.returns-then-out-n
@@ -9,11 +9,6 @@ returns-then-out-n c =
       answer = both.0;
       output = both.1;
     }
-
-pub slice_bounds-turn_into_words-end-2 : goal.slice_bounds-turn_into_words-end-2
-slice_bounds-turn_into_words-end-2 c =
-    front_count _ _ c.requires _ _ c.written_bytes-n.ensures c.store_written.ensures
-    c.if-out-n.false
 
 pub returns : goal.returns
 returns c =

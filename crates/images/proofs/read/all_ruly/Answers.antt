@@ -4,7 +4,6 @@ use Prim.Native.Nat.{ℕ, suc, ◌+◌, ◌<◌}
 use mathlib.Core.Path.{◌≡◌, refl, ap, ◌∙◌}
 use mathlib.Core.Bool.{Bool, ◌&&◌, and_assoc, and-true}
 use mathlib.Core.List.{List}
-use native.Mathlib.Omega.{arith}
 use native.Mathlib.Numerals.{add-one}
 use lib.ListN.{length, get_or, drop, drop_of_length-le}
 use lib.Seq.{drop-cons}
@@ -26,17 +25,17 @@ none_from_here words previous k test h e =
     let here = none_unruly_from (last_bit previous) (last_bit_is_data previous) word (drop (suc k) words) in
     rw (add-one, drop-cons words k 0, here, e)
 
-pub loop-k-init : goal.loop-k-init
+pub loop-word-init : goal.loop-word-init
 unfolding unruly_in last_bit
-loop-k-init c = (omega arith, refl)
+loop-word-init c = refl
 
-pub loop-k-preserved : goal.loop-k-preserved
-loop-k-preserved c =
-    let head = c.loop-k in
+pub loop-word-preserved : goal.loop-word-preserved
+loop-word-preserved c =
+    let head = c.loop-word in
     let words = c.args.words.now in
-    let here = none_from_here words head.previous head.k _ c.loop-k-test.true c.is_ruly-all.ensures in
-    (omega arith, and_assoc head.all _ _ ∙ ap (λ (t : Bool). head.all && t) here ∙ head.invariant.1)
+    let here = none_from_here words head.previous head.word-index _ c.loop-word-test.true c.is_ruly-all.ensures in
+    and_assoc head.all _ _ ∙ ap (λ (t : Bool). head.all && t) here ∙ head.invariant
 
 pub returns : goal.returns
 unfolding unruly_from anywhere
-returns c = rw (drop_of_length-le _ c.loop-k-test.false, and-true) at c.loop-k.invariant.1
+returns c = rw (drop_of_length-le _ c.loop-word-test.false, and-true) at c.loop-word.invariant

@@ -12,6 +12,3 @@ returns-then-word-eq-WORD_A1 c = rw c.if-word-eq-WORD_A1.true refl
 pub returns-then-word-eq-WORD_C2 : goal.returns-then-word-eq-WORD_C2
 unfolding candidate word_of is_mark mark_word
 returns-then-word-eq-WORD_C2 c = rw c.if-word-eq-WORD_C2.true refl
-
-pub returns : goal.returns
-returns c = rw (c.made_word.ensures, c.byte_of.ensures)

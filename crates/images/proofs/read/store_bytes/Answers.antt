@@ -1,15 +1,10 @@
 -- Why `read::store_bytes` stores the candidates: the words are stored, and replaced where they stand. Rests on no axiom.
-use mathlib.Core.Path.{refl, sym, ◌∙◌}
+use mathlib.Core.Path.{refl, ◌∙◌}
 use mathlib.Core.List.{map}
-use native.Mathlib.Omega.{arith}
 use lib.ListN.{length-map}
-use lib.Seq.{length-take-le}
 use Rattle.lists.proofs.StoreLaws.{stored_at_front_fills, mapped_at_front}
 use Rattle.half_cells.specs.machine.Candidate.{candidate}
 use Rattle.images.proofs.read.store_bytes.Goals as goal
-
-pub slice_bounds-words_to_bytes-end-2 : goal.slice_bounds-words_to_bytes-end-2
-slice_bounds-words_to_bytes-end-2 c = sym (length-take-le _ _ (omega (arith, c.store.auto.out, c.requires)))
 
 pub returns : goal.returns
 returns c =

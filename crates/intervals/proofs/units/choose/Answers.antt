@@ -1,6 +1,6 @@
 -- Why `units::choose` gives one of the two: all ones keep the whole difference, none keeps nothing of it. Rests on no
 -- axiom.
-use Rattle.std.proofs.Common.{◌≡◌, ℕ, ◌+◌, ◌%◌, ◌^◌, ◌<◌, Bool, true, false, cond, ap, ◌∙◌, arith}
+use Rattle.std.proofs.Common.{◌≡◌, ℕ, ◌+◌, ◌%◌, ◌^◌, ◌<◌, Bool, true, false, cond, refl, ap, ◌∙◌, arith}
 use lib.Bits.{bit_and, and_mask, and_zero_r}
 use Rattle.intervals.specs.machine.Either.{mask_of}
 use Rattle.intervals.proofs.units.choose.Goals as goal
@@ -21,6 +21,4 @@ chosen short long gap mask r s l g wraps sum false none =
     let kept : bit_and gap mask ≡ 0 = ap (bit_and gap) none ∙ and_zero_r gap in omega arith
 
 pub returns : goal.returns
-returns c =
-    chosen _ _ _ _ _ (omega arith) (omega arith) (omega arith) c.wrapping_sub_u16-gap.ensures.value
-    c.wrapping_add_u16.ensures.value
+returns c = chosen _ _ _ _ _ (omega arith) (omega arith) (omega arith) (omega arith) refl

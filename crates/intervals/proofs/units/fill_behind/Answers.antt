@@ -1,6 +1,6 @@
 -- Why `units::fill_behind` stores the units behind another: the mask of an interval is its kind, which chooses for the
 -- next one, and what is left to store stays the same from turn to turn. Rests on no axiom.
-use Rattle.std.proofs.Common.{◌≡◌, ℕ, true, false, length, get_or, sym, ap, ◌∙◌, add-one, arith, drop_of_length-le}
+use Rattle.std.proofs.Common.{◌≡◌, ℕ, false, length, get_or, sym, ap, ◌∙◌, add-one, drop_of_length-le}
 use Rattle.lists.proofs.StoreLaws.{stored_none, stored_over_all}
 use Rattle.timing.specs.Class.{behind}
 use Rattle.timing.specs.machine.Edges.{units_from}
@@ -11,18 +11,6 @@ use Rattle.intervals.proofs.units.fill_behind.Goals as goal
 
 pub loop-k-init : goal.loop-k-init
 loop-k-init c = begins _ _ _ _ c.requires.intervals_value c.requires.kinds_value
-
-pub bounds-kinds-k : goal.bounds-kinds-k
-bounds-kinds-k c =
-    let args = c.args in
-    omega (
-      arith,
-      c.loop-k-test.true,
-      long_enough args.c args.intervals.now args.kinds.now c.requires.kinds_value,
-    )
-
-pub bounds-units-k : goal.bounds-units-k
-bounds-units-k c = omega (arith, c.loop-k-test.true, c.loop-k.invariant.size, c.requires.units_len)
 
 pub loop-k-preserved : goal.loop-k-preserved
 loop-k-preserved c =
@@ -35,9 +23,6 @@ loop-k-preserved c =
     rw add-one (goes_on _ _ _ _ long _ _ filling more _ (c.units_by.ensures
     ∙ ap (λ (b : ℕ). units_by (record { b23 = record { 0 = args.c.short.b23.0 }; b34 = record { 0 = b } })
     (get_or args.intervals.now c.loop-k.k 0)) b34))
-
-pub shape_of-units : goal.shape_of-units
-shape_of-units c = c.loop-k.invariant.size
 
 pub returns : goal.returns
 returns c =

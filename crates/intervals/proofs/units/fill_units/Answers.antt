@@ -1,16 +1,10 @@
 -- Why `units::fill_units` stores the units of each: what is left to store stays the same from turn to turn. Rests on no
 -- axiom.
-use Rattle.std.proofs.Common.{◌≡◌, ℕ, map, length, sym, refl, ◌∙◌, add-one, arith, length-set, drop_of_length-le, drop-cons}
+use Rattle.std.proofs.Common.{◌≡◌, ℕ, map, length, sym, ◌∙◌, add-one, length-set, drop_of_length-le, drop-cons}
 use lib.ListN.{length-map}
 use Rattle.lists.proofs.StoreLaws.{stored_none, stored_one, stored_next, stored_over_all}
 use Rattle.intervals.specs.machine.Either.{units_by}
 use Rattle.intervals.proofs.units.fill_units.Goals as goal
-
-pub loop-k-init : goal.loop-k-init
-loop-k-init c = (omega arith, refl, refl)
-
-pub bounds-units-k : goal.bounds-units-k
-bounds-units-k c = omega (arith, c.loop-k-test.true, c.loop-k.invariant.1, c.requires)
 
 pub loop-k-preserved : goal.loop-k-preserved
 loop-k-preserved c =
@@ -18,18 +12,14 @@ loop-k-preserved c =
     let more = c.loop-k-test.true in
     let args = c.args in
     rw (c.units_by.ensures, add-one) (
-      more,
-      length-set {A = ℕ} c.loop-k.units c.loop-k.k _ ∙ inv.1,
+      length-set {A = ℕ} c.loop-k.units c.loop-k.k _ ∙ inv.0,
       stored_next _ _ _ _ _ _ (sym (stored_one _ _ _)) (sym (add-one _))
-          ∙ rw (drop-cons args.intervals.now c.loop-k.k 0 more) at inv.2,
+          ∙ rw (drop-cons args.intervals.now c.loop-k.k 0 more) at inv.1,
     )
-
-pub shape_of-units : goal.shape_of-units
-shape_of-units c = c.loop-k.invariant.1
 
 pub returns : goal.returns
 returns c =
-    let (within, same, stored) = c.loop-k.invariant in
+    let (same, stored) = c.loop-k.invariant in
     let ds = c.args.intervals.now in
     let none = drop_of_length-le ds {i = c.loop-k.k} c.loop-k-test.false in
     let all = map (units_by c.args.bounds) ds in

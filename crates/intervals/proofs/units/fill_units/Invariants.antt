@@ -1,13 +1,9 @@
-use Rattle.std.proofs.Common.{◌≡◌, ◌-◌, ◌≤◌, map, length, drop}
+use Rattle.std.proofs.Common.{◌≡◌, map, length, drop}
 use Rattle.lists.specs.Filled.{stored_at}
 use Rattle.intervals.specs.machine.Either.{units_by}
 use Rattle.intervals.proofs.units.fill_units.Given as goal
 
 abbrev pub invariant-loop-k : goal.invariant-loop-k
 invariant-loop-k l =
-    (l.k ≤ length l.intervals)
-    × (length l.units ≡ length l.initial.units)
+    (length l.units ≡ length l.initial.units)
     × (stored_at l.units l.k (map (units_by l.bounds) (drop l.k l.intervals)) ≡ stored_at l.initial.units 0 (map (units_by l.bounds) l.intervals))
-
-abbrev pub decreases-loop-k : goal.decreases-loop-k
-decreases-loop-k l = length l.intervals - l.k

@@ -17,13 +17,6 @@ stored_all_behind : (l vs : List ℕ) (x : ℕ) → length l ≡ length vs + 1 �
 stored_all_behind [] vs x e = absurd (omega arith)
 stored_all_behind (y ∷ l) vs x e = stored_behind x l vs 0 ∙ ap (◌∷◌ x) (stored_over_all vs l (omega arith))
 
-pub loop-k-init : goal.loop-k-init
-loop-k-init c = (omega arith, refl, refl)
-
-pub bounds-kinds-k : goal.bounds-kinds-k
-bounds-kinds-k c =
-    omega (arith, c.loop-k-test.true, c.loop-k.invariant.1, length-set c.args.kinds.now 0 0, c.requires)
-
 pub loop-k-preserved : goal.loop-k-preserved
 unfolding kind_mask
 loop-k-preserved c =
@@ -31,18 +24,14 @@ loop-k-preserved c =
     let more = c.loop-k-test.true in
     let args = c.args in
     rw (c.mask_of.ensures ∙ ap mask_of c.is_two.ensures, add-one) (
-      more,
-      length-set {A = ℕ} c.loop-k.kinds (suc c.loop-k.k) _ ∙ inv.1,
+      length-set {A = ℕ} c.loop-k.kinds (suc c.loop-k.k) _ ∙ inv.0,
       stored_next _ _ _ _ _ _ (sym (stored_one _ _ _)) (sym (add-one _))
-          ∙ rw (drop-cons args.intervals.now c.loop-k.k 0 more) at inv.2,
+          ∙ rw (drop-cons args.intervals.now c.loop-k.k 0 more) at inv.1,
     )
-
-pub shape_of-kinds : goal.shape_of-kinds
-shape_of-kinds c = c.loop-k.invariant.1 ∙ length-set c.args.kinds.now 0 0
 
 pub returns : goal.returns
 returns c =
-    let (within, same, stored) = c.loop-k.invariant in
+    let (same, stored) = c.loop-k.invariant in
     let ds = c.args.intervals.now in
     let none = drop_of_length-le ds {i = c.loop-k.k} c.loop-k-test.false in
     sym (stored_none _ _)

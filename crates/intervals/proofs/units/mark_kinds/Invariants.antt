@@ -1,13 +1,9 @@
-use Rattle.std.proofs.Common.{◌≡◌, suc, ◌-◌, ◌≤◌, map, length, drop}
+use Rattle.std.proofs.Common.{◌≡◌, suc, map, length, drop}
 use Rattle.lists.specs.Filled.{stored_at}
 use Rattle.intervals.specs.machine.Either.{kind_mask}
 use Rattle.intervals.proofs.units.mark_kinds.Given as goal
 
 abbrev pub invariant-loop-k : goal.invariant-loop-k
 invariant-loop-k l =
-    (l.k ≤ length l.intervals)
-    × (length l.kinds ≡ length l.initial.kinds)
+    (length l.kinds ≡ length l.initial.kinds)
     × (stored_at l.kinds (suc l.k) (map (kind_mask l.c) (drop l.k l.intervals)) ≡ stored_at l.initial.kinds 1 (map (kind_mask l.c) l.intervals))
-
-abbrev pub decreases-loop-k : goal.decreases-loop-k
-decreases-loop-k l = length l.intervals - l.k

@@ -1,4 +1,4 @@
-use Rattle.std.proofs.Common.{◌≡◌, ◌-◌, ◌≤◌, length, drop}
+use Rattle.std.proofs.Common.{◌≡◌, length, drop}
 use Rattle.lists.specs.Filled.{stored_at}
 use Rattle.timing.specs.Class.{cursor_after}
 use Rattle.timing.specs.machine.Edges.{units_from}
@@ -6,10 +6,6 @@ use Rattle.intervals.proofs.units.units_in_turn.Given as goal
 
 abbrev pub invariant-loop-k : goal.invariant-loop-k
 invariant-loop-k l =
-    (l.k ≤ length l.intervals)
-    × (length l.units ≡ length l.initial.units)
+    (length l.units ≡ length l.initial.units)
     × (cursor_after l.cursor (drop l.k l.intervals) ≡ cursor_after l.initial.cursor l.intervals)
     × (stored_at l.units l.k (units_from l.cursor (drop l.k l.intervals)) ≡ stored_at l.initial.units 0 (units_from l.initial.cursor l.intervals))
-
-abbrev pub decreases-loop-k : goal.decreases-loop-k
-decreases-loop-k l = length l.intervals - l.k

@@ -12,15 +12,3 @@ returns-then-is_steady c =
     let steady = sym c.is_steady.ensures ∙ c.if-is_steady.true in
     let ds = c.args.intervals.now in
     record { cursor = steady_cursor _ steady ds; units = c.fill_units.ensures ∙ steady_units _ steady ds }
-
-pub slice_bounds-units_of_sure-end : goal.slice_bounds-units_of_sure-end
-slice_bounds-units_of_sure-end c = sym (room _ _ c.requires)
-
-pub units_of_sure-requires : goal.units_of_sure-requires
-units_of_sure-requires c =
-    let some = c.if-intervals-lt2.false in
-    record {
-      units_len = (c.requires.0, some);
-      kinds_len = room (length c.args.intervals.now) _ c.requires;
-      intervals_value = sym c.all_sure.ensures ∙ c.if-all_sure.true;
-    }

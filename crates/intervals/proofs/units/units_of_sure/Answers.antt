@@ -1,36 +1,11 @@
 -- Why `units::units_of_sure` gives `units_from` and `cursor_after`: where none lies between the two B23, all but the
 -- first two are as behind any kind, and the last tells where the classing stands behind. Rests on no axiom.
-use Rattle.std.proofs.Common.{◌≡◌, ℕ, suc, false, List, length, get_or, set, sym, ap, ◌∙◌, ap₂, arith, length-set}
-use lib.ListN.{length-map}
+use Rattle.std.proofs.Common.{ℕ, false, List, get_or, set, ap, ◌∙◌, ap₂}
 use Rattle.timing.specs.Class.{behind, cursor_past}
 use Rattle.timing.specs.machine.Edges.{units_in, units_from}
 use Rattle.timing.specs.declared.cursor.Cursor.{Cursor}
-use Rattle.timing.proofs.UnitsLaws.{units_count}
-use Rattle.intervals.specs.machine.Either.{kind_mask}
 use Rattle.intervals.proofs.EitherLaws.{block_units, block_cursor}
 use Rattle.intervals.proofs.units.units_of_sure.Goals as goal
-
-pub bounds-intervals-1 : goal.bounds-intervals-1
-bounds-intervals-1 c = omega (arith, c.requires.units_len.1)
-
-pub bounds-units-1 : goal.bounds-units-1
-bounds-units-1 c =
-    let long = ap length c.fill_behind.ensures ∙ units_count _ c.args.intervals.now in
-    rw length-set (omega (arith, long, c.requires.units_len.1))
-
-pub last_of-requires : goal.last_of-requires
-last_of-requires c = omega (arith, c.requires.units_len.1)
-
-pub shape_of-kinds : goal.shape_of-kinds
-shape_of-kinds c =
-    let ds = c.args.intervals.now in
-    let room : suc (length ds) ≡ length c.args.kinds.now = omega (arith, c.requires.kinds_len) in
-    ap length c.mark_kinds.ensures ∙ ap suc (length-map ds (kind_mask c.args.start)) ∙ room
-
-pub shape_of-units : goal.shape_of-units
-shape_of-units c =
-    rw (length-set, length-set)
-    (ap length c.fill_behind.ensures ∙ units_count _ c.args.intervals.now ∙ sym c.requires.units_len.0)
 
 pub returns : goal.returns
 returns c =

@@ -1,12 +1,12 @@
 -- `Check::after_run` keeps what the bytes from k on make of the state: eights do, and two numbers below 256 pass
 -- through as the data bytes that they are. Rests on no axiom.
 use Prim.Native.Nat.{ℕ, ◌+◌, ◌≤◌, ◌<◌}
-use mathlib.Core.Path.{◌≡◌, refl, sym, ap, ◌∙◌}
+use mathlib.Core.Path.{◌≡◌, sym, ap, ◌∙◌}
 use mathlib.Core.List.{List}
 use native.Mathlib.Omega.{arith}
 use lib.Bits.{bit_or, or_add_and, and_le_l, and_le_r}
 use lib.ListN.{length, get_or, drop}
-use Rattle.items.specs.Written.{after_bytes}
+use Rattle.items.specs.Written.{after_byte, after_bytes}
 use Rattle.items.specs.declared.Check.{Check}
 use Rattle.items.proofs.CheckLaws.{unmarked, after_bytes_from, after_two_data_from}
 use Rattle.items.proofs.Check.after_run.Goals as goal
@@ -15,47 +15,28 @@ both_small : (a b : ℕ) → bit_or a b ≤ 255 → (a < 256) × (b < 256)
 both_small a b h = (omega (arith, or_add_and a b, and_le_r a b), omega (arith, or_add_and a b, and_le_l a b))
 
 -- what the loop keeps, from the function's start on
-kept_from_start_2
-    : (c : goal.After-loop-k)
-    → after_bytes c.loop-k.check
-    (drop c.loop-k.k c.args.bytes.now)
-    ≡ after_bytes c.args.self
-    (drop c.args.from
-    c.args.bytes.now)
-kept_from_start_2 c =
-    let bytes = c.args.bytes.now in
-    c.loop-k.invariant.2
-    ∙ c.after_eights-eights.ensures.state
-    ∙ ap (λ (s : Check). after_bytes s (drop (c.args.from + 1) bytes)) c.after_byte-first.ensures
-    ∙ sym (after_bytes_from _ bytes _ c.requires)
-
--- what the loop keeps, from the function's start on
 kept_from_start
-    : (c : goal.Then-high-low-gt255)
-    → after_bytes c.loop-k.check
-    (drop c.loop-k.k c.args.bytes.now)
-    ≡ after_bytes c.args.self
-    (drop c.args.from
-    c.args.bytes.now)
-kept_from_start c =
-    let bytes = c.args.bytes.now in
-    c.loop-k.invariant.2
-    ∙ c.after_eights-eights.ensures.state
-    ∙ ap (λ (s : Check). after_bytes s (drop (c.args.from + 1) bytes)) c.after_byte-first.ensures
-    ∙ sym (after_bytes_from _ bytes _ c.requires)
-
-pub overflow_sub-last : goal.overflow_sub-last
-overflow_sub-last c = omega (arith, c.requires)
-
-pub after_eights-eights-requires : goal.after_eights-eights-requires
-after_eights-eights-requires c = omega (arith, c.requires)
-
-pub loop-k-init : goal.loop-k-init
-loop-k-init c = let place = c.after_eights-eights.ensures.place in (omega (arith, place.0), place.1, refl)
+    : (start first eights last : Check) (bytes : List ℕ) (from j k : ℕ)
+    → from < length bytes
+    → first ≡ after_byte start (get_or bytes from 0)
+    → after_bytes eights (drop j bytes) ≡ after_bytes first (drop (from + 1) bytes)
+    → after_bytes last (drop k bytes) ≡ after_bytes eights (drop j bytes)
+    → after_bytes last (drop k bytes) ≡ after_bytes start (drop from bytes)
+kept_from_start start first eights last bytes from j k inside byte passed kept =
+    kept
+    ∙ passed
+    ∙ ap (λ (s : Check). after_bytes s (drop (from + 1) bytes)) byte
+    ∙ sym (after_bytes_from start bytes from inside)
 
 pub returns-then-high-low-gt255 : goal.returns-then-high-low-gt255
 returns-then-high-low-gt255 c =
-    record { place = (c.loop-k.invariant.0, c.loop-k.invariant.1); state = kept_from_start c }
+    record {
+      place = (c.loop-k.invariant.0, c.loop-k.invariant.1);
+      state =
+          kept_from_start c.args.self _ c.after_eights-eights.result.check c.loop-k.check c.args.bytes.now c.args.from
+          c.after_eights-eights.result.count c.loop-k.k c.requires c.after_byte-first.ensures
+          c.after_eights-eights.ensures.state c.loop-k.invariant.2;
+    }
 
 pub feed_two-requires : goal.feed_two-requires
 feed_two-requires c = both_small _ _ (omega (arith, c.if-high-low-gt255.false))
@@ -74,4 +55,11 @@ loop-k-preserved c =
     )
 
 pub returns : goal.returns
-returns c = record { place = (c.loop-k.invariant.0, c.loop-k.invariant.1); state = kept_from_start_2 c }
+returns c =
+    record {
+      place = (c.loop-k.invariant.0, c.loop-k.invariant.1);
+      state =
+          kept_from_start c.args.self _ c.after_eights-eights.result.check c.loop-k.check c.args.bytes.now c.args.from
+          c.after_eights-eights.result.count c.loop-k.k c.requires c.after_byte-first.ensures
+          c.after_eights-eights.ensures.state c.loop-k.invariant.2;
+    }

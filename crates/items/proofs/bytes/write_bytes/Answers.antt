@@ -1,9 +1,8 @@
 -- `bytes::write_bytes` stores all bytes of a list: each turn stores a run and the check order behind it, and the last
 -- run is its own bytes. Rests on no axiom.
 use Prim.Native.Nat.{ℕ, ◌+◌, ◌-◌, ◌≤◌, ◌<◌}
-use mathlib.Core.Path.{◌≡◌, refl, sym, ap, ap₂, ◌∙◌}
+use mathlib.Core.Path.{◌≡◌, sym, ap, ap₂, ◌∙◌}
 use mathlib.Core.List.{List, ◌++◌}
-use native.Mathlib.Nat.{zero-add}
 use native.Mathlib.Omega.{arith}
 use lib.ListN.{length, drop, length-append, length-drop}
 use lib.Seq.{length-take-le}
@@ -17,7 +16,6 @@ use Rattle.items.proofs.ItemLaws.{written_bytes_bounds}
 use Rattle.items.proofs.CheckLaws.{after_bytes-append}
 use Rattle.items.proofs.WrittenLaws.{length_of_written_from}
 use Rattle.items.proofs.RunLaws.{rest_of, run_at, last_run_from, run_from}
-use borrow.Author.Rules.{rules}
 use Rattle.items.proofs.bytes.write_bytes.Invariants.{Storing}
 use Rattle.items.proofs.bytes.write_bytes.Goals as goal
 
@@ -87,32 +85,11 @@ module _ {items out₀ : List ℕ} {start : Check} {out : List ℕ} {check : Che
     last_count : at + length (drop from items) ≡ written_bytes items
     last_count = omega (arith, on.count, length_of_written_from check (drop from items), ap length last)
 
-pub loop-run-init : goal.loop-run-init
-loop-run-init c =
-    record { within = omega arith; told = c.find_check-run.ensures; count = zero-add _; stored = refl; state = refl }
-
-pub overflow_sub-items : goal.overflow_sub-items
-overflow_sub-items c = c.loop-run.invariant.within
-
-pub overflow_add-end : goal.overflow_add-end
-overflow_add-end c = let h = c.loop-run.invariant.within in omega arith
-
-pub offset_bounds-items-from : goal.offset_bounds-items-from
-offset_bounds-items-from c = let h = c.loop-run.invariant.within in search rules
-
-pub slice_bounds-write_run-end : goal.slice_bounds-write_run-end
-slice_bounds-write_run-end c = let h = c.loop-run.invariant.within in search rules
-
 pub write_run-check-requires : goal.write_run-check-requires
 write_run-check-requires c =
     let head = c.loop-run in
     let items : List ℕ = c.args.items.now in
     omega (arith, head.invariant.count, counted head.invariant c.loop-run-test.true, written_bytes_bounds items)
-
-pub overflow_add-at : goal.overflow_add-at
-overflow_add-at c =
-    let head = c.loop-run in
-    omega (arith, c.loop-run-test.true)
 
 pub overflow_add-at-in-loop-run : goal.overflow_add-at-in-loop-run
 overflow_add-at-in-loop-run c =
@@ -128,29 +105,12 @@ loop-run-preserved c =
     a_run_more head.invariant c.loop-run-test.true _ _ _ c.write_run-check.ensures.check
     c.write_run-check.ensures.output told
 
-pub offset_bounds-items-from-2 : goal.offset_bounds-items-from-2
-offset_bounds-items-from-2 c = let h = c.loop-run.invariant.within in search rules
-
-pub slice_bounds-last-count : goal.slice_bounds-last-count
-slice_bounds-last-count c = c.loop-run.invariant.within
-
-pub slice_bounds-last-start : goal.slice_bounds-last-start
-slice_bounds-last-start c = let h = c.loop-run.invariant.within in search rules
-
-pub slice_bounds-last-end : goal.slice_bounds-last-end
-slice_bounds-last-end c = let h = c.loop-run.invariant.within in search rules
-
 pub overflow_add-result : goal.overflow_add-result
 overflow_add-result c =
     let head = c.loop-run in
     let items : List ℕ = c.args.items.now in
     rw (rest_of items head.from)
     (omega (arith, last_count head.invariant c.loop-run-test.false, written_bytes_bounds items))
-
-pub shape_of-out : goal.shape_of-out
-shape_of-out c =
-    ap length c.store.ensures ∙ stored_length _ _ _
-    ∙ same_size c.loop-run.invariant
 
 pub returns : goal.returns
 returns c =

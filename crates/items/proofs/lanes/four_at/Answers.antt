@@ -6,18 +6,6 @@ use Rattle.items.specs.machine.Lanes.{four_at}
 use Rattle.items.proofs.LaneLaws.{or_is_lanes}
 use Rattle.items.proofs.lanes.four_at.Goals as goal
 
-pub overflow_cast-result : goal.overflow_cast-result
-overflow_cast-result c = omega (arith, c.type_inv.numbers c.args.k)
-
-pub overflow_cast-result-2 : goal.overflow_cast-result-2
-overflow_cast-result-2 c = omega (arith, c.type_inv.numbers (c.args.k + 1))
-
-pub overflow_cast-result-3 : goal.overflow_cast-result-3
-overflow_cast-result-3 c = omega (arith, c.type_inv.numbers (c.args.k + 2))
-
-pub overflow_cast-result-4 : goal.overflow_cast-result-4
-overflow_cast-result-4 c = omega (arith, c.type_inv.numbers (c.args.k + 3))
-
 pub returns : goal.returns
 unfolding four_at
 returns c =

@@ -15,20 +15,6 @@ small_behind : (l : List ℕ) (k : ℕ) → ((i : ℕ) → i < 8 → get_or l (k
     → get_or l (k + 4 + i) 0 < 256
 small_behind l k small i h = let place : k + 4 + i ≡ k + (4 + i) = omega arith in rw place (small (4 + i) (omega arith))
 
-pub joined_four-requires : goal.joined_four-requires
-joined_four-requires c =
-    let small = c.requires.by_index in record {
-      k_in_bounds = omega (arith, c.requires.k_in_bounds);
-      by_index = λ i h. small i (omega arith);
-    }
-
-pub joined_four-requires-2 : goal.joined_four-requires-2
-joined_four-requires-2 c =
-    record {
-      k_in_bounds = omega (arith, c.requires.k_in_bounds);
-      by_index = small_behind c.args.bytes.now c.args.k c.requires.by_index;
-    }
-
 pub returns : goal.returns
 returns c =
     let bytes : List ℕ = c.args.bytes.now in

@@ -1,26 +1,21 @@
 -- Why `list::all_items` tells whether all are items: what was told and what is left to tell stay the same from turn to
 -- turn. Rests on no axiom.
-use mathlib.Core.Path.{refl, sym, ◌∙◌}
+use mathlib.Core.Path.{sym, ◌∙◌}
 use mathlib.Core.Bool.{and-true, and_assoc}
 use native.Mathlib.Numerals.{add-one}
-use native.Mathlib.Omega.{arith}
 use lib.ListN.{drop_of_length-le}
 use lib.Seq.{drop-cons}
 use Rattle.lists.specs.Place.{everywhere}
 use Rattle.items.proofs.list.all_items.Goals as goal
 
-pub loop-k-init : goal.loop-k-init
-loop-k-init c = (omega arith, refl)
-
-pub loop-k-preserved : goal.loop-k-preserved
+pub loop-item-preserved : goal.loop-item-preserved
 unfolding everywhere
-loop-k-preserved c =
-    let inside = c.loop-k-test.true in
-    let here = drop-cons c.args.items.now c.loop-k.k 0 inside in
-    rw (c.is_item-all.ensures, add-one) (inside, and_assoc c.loop-k.all _ _ ∙ rw here at c.loop-k.invariant.1)
+loop-item-preserved c =
+    let here = drop-cons c.args.items.now c.loop-item.item-index 0 c.loop-item-test.true in
+    rw (c.is_item-all.ensures, add-one) (and_assoc c.loop-item.all _ _ ∙ rw here at c.loop-item.invariant)
 
 pub returns : goal.returns
 unfolding everywhere
 returns c =
-    let none = drop_of_length-le c.args.items.now {i = c.loop-k.k} c.loop-k-test.false in
-    sym (and-true c.loop-k.all) ∙ rw none at c.loop-k.invariant.1
+    let none = drop_of_length-le c.args.items.now {i = c.loop-item.item-index} c.loop-item-test.false in
+    sym (and-true c.loop-item.all) ∙ rw none at c.loop-item.invariant

@@ -1,19 +1,15 @@
 -- Why `list::pass_eights` passes over no check order: of eight numbers that have none of the bits from 512 on, none is
 -- 512. Rests on no axiom.
-use Prim.Native.Nat.{ℕ, ◌+◌, ◌^◌, ◌≤◌, ◌<◌, zero-le}
+use Prim.Native.Nat.{ℕ, ◌+◌, ◌^◌, ◌≤◌, ◌<◌}
 use mathlib.Core.Path.{◌≡◌, sym, ◌∙◌}
 use mathlib.Core.Bool.{false}
 use mathlib.Core.List.{List}
-use native.Mathlib.Nat.{zero-add}
 use native.Mathlib.Omega.{arith}
 use lib.ListN.{length, get_or}
 use Rattle.items.specs.Item.{is_check}
 use Rattle.items.proofs.ItemLaws.{below_512_is_no_check, check_is_further}
 use Rattle.items.proofs.LaneLaws.{bits_of_512, eight_below}
 use Rattle.items.proofs.list.pass_eights.Goals as goal
-
-pub loop-k-init : goal.loop-k-init
-loop-k-init c = (zero-le, zero-add _)
 
 pub loop-k-preserved : goal.loop-k-preserved
 loop-k-preserved c =

@@ -13,20 +13,15 @@ overflow_cast-result c =
 
 pub returns-then-crosses : goal.returns-then-crosses
 returns-then-crosses c =
-    let turn = c.loop-k in
     sym (seen_here _ _ _ _ _ _ _ c.loop-k-test.true
     (sym c.crosses.ensures ∙ c.if-crosses.true))
-    ∙ turn.invariant.1
+    ∙ c.loop-k.invariant
 
 pub loop-k-preserved : goal.loop-k-preserved
 loop-k-preserved c =
-    let turn = c.loop-k in
-    let below = c.loop-k-test.true in (
-      omega (arith, below),
-      rw c.is_two-two.ensures
-          (sym (seen_further _ _ _ _ _ _ _ below (sym c.crosses.ensures ∙ c.if-crosses.false))
-          ∙ turn.invariant.1),
-    )
+    rw c.is_two-two.ensures
+    (sym (seen_further _ _ _ _ _ _ _ c.loop-k-test.true (sym c.crosses.ensures ∙ c.if-crosses.false))
+    ∙ c.loop-k.invariant)
 
 pub returns : goal.returns
-returns c = sym (seen_nowhere _ _ _ _ _ _ _ c.loop-k-test.false) ∙ c.loop-k.invariant.1
+returns c = sym (seen_nowhere _ _ _ _ _ _ _ c.loop-k-test.false) ∙ c.loop-k.invariant

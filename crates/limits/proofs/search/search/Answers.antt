@@ -8,25 +8,19 @@ use Rattle.limits.proofs.search.search.Goals as goal
 
 pub loop-item-init : goal.loop-item-init
 unfolding searched
-loop-item-init c = (omega arith, refl)
+loop-item-init c = refl
 
-pub returns-in-At : goal.returns-in-At
-returns-in-At c =
-    let turn = c.loop-item in
-    let below = c.loop-item-test.true in
-    sym (found_here _ _ _ _ (omega (arith, below)) _ _ _ c.seen_in-seen.ensures c.in-At.is)
-    ∙ turn.invariant.1
+pub returns-then-is_some : goal.returns-then-is_some
+returns-then-is_some c =
+    sym (found_here _ _ _ _ (omega (arith, c.loop-item-test.true)) _ c.seen_in-seen.ensures
+    (sym c.is_some.ensures ∙ c.if-is_some.true))
+    ∙ c.loop-item.invariant
 
 pub loop-item-preserved : goal.loop-item-preserved
 loop-item-preserved c =
-    let turn = c.loop-item in
-    let below = c.loop-item-test.true in
-    let nothing = sym c.seen_in-seen.ensures ∙ c.in-Nowhere.is in (
-      omega (arith, below),
-      sym (found_later _ _ _ _ (omega (arith, below)) nothing) ∙ turn.invariant.1,
-    )
+    sym (found_later _ _ _ _ (omega (arith, c.loop-item-test.true)) _ c.seen_in-seen.ensures
+    (sym c.is_some.ensures ∙ c.if-is_some.false))
+    ∙ c.loop-item.invariant
 
 pub returns : goal.returns
-returns c =
-    let over = c.loop-item-test.false in
-    sym (found_nowhere _ _ _ _ (omega (arith, over))) ∙ c.loop-item.invariant.1
+returns c = sym (found_nowhere _ _ _ _ (omega (arith, c.loop-item-test.false))) ∙ c.loop-item.invariant

@@ -1,5 +1,7 @@
 -- Why `search::seen_in` answers `seen_in`: the writer takes a one-byte list, and the front of its output is the stream.
 -- Rests on no axiom.
+use Rattle.std.specs.Prelude.{Result, Ok, Err}
+use Rattle.refusal.specs.declared.Refusal.{Refusal}
 use Prim.Native.Nat.{ℕ, ◌≤◌, ◌<◌}
 use mathlib.Core.Path.{◌≡◌, refl, sym, ap, ◌∙◌}
 use mathlib.Core.Bool.{true}
@@ -8,8 +10,6 @@ use native.Mathlib.Omega.{arith}
 use lib.ListN.{length, take}
 use lib.Seq.{length-take-le}
 use Rattle.refusal.specs.Answer.{counted_answer}
-use Rattle.refusal.specs.declared.Counted.{Counted}
-use Rattle.refusal.specs.declared.Counted.TheVariants.{Count}
 use Rattle.timing.specs.Profile.{profile_rule}
 use Rattle.timing.specs.declared.Profile.{Profile}
 use Rattle.lengths.specs.Stream.{stream_of}
@@ -23,10 +23,10 @@ the_stream
     : (p : Profile) (item : ℕ)
     → (profile_rule p).number ≡ 0
     → item < 256
-    → (r : Counted)
+    → (r : Result ℕ Refusal)
     → counted_answer r ≡ write_rule p (item ∷ []) 10
     → (n : ℕ)
-    → r ≡ Count n
+    → r ≡ Ok n
     → (old out : List ℕ)
     → out ≡ write_output p (item ∷ []) old
     → length old ≡ 10
@@ -36,36 +36,36 @@ the_stream p item ok small r answer n is old out same size =
 
 pub slice_bounds-out-end : goal.slice_bounds-out-end
 slice_bounds-out-end c =
-    let (few, same) = the_stream _ _ c.requires.p_value c.requires.item_bound _ c.write.ensures.answer _ c.in-Count.is _ _
+    let (few, same) = the_stream _ _ c.requires.p_value c.requires.item_bound _ c.write.ensures.answer _ c.in-Ok.is _ _
     c.write.ensures.output refl in
     omega (arith, few)
 
 pub slice_bounds-first_seen-end : goal.slice_bounds-first_seen-end
 slice_bounds-first_seen-end c =
-    let (few, same) = the_stream _ _ c.requires.p_value c.requires.item_bound _ c.write.ensures.answer _ c.in-Count.is _ _
+    let (few, same) = the_stream _ _ c.requires.p_value c.requires.item_bound _ c.write.ensures.answer _ c.in-Ok.is _ _
     c.write.ensures.output refl in
-    sym (length-take-le c.in-Count.count _ (omega (arith, few)))
+    sym (length-take-le c.in-Ok.count _ (omega (arith, few)))
 
 pub first_seen-requires : goal.first_seen-requires
 first_seen-requires c =
-    let (few, same) = the_stream _ _ c.requires.p_value c.requires.item_bound _ c.write.ensures.answer _ c.in-Count.is _ _
+    let (few, same) = the_stream _ _ c.requires.p_value c.requires.item_bound _ c.write.ensures.answer _ c.in-Ok.is _ _
     c.write.ensures.output refl in
     omega (
       arith,
       few,
-      length-take-le c.in-Count.count c.write.new.out
+      length-take-le c.in-Ok.count c.write.new.out
           (omega (arith, few)),
     )
 
-pub returns-in-Refused : goal.returns-in-Refused
-returns-in-Refused c =
+pub returns-in-Err : goal.returns-in-Err
+returns-in-Err c =
     let written = c.write in
     absurd (one_byte_is_not_refused c.args.p c.args.item c.requires.p_value c.requires.item_bound
-    written.result written.ensures.answer _ c.in-Refused.is)
+    written.result written.ensures.answer _ c.in-Err.is)
 
-pub returns-in-Count : goal.returns-in-Count
-returns-in-Count c =
+pub returns-in-Ok : goal.returns-in-Ok
+returns-in-Ok c =
     let args = c.args in
-    let (few, same) = the_stream _ _ c.requires.p_value c.requires.item_bound _ c.write.ensures.answer _ c.in-Count.is _ _
+    let (few, same) = the_stream _ _ c.requires.p_value c.requires.item_bound _ c.write.ensures.answer _ c.in-Ok.is _ _
     c.write.ensures.output refl in
     c.first_seen.ensures ∙ ap (λ (ds : List ℕ). seen_from args.p args.s args.n args.item true 0 ds) same

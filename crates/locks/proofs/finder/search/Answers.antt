@@ -6,7 +6,7 @@ use mathlib.Core.List.{List}
 use native.Mathlib.Omega.{arith}
 use lib.ListN.{length, drop, length-drop}
 use Rattle.refusal.specs.Answer.{Answer, accepted, refused, counted_answer}
-use Rattle.refusal.proofs.AnswerLaws.{number_is_not_zero}
+use Rattle.refusal.proofs.AnswerLaws.{number_is_not_zero, handed_on}
 use Rattle.timing.specs.Class.{classes_of}
 use Rattle.timing.specs.declared.Profile.{Profile}
 use Rattle.timing.specs.declared.Class.{Class}
@@ -39,33 +39,13 @@ module _ (p : Profile) (ds : List ℕ) (start : ℕ) where
       let long = count in
       omega arith
 
--- what the scan answers
-scanned_2
-    : (c : goal.In-Count)
-    → let args = c.args in
-    counted_answer c.scan.result ≡ lock_from (classes_of args.p (drop args.start args.intervals.now)) 0
-scanned_2 c =
-    let args = c.args in
-    c.scan.ensures
-    ∙ ap (λ (ds : List ℕ). lock_from (classes_of args.p ds) 0) (part_to_end args.intervals.now args.start)
-
--- what the scan answers
+-- what the scan answers of the intervals that it has
 scanned
-    : (c : goal.In-Refused)
-    → let args = c.args in
-    counted_answer c.scan.result ≡ lock_from (classes_of args.p (drop args.start args.intervals.now)) 0
-scanned c =
-    let args = c.args in
-    c.scan.ensures
-    ∙ ap (λ (ds : List ℕ). lock_from (classes_of args.p ds) 0) (part_to_end args.intervals.now args.start)
-
--- and the place, where it has one
-found
-    : (c : goal.In-Count)
-    → let args = c.args in
-    accepted c.in-Count.k
-    ≡ lock_from (classes_of args.p (drop args.start args.intervals.now)) 0
-found c = sym (ap counted_answer c.in-Count.is) ∙ scanned_2 c
+    : (p : Profile) (part ds : List ℕ) {a : Answer}
+    → part ≡ ds
+    → a ≡ lock_from (classes_of p part) 0
+    → a ≡ lock_from (classes_of p ds) 0
+scanned p part ds e h = h ∙ ap (λ (l : List ℕ). lock_from (classes_of p l) 0) e
 
 pub returns-then-intervals-start : goal.returns-then-intervals-start
 returns-then-intervals-start c = past_end_is_adrift _ _ _ c.if-intervals-start.true
@@ -76,17 +56,22 @@ scan-requires c = c.requires
 pub overflow_add-result : goal.overflow_add-result
 overflow_add-result c =
     let args = c.args in
-    let within = place_is_within args.p args.intervals.now args.start _ (found c) in
+    let told = scanned args.p _ _ (part_to_end args.intervals.now args.start) c.scan.ensures in
+    let within = place_is_within args.p args.intervals.now args.start _ (sym (ap counted_answer c.in_ok-k.was) ∙ told) in
     omega (arith, c.well_formed)
 
-pub returns-in-Refused : goal.returns-in-Refused
+pub returns-in_err-k : goal.returns-in_err-k
 unfolding search_rule
-returns-in-Refused c =
-    rw (
-      sym (scanned c) ∙ ap counted_answer c.in-Refused.is,
-      number_is_not_zero c.in-Refused.refusal,
-    )
+returns-in_err-k c =
+    let args = c.args in
+    let r = c.in_err-k.field-0.0 in
+    let told = scanned args.p _ _ (part_to_end args.intervals.now args.start) c.scan.ensures in
+    handed_on _ r c.from_residual.ensures.1
+    ∙ rw (sym told ∙ ap counted_answer c.in_err-k.was, number_is_not_zero r)
 
-pub returns-in-Count : goal.returns-in-Count
+pub returns : goal.returns
 unfolding search_rule
-returns-in-Count c = rw (sym (found c))
+returns c =
+    let args = c.args in
+    let told = scanned args.p _ _ (part_to_end args.intervals.now args.start) c.scan.ensures in
+    rw (sym told ∙ ap counted_answer c.in_ok-k.was)

@@ -1,4 +1,4 @@
-use Prim.Native.Nat.{◌+◌, ◌-◌, ◌*◌, ◌≤◌}
+use Prim.Native.Nat.{◌+◌, ◌*◌, ◌≤◌}
 use mathlib.Core.Path.{◌≡◌}
 use lib.ListN.{length}
 use Rattle.merge.specs.Rule.{result}
@@ -10,6 +10,3 @@ invariant-loop-n l =
     (l.n ≤ 256)
     × (l.size ≤ 1027 * l.n)
     × (l.size + length (bytes_from l.first l.second l.n) ≡ length (result l.first l.second))
-
-abbrev pub decreases-loop-n : goal.decreases-loop-n
-decreases-loop-n l = l.span.high - l.n

@@ -36,9 +36,6 @@ loop-n-preserved c =
       stored_next _ _ _ _ _ _ c.put_taken-start.ensures.output c.put_taken-start.ensures.next ∙ rw bytes at inv.3,
     )
 
-pub shape_of-out : goal.shape_of-out
-shape_of-out c = c.loop-n.invariant.1
-
 pub returns : goal.returns
 returns c =
     let pre = c.requires in

@@ -1,4 +1,4 @@
-use Prim.Native.Nat.{◌+◌, ◌-◌, ◌≤◌}
+use Prim.Native.Nat.{◌+◌, ◌≤◌}
 use mathlib.Core.Path.{◌≡◌}
 use lib.ListN.{length}
 use Rattle.lists.specs.Filled.{stored_at}
@@ -12,6 +12,3 @@ invariant-loop-n l =
     × (length l.out ≡ length l.initial.out)
     × (l.start + length (bytes_from l.first l.second l.n) ≤ length l.initial.out)
     × (stored_at l.out l.start (bytes_from l.first l.second l.n) ≡ stored_at l.initial.out 0 (result l.first l.second))
-
-abbrev pub decreases-loop-n : goal.decreases-loop-n
-decreases-loop-n l = l.span.high - l.n

@@ -25,11 +25,6 @@ returns-then-b-eq0 c =
       other_shows_no_twice _ _ c.if-a-eq65535.false,
     )
 
-pub copies_disagree-requires : goal.copies_disagree-requires
-copies_disagree-requires c =
-    let second = c.if-b-eq65535.false in
-    (c.requires.0 c.if-a-eq0.false c.if-a-eq65535.false, c.requires.1 c.if-b-eq0.false second)
-
 pub returns : goal.returns
 unfolding at_odds
 returns c =

@@ -25,10 +25,6 @@ unfolding disagree sector_at sector_of
 returns-then-code-second c =
     rw (ne_eqb _ 0 c.if-first-a-eq0.false, ne_eqb _ 0 c.if-second-b-eq0.false, ne_eqb _ _ c.if-code-second.true)
 
-pub slice_bounds-same_bytes-end-2 : goal.slice_bounds-same_bytes-end-2
-slice_bounds-same_bytes-end-2 c =
-    omega (arith, c.requires.1, c.sector_size-size.ensures, ap sector_size c.if-code-second.false)
-
 pub returns : goal.returns
 unfolding disagree sector_at sector_of
 returns c =

@@ -17,19 +17,16 @@ loop-n-init c =
       lowest_before _ _ _ pre.one_spans pre.other_spans _ (nothing_at_odds _ _ _ _ _ pre),
     )
 
-pub at_odds-requires : goal.at_odds-requires
-at_odds-requires c =
-    let pre = c.requires in
-    let inside : c.loop-n.n < 256 = omega (arith, pre.one_spans.high_ends) in
-    (pre.one.within _ inside, pre.other.within _ inside)
-
 pub returns-then-at_odds : goal.returns-then-at_odds
 unfolding lowest
 returns-then-at_odds c =
     let pre = c.requires in
     let inside : c.loop-n.n < 256 = omega (arith, pre.one_spans.high_ends) in
     let here = c.at_odds.ensures ∙ entries_at_odds _ _ _ _ pre.one pre.other _ inside in
-    omega (arith, rw (numbers_from _ inside, ← here, c.if-at_odds.true) at c.loop-n.invariant.1)
+    record {
+      lowest = omega (arith, rw (numbers_from _ inside, ← here, c.if-at_odds.true) at c.loop-n.invariant.1);
+      number = inside;
+    }
 
 pub loop-n-preserved : goal.loop-n-preserved
 unfolding lowest
@@ -42,5 +39,9 @@ loop-n-preserved c =
 pub returns : goal.returns
 returns c =
     let pre = c.requires in
-    lowest_after _ _ _ pre.one_spans pre.other_spans _ (nothing_at_odds _ _ _ _ _ pre) _ c.loop-n-test.false
-    c.loop-n.invariant.0 c.loop-n.invariant.1
+    record {
+      lowest =
+          lowest_after _ _ _ pre.one_spans pre.other_spans _ (nothing_at_odds _ _ _ _ _ pre) _ c.loop-n-test.false
+          c.loop-n.invariant.0 c.loop-n.invariant.1;
+      number = tt;
+    }

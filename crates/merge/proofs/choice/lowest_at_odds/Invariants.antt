@@ -1,4 +1,4 @@
-use Prim.Native.Nat.{◌+◌, ◌-◌, ◌≤◌}
+use Prim.Native.Nat.{◌+◌, ◌≤◌}
 use mathlib.Core.Path.{◌≡◌}
 use lib.ListN.{drop}
 use Rattle.lists.specs.Place.{lowest}
@@ -12,6 +12,3 @@ invariant-loop-n l =
     (l.n ≤ 256)
     × (l.n + lowest (at_odds_at (sectors_in l.first) (sectors_in l.second)) (drop l.n numbers)
     ≡ lowest (at_odds_at (sectors_in l.first) (sectors_in l.second)) numbers)
-
-abbrev pub decreases-loop-n : goal.decreases-loop-n
-decreases-loop-n l = l.span.high - l.n

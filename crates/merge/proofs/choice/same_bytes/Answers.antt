@@ -1,7 +1,7 @@
--- Why `merge::choice::same_bytes` answers `same_bytes`: whether the bytes so far are alike, and whether the rest is, stay
--- one answer from turn to turn. Rests on no axiom.
+-- Why `merge::choice::same_bytes` answers `same_bytes`: whether the bytes so far are alike, and whether the rest is,
+-- stay one answer from turn to turn. Rests on no axiom.
 use Prim.Native.Nat.{◌≤◌}
-use mathlib.Core.Path.{refl, sym, ◌∙◌}
+use mathlib.Core.Path.{sym, ◌∙◌}
 use mathlib.Core.Bool.{and_assoc, and-true}
 use native.Mathlib.Numerals.{add-one}
 use native.Mathlib.Omega.{arith}
@@ -14,9 +14,6 @@ use Rattle.merge.proofs.choice.same_bytes.Goals as goal
 pub returns-then-a-b : goal.returns-then-a-b
 returns-then-a-b c = sym (unlike_lengths_are_unlike _ _ c.if-a-b.true)
 
-pub loop-k-init : goal.loop-k-init
-loop-k-init c = (omega arith, refl)
-
 pub loop-k-preserved : goal.loop-k-preserved
 unfolding same_bytes
 loop-k-preserved c =
@@ -24,11 +21,12 @@ loop-k-preserved c =
     let args = c.args in
     let rest =
     rw (drop-cons args.a.now k 0 c.loop-k-test.true, drop-cons args.b.now k 0 (omega arith)) at
-    c.loop-k.invariant.1 in
-    (omega arith, rw add-one (and_assoc c.loop-k.same _ _ ∙ rest))
+    c.loop-k.invariant in
+    rw add-one (and_assoc c.loop-k.same _ _ ∙ rest)
 
 pub returns : goal.returns
 unfolding same_bytes
 returns c =
     let end : length c.args.b.now ≤ c.loop-k.k = omega arith in
-    rw (drop_of_length-le c.args.a.now c.loop-k-test.false, drop_of_length-le c.args.b.now end, and-true) at c.loop-k.invariant.1
+    rw (drop_of_length-le c.args.a.now c.loop-k-test.false, drop_of_length-le c.args.b.now end, and-true) at
+    c.loop-k.invariant

@@ -1,4 +1,4 @@
-use Prim.Native.Nat.{◌+◌, ◌-◌, ◌≤◌}
+use Prim.Native.Nat.{◌+◌, ◌≤◌}
 use mathlib.Core.Path.{◌≡◌}
 use lib.ListN.{drop}
 use Rattle.sets.specs.Held.{how_many, numbers}
@@ -10,6 +10,3 @@ invariant-loop-n l =
     (l.n ≤ 256)
     × (l.count ≤ l.n)
     × (l.count + how_many (entry_in_either l.a l.b) (drop l.n numbers) ≡ how_many (entry_in_either l.a l.b) numbers)
-
-abbrev pub decreases-loop-n : goal.decreases-loop-n
-decreases-loop-n l = l.span.high - l.n

@@ -2,19 +2,12 @@
 -- or none. Rests on no axiom.
 use Prim.Native.Nat.{ℕ, ◌+◌}
 use mathlib.Core.Path.{sym, ap, ◌∙◌}
-use native.Mathlib.Omega.{arith}
 use lib.ListN.{length}
 use Rattle.merge.proofs.OutputLaws.{bytes_of_entry, bytes_of_no_entry, sector_bytes-length}
 use Rattle.merge.proofs.output.entry_size.Goals as goal
 
 pub returns-then-entry-eq0 : goal.returns-then-entry-eq0
 returns-then-entry-eq0 c = sym (ap length (bytes_of_no_entry _ _ c.if-entry-eq0.true))
-
-pub bounds-set-code : goal.bounds-set-code
-bounds-set-code c = omega (arith, c.requires.0 c.if-entry-eq0.false c.requires.1)
-
-pub overflow_add-result : goal.overflow_add-result
-overflow_add-result c = omega (arith, c.requires.0 c.if-entry-eq0.false c.requires.1, c.sector_size.ensures)
 
 pub returns : goal.returns
 returns c =

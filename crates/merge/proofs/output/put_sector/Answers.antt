@@ -1,36 +1,21 @@
 -- Why `merge::output::put_sector` stores the sector's bytes: three stores, then its data where they end. Rests on no
 -- axiom.
 use Prim.Native.Nat.{suc, ◌+◌}
-use mathlib.Core.Path.{◌≡◌}
+use mathlib.Core.Path.{◌≡◌, ◌∙◌}
 use native.Mathlib.Nat.{add-sub_cancel_left}
 use native.Mathlib.Omega.{arith}
-use lib.ListN.{length-set, length-take}
 use Rattle.lists.specs.Filled.{stored_at}
 use Rattle.sets.specs.machine.Index.{sector_at}
 use Rattle.sets.specs.Set.{sector_bytes, sector_of}
-use Rattle.merge.proofs.OutputLaws.{sector_bytes-length}
+use Rattle.merge.proofs.OutputLaws.{sector_bytes-length, byte_of_bool}
 use Rattle.merge.proofs.output.put_sector.Goals as goal
-
-pub bounds-out-start-2 : goal.bounds-out-start-2
-bounds-out-start-2 c = simp length-set (omega arith)
-
-pub bounds-out-start-3 : goal.bounds-out-start-3
-bounds-out-start-3 c = simp length-set (omega arith)
-
-pub copy-requires : goal.copy-requires
-copy-requires c =
-    let size = c.sector_size-size.ensures in
-    simp (length-set, length-take) (omega (arith, size))
-
-pub shape_of-out : goal.shape_of-out
-shape_of-out c = simp length-set at c.copy.auto.out
 
 pub returns : goal.returns
 unfolding stored_at sector_bytes sector_at sector_of
 returns c =
     let at = c.args.start in
     let size = c.sector_size-size.ensures in
-    let sum = c.sum_byte.ensures in
+    let sum = c.from.ensures ∙ byte_of_bool _ in
     let one : at + 1 ≡ suc at = omega arith in
     let two : at + 2 ≡ suc (suc at) = omega arith in
     let three : at + 3 ≡ suc (suc (suc at)) = omega arith in

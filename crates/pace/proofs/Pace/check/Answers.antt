@@ -3,15 +3,9 @@ use mathlib.Core.Path.{sym, ◌∙◌}
 use Rattle.pace.specs.Pace.{pace_rule}
 use Rattle.pace.proofs.Pace.check.Goals as goal
 
-pub off_speed-requires : goal.off_speed-requires
-off_speed-requires c = (c.requires.nominal, c.requires.even)
-
 pub returns-then-off_speed : goal.returns-then-off_speed
 unfolding pace_rule
 returns-then-off_speed c = rw (sym c.off_speed.ensures ∙ c.if-off_speed.true)
-
-pub off_speed-requires-2 : goal.off_speed-requires-2
-off_speed-requires-2 c = let small = c.requires in (small.nominal, small.odd)
 
 pub returns-then-off_speed-2 : goal.returns-then-off_speed-2
 unfolding pace_rule

@@ -1,42 +1,28 @@
 -- Why `Pace::correct` stores `cut_from`: what is left to store stays the same from turn to turn, the two sums exchanged.
 -- Rests on no axiom.
 use Prim.Native.Nat.{ℕ}
-use mathlib.Core.Path.{◌≡◌, refl, sym, ◌∙◌}
+use mathlib.Core.Path.{◌≡◌, sym, ◌∙◌}
 use native.Mathlib.Numerals.{add-one}
-use native.Mathlib.Omega.{arith}
 use lib.ListN.{length, length-set, drop_of_length-le}
 use Rattle.lists.proofs.StoreLaws.{stored_none, stored_one, stored_next, stored_over_all}
 use Rattle.pace.specs.machine.Cut.{cut_from}
 use Rattle.pace.proofs.CutLaws.{cut_none, cut_here, cut_count}
 use Rattle.pace.proofs.Pace.correct.Goals as goal
 
-pub loop-k-init : goal.loop-k-init
-loop-k-init c = let able = c.requires.able in (omega arith, refl, able.even, able.odd, refl)
-
-pub corrected-requires : goal.corrected-requires
-corrected-requires c = (c.requires.able.nominal, c.loop-k.invariant.2)
-
-pub bounds-out-k : goal.bounds-out-k
-bounds-out-k c = omega (arith, c.loop-k-test.true, c.loop-k.invariant.1, c.requires.out_len)
-
 pub loop-k-preserved : goal.loop-k-preserved
 loop-k-preserved c =
-    let (within, same, own, other, stored) = c.loop-k.invariant in
+    let (same, own, other, stored) = c.loop-k.invariant in
     let more = c.loop-k-test.true in
     rw (c.corrected.ensures, add-one) (
-      more,
       length-set {A = ℕ} c.loop-k.out c.loop-k.k _ ∙ same,
       other,
       own,
       stored_next _ _ _ _ _ _ (sym (stored_one _ _ _)) (sym (add-one _)) ∙ rw (cut_here _ _ _ _ _ more) at stored,
     )
 
-pub shape_of-out : goal.shape_of-out
-shape_of-out c = c.loop-k.invariant.1
-
 pub returns : goal.returns
 returns c =
-    let (within, same, own, other, stored) = c.loop-k.invariant in
+    let (same, own, other, stored) = c.loop-k.invariant in
     let ds = c.args.intervals.now in
     let self = c.args.self in
     let none = drop_of_length-le ds {i = c.loop-k.k} c.loop-k-test.false in

@@ -3,7 +3,7 @@ use Prim.Native.Nat.{ℕ, ◌+◌, ◌*◌, ◌≤◌, ◌<◌}
 use mathlib.Core.Path.{◌≡◌, refl, sym, ◌∙◌}
 use native.Mathlib.Nat.{add-sub_cancel_left}
 use native.Mathlib.Omega.{arith}
-use lib.ListN.{get_or, length-take, length-drop}
+use lib.ListN.{get_or}
 use Rattle.page.specs.Page.{dots_of}
 use Rattle.page.proofs.ColumnLaws.{no_columns, zero_column, dots_of_none, dots_of_stretch, dots_at_most, dots_of_page}
 use Rattle.page.proofs.dots.count_dots.Goals as goal
@@ -16,8 +16,8 @@ whole
 whole c =
     let turn = c.loop-turn in
     let page = c.args.page.now in
-    let last : turn.turn ≡ 10 = omega (arith, turn.invariant.0, c.loop-turn-test.false) in
-    let rows = c.sum_columns.ensures ∙ rw last at turn.invariant.2 in
+    let last : turn.turn ≡ 10 = omega (arith, turn.auto.turn-end, c.loop-turn-test.false) in
+    let rows = c.sum_columns.ensures ∙ rw last at turn.invariant.1 in
     let bytes : (j : ℕ) → get_or page j 0 < 256 = λ j.
     omega (arith, c.type_inv.page j) in
     let most = dots_at_most page bytes in (
@@ -26,18 +26,7 @@ whole c =
     )
 
 pub loop-turn-init : goal.loop-turn-init
-loop-turn-init c = (omega arith, refl, no_columns ∙ sym dots_of_none, λ j. omega (arith, zero_column 32 j))
-
-pub slice_bounds-add_rows-end : goal.slice_bounds-add_rows-end
-slice_bounds-add_rows-end c = omega (arith, c.requires)
-
-pub add_rows-requires : goal.add_rows-requires
-add_rows-requires c =
-    let turn = c.loop-turn in (
-      rw (add-sub_cancel_left, length-take, length-drop) (omega (arith, c.requires, c.loop-turn-test.true)),
-      turn.invariant.1,
-      λ j. omega (arith, turn.invariant.3 j, c.loop-turn-test.true),
-    )
+loop-turn-init c = (refl, no_columns ∙ sym dots_of_none, λ j. omega (arith, zero_column 32 j))
 
 pub loop-turn-preserved : goal.loop-turn-preserved
 loop-turn-preserved c =
@@ -46,22 +35,10 @@ loop-turn-preserved c =
     let sum = rw add-sub_cancel_left at c.add_rows.ensures.sum in
     let next = dots_of_stretch (96 * turn.turn) 96 page in
     let at : 96 * (turn.turn + 1) ≡ 96 * turn.turn + 96 = omega arith in (
-      omega arith,
       c.add_rows.ensures.size,
-      rw at (omega (arith, sum, turn.invariant.2, next)),
-      λ j. omega (arith, c.add_rows.ensures.each j, turn.invariant.3 j),
+      rw at (omega (arith, sum, turn.invariant.1, next)),
+      λ j. omega (arith, c.add_rows.ensures.each j, turn.invariant.2 j),
     )
-
-pub sum_columns-requires : goal.sum_columns-requires
-sum_columns-requires c =
-    let turn = c.loop-turn in
-    (turn.invariant.1, λ j. omega (arith, turn.invariant.3 j, turn.invariant.0))
-
-pub slice_bounds-count_line-end : goal.slice_bounds-count_line-end
-slice_bounds-count_line-end c = omega (arith, c.requires)
-
-pub count_line-requires : goal.count_line-requires
-count_line-requires c = rw (length-take, length-drop) (omega (arith, c.requires))
 
 pub overflow_add-result : goal.overflow_add-result
 overflow_add-result c = omega (arith, whole c)

@@ -1,4 +1,4 @@
-use Prim.Native.Nat.{ℕ, ◌-◌, ◌*◌, ◌≤◌}
+use Prim.Native.Nat.{ℕ, ◌*◌, ◌≤◌}
 use mathlib.Core.Path.{◌≡◌}
 use lib.ListN.{length, get_or, take}
 use Rattle.lists.specs.Sum.{sum_of}
@@ -7,10 +7,6 @@ use Rattle.page.proofs.dots.count_dots.Given as goal
 
 abbrev pub invariant-loop-turn : goal.invariant-loop-turn
 invariant-loop-turn l =
-    (l.turn ≤ 10)
-    × (length l.columns ≡ 32)
+    (length l.columns ≡ 32)
     × (sum_of l.columns ≡ dots_of (take (96 * l.turn) l.page))
     × ((j : ℕ) → get_or l.columns j 0 ≤ 24 * l.turn)
-
-abbrev pub decreases-loop-turn : goal.decreases-loop-turn
-decreases-loop-turn l = 10 - l.turn

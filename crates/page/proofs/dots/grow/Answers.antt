@@ -31,11 +31,6 @@ overflow_add-three-2 c =
       (three c).small,
     )
 
-pub overflow_add-result : goal.overflow_add-result
-overflow_add-result c =
-    rw (c.halves-3.ensures, c.halves-2.ensures, c.halves.ensures)
-    (omega (arith, (three c).low, c.requires))
-
 pub overflow_add-result-2 : goal.overflow_add-result-2
 overflow_add-result-2 c =
     rw (c.halves-3.ensures, c.halves-2.ensures, c.halves.ensures)

@@ -1,8 +1,7 @@
--- Why `making::make_pages` answers `make_answer` and leaves `make_output`: it makes the tests of the rule in their order,
--- and then stores the sectors. Rests on no axiom.
+-- Why `making::make_pages` answers `make_answer` and leaves `make_output`: it makes the tests of the rule in their
+-- order, and then stores the sectors. Rests on no axiom.
 use Prim.Native.Nat.{◌<◌, ◌≤◌}
 use mathlib.Core.Path.{◌∙◌}
-use native.Mathlib.Omega.{arith}
 use borrow.Author.Tests.{lt-ltb, le-ltb, eq-eqb, ne_eqb}
 use lib.ListN.{length}
 use Rattle.lists.proofs.StoreLaws.{stored_at_front_fills}
@@ -26,9 +25,6 @@ returns-then-pages-gt16 c =
       set = rw (le-ltb _ 1 c.if-pages-lt1.false, lt-ltb 16 _ c.if-pages-gt16.true);
     }
 
-pub overflow_mul-pages : goal.overflow_mul-pages
-overflow_mul-pages c = omega (arith, c.if-pages-gt16.false)
-
 pub returns-then-cells-pages : goal.returns-then-cells-pages
 unfolding make_rule make_answer make_output
 returns-then-cells-pages c =
@@ -36,9 +32,6 @@ returns-then-cells-pages c =
       answer = rw (le-ltb _ 1 c.if-pages-lt1.false, le-ltb 16 _ c.if-pages-gt16.false, ne_eqb _ _ c.if-cells-pages.true);
       set = rw (le-ltb _ 1 c.if-pages-lt1.false, le-ltb 16 _ c.if-pages-gt16.false, ne_eqb _ _ c.if-cells-pages.true);
     }
-
-pub overflow_mul-bytes : goal.overflow_mul-bytes
-overflow_mul-bytes c = omega (arith, c.if-pages-gt16.false)
 
 pub returns-then-set-bytes : goal.returns-then-set-bytes
 unfolding make_rule make_answer make_output
@@ -60,12 +53,6 @@ returns-then-set-bytes c =
         lt-ltb _ _ short,
       );
     }
-
-pub put_sectors-requires : goal.put_sectors-requires
-put_sectors-requires c = (c.if-pages-gt16.false, c.if-cells-pages.false, c.if-set-bytes.false)
-
-pub shape_of-set : goal.shape_of-set
-shape_of-set c = c.put_sectors.auto.set
 
 pub returns : goal.returns
 unfolding make_rule make_answer make_output

@@ -1,4 +1,4 @@
-use Prim.Native.Nat.{◌-◌, ◌*◌, ◌≤◌}
+use Prim.Native.Nat.{◌*◌}
 use mathlib.Core.Path.{◌≡◌}
 use lib.ListN.{length}
 use Rattle.lists.specs.Filled.{stored_at}
@@ -8,9 +8,6 @@ use Rattle.page.proofs.making.put_sectors.Given as goal
 
 abbrev pub invariant-loop-k : goal.invariant-loop-k
 invariant-loop-k l =
-    (l.k ≤ l.pages)
-    × (length l.set ≡ length l.initial.set)
-    × (stored_at l.set (1027 * l.k) (bytes_after l.cells l.pages l.k) ≡ stored_at l.initial.set 0 (made_set l.cells l.pages))
-
-abbrev pub decreases-loop-k : goal.decreases-loop-k
-decreases-loop-k l = l.pages - l.k
+    (length l.set ≡ length l.initial.set)
+    × (stored_at l.set (1027 * l.k) (bytes_after l.cells l.pages l.k)
+    ≡ stored_at l.initial.set 0 (made_set l.cells l.pages))

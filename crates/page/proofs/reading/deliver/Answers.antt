@@ -1,5 +1,5 @@
--- Why `reading::deliver` answers `pages_rule`: the lowest page that is lost decides, then the lowest whose fill is soiled,
--- then the room. Rests on no axiom.
+-- Why `reading::deliver` answers `pages_rule`: the lowest page that is lost decides, then the lowest whose fill is
+-- soiled, then the room. Rests on no axiom.
 use Prim.Native.Nat.{ℕ, suc, ◌+◌, ◌≤◌, ◌<◌}
 use mathlib.Core.Path.{◌≡◌, sym, ap, ◌∙◌}
 use native.Mathlib.Numerals.{add-one}
@@ -22,68 +22,54 @@ use Rattle.page.proofs.reading.deliver.Goals as goal
 
 -- a test that passes for no page, as its lowest says
 none_passes
-    : (ss : List Sector) {pages k : ℕ} (test : ℕ → Bool)
-    → k ≡ lowest test (page_numbers pages)
-    → pages ≤ k
+    : (ss : List Sector) {pages : ℕ} (test : ℕ → Bool)
+    → pages ≡ lowest test (page_numbers pages)
     → anywhere test (page_numbers pages) ≡ false
-none_passes ss {pages = pages} test is end = none_by_lowest ss pages test (rw is at end)
+none_passes ss {pages = pages} test is = none_by_lowest ss pages test (omega (arith, is))
 
-pub lowest_lost-lost-requires : goal.lowest_lost-lost-requires
-lowest_lost-lost-requires c = let pre = c.requires in (pre.0, pre.1, pre.2)
-
-pub overflow_cast-result : goal.overflow_cast-result
-overflow_cast-result c = omega (arith, c.if-lost-pages.true, c.requires.2)
-
-pub overflow_add-result : goal.overflow_add-result
-overflow_add-result c = omega (arith, c.if-lost-pages.true, c.requires.2)
-
-pub returns-then-lost-pages : goal.returns-then-lost-pages
-returns-then-lost-pages c =
+pub returns-in-Some : goal.returns-in-Some
+returns-in-Some c =
     let args = c.args in
-    let lost = c.lowest_lost-lost.ensures in
+    let lost = c.in-Some.ensures in
     let decided =
-    ap (refused 19) (add-one _ ∙ ap suc lost)
-    ∙ lost_decides (sectors_in args.set.now) args.pages (length args.cells.now) (rw lost at c.if-lost-pages.true) in
-    let r = PageLost (c.lowest_lost-lost.result + 1) in
+    ap (refused 19) (add-one _ ∙ ap suc lost.lowest)
+    ∙ lost_decides (sectors_in args.set.now) args.pages (length args.cells.now) (rw lost.lowest at lost.page) in
+    let r = PageLost (c.in-Some.lost + 1) in
     record {
       answer = decided;
       cells = refusal_keeps_the_buffer r _ _ _ decided;
       dots = refusal_keeps_the_buffer r _ _ _ decided;
     }
 
-pub lowest_soiled-soiled-requires : goal.lowest_soiled-soiled-requires
-lowest_soiled-soiled-requires c = let pre = c.requires in (pre.0, pre.1, pre.2, none_passes (sectors_in c.args.set.now) (lost_at (sectors_in c.args.set.now)) c.lowest_lost-lost.ensures c.if-lost-pages.false)
+pub lowest_soiled-requires : goal.lowest_soiled-requires
+lowest_soiled-requires c =
+    let pre = c.requires in
+    let ss = sectors_in c.args.set.now in
+    (pre.0, pre.1, pre.2, none_passes ss (lost_at ss) c.in_default.ensures.lowest)
 
-pub overflow_cast-result-then-soiled-pages : goal.overflow_cast-result-then-soiled-pages
-overflow_cast-result-then-soiled-pages c = omega (arith, c.if-soiled-pages.true, c.requires.2)
-
-pub overflow_add-result-then-soiled-pages : goal.overflow_add-result-then-soiled-pages
-overflow_add-result-then-soiled-pages c = omega (arith, c.if-soiled-pages.true, c.requires.2)
-
-pub returns-then-soiled-pages : goal.returns-then-soiled-pages
-returns-then-soiled-pages c =
+pub returns-in-Some-lowest_soiled : goal.returns-in-Some-lowest_soiled
+returns-in-Some-lowest_soiled c =
     let args = c.args in
-    let soiled = c.lowest_soiled-soiled.ensures in
+    let ss = sectors_in args.set.now in
+    let soiled = c.in-Some-lowest_soiled.ensures in
+    let none_lost = none_passes ss (lost_at ss) c.in_default.ensures.lowest in
     let decided =
-    ap (refused 20) (add-one _ ∙ ap suc soiled)
-    ∙ soil_decides (sectors_in args.set.now) args.pages (length args.cells.now) (none_passes (sectors_in c.args.set.now) (lost_at (sectors_in c.args.set.now)) c.lowest_lost-lost.ensures c.if-lost-pages.false)
-    (rw soiled at c.if-soiled-pages.true) in
-    let r = FillSoiled (c.lowest_soiled-soiled.result + 1) in
+    ap (refused 20) (add-one _ ∙ ap suc soiled.lowest)
+    ∙ soil_decides ss args.pages (length args.cells.now) none_lost (rw soiled.lowest at soiled.page) in
+    let r = FillSoiled (c.in-Some-lowest_soiled.soiled + 1) in
     record {
       answer = decided;
       cells = refusal_keeps_the_buffer r _ _ _ decided;
       dots = refusal_keeps_the_buffer r _ _ _ decided;
     }
-
-pub overflow_mul-pages : goal.overflow_mul-pages
-overflow_mul-pages c = omega (arith, c.requires.2)
 
 pub returns-then-cells-pages : goal.returns-then-cells-pages
 returns-then-cells-pages c =
     let args = c.args in
-    let decided =
-    room_decides (sectors_in args.set.now) args.pages (length args.cells.now) (none_passes (sectors_in c.args.set.now) (lost_at (sectors_in c.args.set.now)) c.lowest_lost-lost.ensures c.if-lost-pages.false)
-    (none_passes (sectors_in c.args.set.now) (soiled_at (sectors_in c.args.set.now)) c.lowest_soiled-soiled.ensures c.if-soiled-pages.false) c.if-cells-pages.true in
+    let ss = sectors_in args.set.now in
+    let none_lost = none_passes ss (lost_at ss) c.in_default.ensures.lowest in
+    let none_soiled = none_passes ss (soiled_at ss) c.in_default-lowest_soiled.ensures.lowest in
+    let decided = room_decides ss args.pages (length args.cells.now) none_lost none_soiled c.if-cells-pages.true in
     record {
       answer = decided;
       cells = refusal_keeps_the_buffer OutputTooShort _ _ _ decided;
@@ -91,26 +77,25 @@ returns-then-cells-pages c =
     }
 
 pub put_pages-requires : goal.put_pages-requires
-put_pages-requires c = let pre = c.requires in (pre.0, pre.1, pre.2, none_passes (sectors_in c.args.set.now) (lost_at (sectors_in c.args.set.now)) c.lowest_lost-lost.ensures c.if-lost-pages.false, c.if-cells-pages.false)
-
-pub shape_of-cells : goal.shape_of-cells
-shape_of-cells c = c.put_pages.auto.cells
+put_pages-requires c =
+    let pre = c.requires in
+    let ss = sectors_in c.args.set.now in
+    (pre.0, pre.1, pre.2, none_passes ss (lost_at ss) c.in_default.ensures.lowest, c.if-cells-pages.false)
 
 pub returns : goal.returns
 returns c =
     let args = c.args in
-    let set = args.set.now in
-    let ss = sectors_in set in
+    let ss = sectors_in args.set.now in
     let pages = args.pages in
-    let all = none_passes (sectors_in c.args.set.now) (lost_at (sectors_in c.args.set.now)) c.lowest_lost-lost.ensures c.if-lost-pages.false in
+    let none_lost = none_passes ss (lost_at ss) c.in_default.ensures.lowest in
+    let none_soiled = none_passes ss (soiled_at ss) c.in_default-lowest_soiled.ensures.lowest in
     let rule = pages_rule ss pages (length args.cells.now) in
-    let passed =
-    pages_pass ss pages (length args.cells.now) all (none_passes (sectors_in c.args.set.now) (soiled_at (sectors_in c.args.set.now)) c.lowest_soiled-soiled.ensures c.if-soiled-pages.false) c.if-cells-pages.false in
+    let passed = pages_pass ss pages (length args.cells.now) none_lost none_soiled c.if-cells-pages.false in
     let zero = sym (ap (λ (a : Answer). a.number) passed) in
     let each : (k : ℕ) → k < pages → length (page_at ss (suc k)) ≡ 1000 = λ k h.
     let byte : suc k < 256 = omega (arith, h, c.requires.2) in
     cells_count _ _ c.requires.0 c.requires.1 (suc k) byte (page_is_there _ _ c.requires.0 c.requires.1
-    (suc k) byte (none_of_pages pages (lost_at ss) all k h)) in
+    (suc k) byte (none_of_pages pages (lost_at ss) none_lost k h)) in
     let cells_fit : length (pages_in ss pages) ≤ length args.cells.now =
     rw (pages_size ss pages each) c.if-cells-pages.false in
     let dots_fit : length (dots_in ss pages) ≤ length args.dots.now =

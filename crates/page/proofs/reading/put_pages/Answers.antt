@@ -1,11 +1,10 @@
--- Why `reading::put_pages` stores the pages and counts their dots: what was stored and what is left to store stay one run
--- of stores from turn to turn. Rests on no axiom.
+-- Why `reading::put_pages` stores the pages and counts their dots: what was stored and what is left to store stay one
+-- run of stores from turn to turn. Rests on no axiom.
 use Prim.Native.Nat.{ℕ, suc, ◌+◌, ◌*◌}
 use mathlib.Core.Path.{refl, sym, ap, ◌∙◌}
 use native.Mathlib.Nat.{add-sub_cancel_left}
 use native.Mathlib.Numerals.{add-one}
 use native.Mathlib.Omega.{arith}
-use lib.ListN.{length-take, length-drop}
 use Rattle.lists.specs.Filled.{stored_at}
 use Rattle.lists.proofs.StoreLaws.{stored_none, stored_next}
 use Rattle.sets.specs.Set.{sectors_in}
@@ -20,90 +19,16 @@ pub loop-k-init : goal.loop-k-init
 loop-k-init c =
     let args = c.args in
     let ss = sectors_in args.set.now in (
-      omega arith,
       refl,
       ap (stored_at args.cells.now 0) (all_cells ss args.pages),
       ap (stored_at args.dots.now 0) (all_dots ss args.pages),
     )
 
-pub overflow_add-start : goal.overflow_add-start
-overflow_add-start c = omega (arith, c.requires.2)
-
-pub offset_bounds-index-k : goal.offset_bounds-index-k
-offset_bounds-index-k c = omega (arith, c.requires.2)
-
-pub bounds-index-k : goal.bounds-index-k
-bounds-index-k c = omega (arith, c.requires.2)
-
-pub overflow_cast-start : goal.overflow_cast-start
-overflow_cast-start c =
-    let (byte, there) =
-    stands_in_turn _ _ c.requires.0 c.requires.1 c.args.pages c.loop-k.k c.requires.2 c.requires.3 c.loop-k-test.true in
-    omega (arith, there.ends, c.well_formed.0)
-
-pub overflow_add-start-in-loop-k : goal.overflow_add-start-in-loop-k
-overflow_add-start-in-loop-k c =
-    let (byte, there) =
-    stands_in_turn _ _ c.requires.0 c.requires.1 c.args.pages c.loop-k.k c.requires.2 c.requires.3 c.loop-k-test.true in
-    omega (arith, there.ends, c.well_formed.0)
-
-pub overflow_add-end : goal.overflow_add-end
-overflow_add-end c =
-    let (byte, there) =
-    stands_in_turn _ _ c.requires.0 c.requires.1 c.args.pages c.loop-k.k c.requires.2 c.requires.3 c.loop-k-test.true in
-    omega (arith, there.ends, c.well_formed.0)
-
-pub slice_bounds-copy-start : goal.slice_bounds-copy-start
-slice_bounds-copy-start c =
+pub slice_bounds-store-end : goal.slice_bounds-store-end
+slice_bounds-store-end c =
     let (byte, there) =
     stands_in_turn _ _ c.requires.0 c.requires.1 c.args.pages c.loop-k.k c.requires.2 c.requires.3 c.loop-k-test.true in
     omega (arith, there.ends)
-
-pub slice_bounds-copy-end : goal.slice_bounds-copy-end
-slice_bounds-copy-end c =
-    let (byte, there) =
-    stands_in_turn _ _ c.requires.0 c.requires.1 c.args.pages c.loop-k.k c.requires.2 c.requires.3 c.loop-k-test.true in
-    omega (arith, there.ends)
-
-pub overflow_mul-k : goal.overflow_mul-k
-overflow_mul-k c = omega (arith, c.requires.2)
-
-pub copy-requires : goal.copy-requires
-copy-requires c =
-    let (byte, there) =
-    stands_in_turn _ _ c.requires.0 c.requires.1 c.args.pages c.loop-k.k c.requires.2 c.requires.3 c.loop-k-test.true in
-    rw (add-sub_cancel_left, length-take, length-drop)
-    (omega (arith, c.requires.4, c.loop-k.invariant.1, c.loop-k-test.true, there.ends))
-
-pub slice_bounds-count_dots-start : goal.slice_bounds-count_dots-start
-slice_bounds-count_dots-start c =
-    let (byte, there) =
-    stands_in_turn _ _ c.requires.0 c.requires.1 c.args.pages c.loop-k.k c.requires.2 c.requires.3 c.loop-k-test.true in
-    omega (arith, there.ends)
-
-pub slice_bounds-count_dots-end : goal.slice_bounds-count_dots-end
-slice_bounds-count_dots-end c =
-    let (byte, there) =
-    stands_in_turn _ _ c.requires.0 c.requires.1 c.args.pages c.loop-k.k c.requires.2 c.requires.3 c.loop-k-test.true in
-    omega (arith, there.ends)
-
-pub count_dots-requires : goal.count_dots-requires
-count_dots-requires c =
-    let (byte, there) =
-    stands_in_turn _ _ c.requires.0 c.requires.1 c.args.pages c.loop-k.k c.requires.2 c.requires.3 c.loop-k-test.true in
-    rw (add-sub_cancel_left, length-take, length-drop) (omega (arith, there.ends))
-
-pub offset_bounds-dots-k : goal.offset_bounds-dots-k
-offset_bounds-dots-k c = omega (arith, c.loop-k-test.true, c.requires.2)
-
-pub bounds-dots-k : goal.bounds-dots-k
-bounds-dots-k c = omega (arith, c.loop-k-test.true, c.requires.2)
-
-pub overflow_add-k : goal.overflow_add-k
-overflow_add-k c = omega (arith, c.loop-k-test.true, c.requires.2)
-
-pub loop-k-smaller : goal.loop-k-smaller
-loop-k-smaller c = omega (arith, c.loop-k-test.true)
 
 pub loop-k-preserved : goal.loop-k-preserved
 loop-k-preserved c =
@@ -113,26 +38,23 @@ loop-k-preserved c =
     let pages = c.args.pages in
     let k = turn.k in
     let inside = c.loop-k-test.true in
-    let (byte, in_sector) = stands_in_turn _ _ c.requires.0 c.requires.1 c.args.pages c.loop-k.k c.requires.2 c.requires.3 c.loop-k-test.true in
+    let (byte, in_sector) =
+    stands_in_turn _ _ c.requires.0 c.requires.1 c.args.pages c.loop-k.k c.requires.2 c.requires.3 c.loop-k-test.true in
     let page = cells_there _ _ c.requires.0 c.requires.1 (k + 1) byte in_sector in
     let size = rw add-one at (cells_count _ _ c.requires.0 c.requires.1 (k + 1) byte in_sector) in
     let copied =
-    rw (add-sub_cancel_left, ← page) at c.copy.ensures
+    rw (add-sub_cancel_left, ← page) at c.store.ensures
     ∙ ap (λ (n : ℕ). stored_at turn.cells (1000 * k) (page_at ss n)) (add-one k) in
     let counted =
     rw (add-sub_cancel_left, ← page) at c.count_dots.ensures ∙ ap (λ (n : ℕ). dots_of (page_at ss n)) (add-one k) in (
-      omega arith,
-      c.copy.auto.out ∙ turn.invariant.1,
+      c.store.auto.out ∙ turn.invariant.0,
       rw add-one (stored_next (page_at ss (suc k)) (cells_after ss pages (suc k)) _ _ _ _ copied (omega (arith, size))
           ∙ sym (ap (stored_at turn.cells (1000 * k)) (cells_here ss pages k inside))
-          ∙ turn.invariant.2),
+          ∙ turn.invariant.1),
       rw (add-one, counted) (stored_first turn.dots (dots_after ss pages (suc k)) k (dots_of (page_at ss (suc k)))
           ∙ sym (ap (stored_at turn.dots k) (dots_here ss pages k inside))
-          ∙ turn.invariant.3),
+          ∙ turn.invariant.2),
     )
-
-pub shape_of-cells : goal.shape_of-cells
-shape_of-cells c = c.loop-k.invariant.1
 
 pub returns : goal.returns
 returns c =
@@ -141,6 +63,6 @@ returns c =
     let no_cells = cells_at_end ss args.pages c.loop-k.k c.loop-k-test.false in
     let no_dots = dots_at_end ss args.pages c.loop-k.k c.loop-k-test.false in
     record {
-      cells = sym (stored_none _ _) ∙ rw no_cells at c.loop-k.invariant.2;
-      dots = sym (stored_none _ _) ∙ rw no_dots at c.loop-k.invariant.3;
+      cells = sym (stored_none _ _) ∙ rw no_cells at c.loop-k.invariant.1;
+      dots = sym (stored_none _ _) ∙ rw no_dots at c.loop-k.invariant.2;
     }

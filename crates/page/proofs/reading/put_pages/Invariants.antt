@@ -1,4 +1,4 @@
-use Prim.Native.Nat.{◌-◌, ◌*◌, ◌≤◌}
+use Prim.Native.Nat.{◌*◌}
 use mathlib.Core.Path.{◌≡◌}
 use lib.ListN.{length}
 use Rattle.lists.specs.Filled.{stored_at}
@@ -9,10 +9,8 @@ use Rattle.page.proofs.reading.put_pages.Given as goal
 
 abbrev pub invariant-loop-k : goal.invariant-loop-k
 invariant-loop-k l =
-    (l.k ≤ l.pages)
-    × (length l.cells ≡ length l.initial.cells)
-    × (stored_at l.cells (1000 * l.k) (cells_after (sectors_in l.set) l.pages l.k) ≡ stored_at l.initial.cells 0 (pages_in (sectors_in l.set) l.pages))
-    × (stored_at l.dots l.k (dots_after (sectors_in l.set) l.pages l.k) ≡ stored_at l.initial.dots 0 (dots_in (sectors_in l.set) l.pages))
-
-abbrev pub decreases-loop-k : goal.decreases-loop-k
-decreases-loop-k l = l.pages - l.k
+    (length l.cells ≡ length l.initial.cells)
+    × (stored_at l.cells (1000 * l.k) (cells_after (sectors_in l.set) l.pages l.k)
+    ≡ stored_at l.initial.cells 0 (pages_in (sectors_in l.set) l.pages))
+    × (stored_at l.dots l.k (dots_after (sectors_in l.set) l.pages l.k)
+    ≡ stored_at l.initial.dots 0 (dots_in (sectors_in l.set) l.pages))

@@ -1,6 +1,5 @@
 -- Why `search::is_lost` answers `is_lost`: it makes the three tests one after the other. Rests on no axiom.
 use mathlib.Core.Path.{sym, ◌∙◌}
-use native.Mathlib.Omega.{arith}
 use borrow.Author.Tests.{eq-eqb, ne_eqb}
 use Rattle.sets.proofs.ShownLaws.{zero_shows_nothing}
 use Rattle.page.specs.Reading.{is_lost}
@@ -11,19 +10,10 @@ pub returns-then-entry-eq0 : goal.returns-then-entry-eq0
 unfolding is_lost
 returns-then-entry-eq0 c = rw (zero_shows_nothing _ _ c.if-entry-eq0.true)
 
-pub bounds-set-code : goal.bounds-set-code
-bounds-set-code c = omega (arith, c.requires.0 c.if-entry-eq0.false c.requires.1)
-
 pub returns-then-set-code-ne3 : goal.returns-then-set-code-ne3
 returns-then-set-code-ne3 c =
     sym (lost_by_place c.args.set.now c.args.entry c.if-entry-eq0.false c.requires.1
     ∙ rw (ne_eqb _ 3 c.if-set-code-ne3.true))
-
-pub overflow_add-result : goal.overflow_add-result
-overflow_add-result c = omega (arith, c.requires.0 c.if-entry-eq0.false c.requires.1)
-
-pub bounds-set-code-2 : goal.bounds-set-code-2
-bounds-set-code-2 c = omega (arith, c.requires.0 c.if-entry-eq0.false c.requires.1)
 
 pub returns : goal.returns
 returns c =

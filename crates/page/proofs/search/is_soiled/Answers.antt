@@ -1,7 +1,7 @@
 -- Why `search::is_soiled` tells whether a byte is not 00: whether one was met, and whether one is left, stay one answer
 -- from turn to turn. Rests on no axiom.
 use Prim.Native.Nat.{◌≤◌}
-use mathlib.Core.Path.{refl, ◌∙◌}
+use mathlib.Core.Path.{◌∙◌}
 use mathlib.Core.Bool.{or_assoc, or-false}
 use native.Mathlib.Numerals.{add-one}
 use native.Mathlib.Omega.{arith}
@@ -11,22 +11,16 @@ use Rattle.lists.specs.Place.{anywhere}
 use Rattle.page.specs.Page.{is_dirt}
 use Rattle.page.proofs.search.is_soiled.Goals as goal
 
-pub loop-k-init : goal.loop-k-init
-loop-k-init c = (omega arith, refl)
-
-pub bounds-fill-k : goal.bounds-fill-k
-bounds-fill-k c = omega (arith, c.requires)
-
-pub loop-k-preserved : goal.loop-k-preserved
+pub loop-byte-preserved : goal.loop-byte-preserved
 unfolding anywhere is_dirt
-loop-k-preserved c =
-    let turn = c.loop-k in
-    let rest = rw (drop-cons c.args.fill.now turn.k 0 (omega (arith, c.requires))) at turn.invariant.1 in
-    (omega arith, rw add-one (or_assoc turn.soiled _ _ ∙ rest))
+loop-byte-preserved c =
+    let turn = c.loop-byte in
+    let rest = rw (drop-cons c.args.fill.now turn.byte-index 0 (omega (arith, c.requires))) at turn.invariant in
+    rw add-one (or_assoc turn.soiled _ _ ∙ rest)
 
 pub returns : goal.returns
 unfolding anywhere
 returns c =
     let fill = c.args.fill.now in
-    let end : length fill ≤ c.loop-k.k = omega (arith, c.requires) in
-    rw (drop_of_length-le fill end, or-false) at c.loop-k.invariant.1
+    let end : length fill ≤ c.loop-byte.byte-index = omega (arith, c.requires) in
+    rw (drop_of_length-le fill end, or-false) at c.loop-byte.invariant

@@ -1,7 +1,6 @@
 -- Why `search::lowest_lost` answers the lowest page that is lost: it tries them in ascending order. Rests on no axiom.
 use Prim.Native.Nat.{ℕ, ◌≤◌, ◌+◌, ◌<◌}
 use mathlib.Core.Path.{◌≡◌, sym, ap, ◌∙◌}
-use native.Mathlib.Nat.{zero-add}
 use native.Mathlib.Numerals.{add-one}
 use native.Mathlib.Omega.{arith}
 use lib.ListN.{get_or}
@@ -27,18 +26,6 @@ found set index indexed pages k few inside =
     ap (lost_at (sectors_in set)) (page_number pages k inside ∙ sym (add-one k))
     ∙ lost_by_index set index indexed (k + 1) (omega arith)
 
-pub loop-k-init : goal.loop-k-init
-loop-k-init c = (omega arith, zero-add _)
-
-pub overflow_add-k : goal.overflow_add-k
-overflow_add-k c = omega (arith, c.requires.2)
-
-pub offset_bounds-index-k : goal.offset_bounds-index-k
-offset_bounds-index-k c = omega (arith, c.requires.2)
-
-pub bounds-index-k : goal.bounds-index-k
-bounds-index-k c = omega (arith, c.requires.2)
-
 pub is_lost-requires : goal.is_lost-requires
 is_lost-requires c =
     let n = c.loop-k.k + 1 in
@@ -47,23 +34,26 @@ is_lost-requires c =
 
 pub returns-then-is_lost : goal.returns-then-is_lost
 returns-then-is_lost c =
-    sym (lowest_from_passing_is_here _ _ 0 c.loop-k.k (rw (pages_length c.args.pages) c.loop-k-test.true)
-    (found _ _ c.requires.0 c.args.pages c.loop-k.k c.requires.2 c.loop-k-test.true
-    ∙ sym c.is_lost.ensures
-    ∙ c.if-is_lost.true))
-    ∙ c.loop-k.invariant.1
+    record {
+      lowest =
+          sym (lowest_from_passing_is_here _ _ 0 c.loop-k.k (rw (pages_length c.args.pages) c.loop-k-test.true)
+          (found _ _ c.requires.0 c.args.pages c.loop-k.k c.requires.2 c.loop-k-test.true
+          ∙ sym c.is_lost.ensures
+          ∙ c.if-is_lost.true))
+          ∙ c.loop-k.invariant;
+      page = c.loop-k-test.true;
+    }
 
 pub loop-k-preserved : goal.loop-k-preserved
-loop-k-preserved c = (
-  omega arith,
-  sym (lowest_from_failing_is_further _ _ 0 c.loop-k.k (rw (pages_length c.args.pages) c.loop-k-test.true)
-      (found _ _ c.requires.0 c.args.pages c.loop-k.k c.requires.2 c.loop-k-test.true
-      ∙ sym c.is_lost.ensures
-      ∙ c.if-is_lost.false))
-      ∙ c.loop-k.invariant.1,
-)
+loop-k-preserved c =
+    sym (lowest_from_failing_is_further _ _ 0 c.loop-k.k (rw (pages_length c.args.pages) c.loop-k-test.true)
+    (found _ _ c.requires.0 c.args.pages c.loop-k.k c.requires.2 c.loop-k-test.true
+    ∙ sym c.is_lost.ensures
+    ∙ c.if-is_lost.false))
+    ∙ c.loop-k.invariant
 
 pub returns : goal.returns
 returns c =
+    let last : c.args.pages ≡ c.loop-k.k = omega (arith, c.loop-k.auto.k-end, c.loop-k-test.false) in
     let end = rw (← pages_length c.args.pages) at c.loop-k-test.false in
-    sym (lowest_from_end_is_here _ _ c.loop-k.k end) ∙ c.loop-k.invariant.1
+    record { lowest = last ∙ sym (lowest_from_end_is_here _ _ c.loop-k.k end) ∙ c.loop-k.invariant; page = tt }

@@ -2,10 +2,10 @@
 -- its sector. Rests on no axiom.
 use Prim.Native.Nat.{ℕ, ◌≤◌, ◌+◌, ◌<◌}
 use mathlib.Core.Path.{◌≡◌, sym, ap, ◌∙◌}
-use native.Mathlib.Nat.{zero-add, add-sub_cancel_left}
+use native.Mathlib.Nat.{add-sub_cancel_left}
 use native.Mathlib.Numerals.{add-one}
 use native.Mathlib.Omega.{arith}
-use lib.ListN.{get_or, take, drop, length-take, length-drop}
+use lib.ListN.{get_or, take, drop}
 use Rattle.lists.proofs.PlaceLaws.{lowest_from_passing_is_here, lowest_from_failing_is_further, lowest_from_end_is_here}
 use mathlib.Core.Bool.{false}
 use mathlib.Core.List.{List}
@@ -33,73 +33,34 @@ found set index indexed once pages k few none inside =
     ap (soiled_at (sectors_in set)) (page_number pages k inside ∙ sym (add-one k))
     ∙ fill_there set index indexed once (k + 1) byte there
 
-pub loop-k-init : goal.loop-k-init
-loop-k-init c = (omega arith, zero-add _)
-
-pub overflow_add-fill : goal.overflow_add-fill
-overflow_add-fill c = omega (arith, c.requires.2)
-
-pub offset_bounds-index-k : goal.offset_bounds-index-k
-offset_bounds-index-k c = omega (arith, c.requires.2)
-
-pub bounds-index-k : goal.bounds-index-k
-bounds-index-k c = omega (arith, c.requires.2)
-
-pub overflow_cast-fill : goal.overflow_cast-fill
-overflow_cast-fill c =
-    let (byte, there) =
-    stands_in_turn _ _ c.requires.0 c.requires.1 c.args.pages c.loop-k.k c.requires.2 c.requires.3 c.loop-k-test.true in
-    omega (arith, there.ends, c.well_formed.0)
-
-pub overflow_add-fill-in-loop-k : goal.overflow_add-fill-in-loop-k
-overflow_add-fill-in-loop-k c =
-    let (byte, there) =
-    stands_in_turn _ _ c.requires.0 c.requires.1 c.args.pages c.loop-k.k c.requires.2 c.requires.3 c.loop-k-test.true in
-    omega (arith, there.ends, c.well_formed.0)
-
-pub overflow_add-end : goal.overflow_add-end
-overflow_add-end c =
-    let (byte, there) =
-    stands_in_turn _ _ c.requires.0 c.requires.1 c.args.pages c.loop-k.k c.requires.2 c.requires.3 c.loop-k-test.true in
-    omega (arith, there.ends, c.well_formed.0)
-
-pub slice_bounds-is_soiled-start : goal.slice_bounds-is_soiled-start
-slice_bounds-is_soiled-start c =
-    let (byte, there) =
-    stands_in_turn _ _ c.requires.0 c.requires.1 c.args.pages c.loop-k.k c.requires.2 c.requires.3 c.loop-k-test.true in
-    omega (arith, there.ends)
-
 pub slice_bounds-is_soiled-end : goal.slice_bounds-is_soiled-end
 slice_bounds-is_soiled-end c =
     let (byte, there) =
     stands_in_turn _ _ c.requires.0 c.requires.1 c.args.pages c.loop-k.k c.requires.2 c.requires.3 c.loop-k-test.true in
     omega (arith, there.ends)
 
-pub is_soiled-requires : goal.is_soiled-requires
-is_soiled-requires c =
-    let (byte, there) =
-    stands_in_turn _ _ c.requires.0 c.requires.1 c.args.pages c.loop-k.k c.requires.2 c.requires.3 c.loop-k-test.true in
-    rw (add-sub_cancel_left, length-take, length-drop) (omega (arith, there.ends))
-
 pub returns-then-is_soiled : goal.returns-then-is_soiled
 returns-then-is_soiled c =
-    sym (lowest_from_passing_is_here _ _ 0 c.loop-k.k (rw (pages_length c.args.pages) c.loop-k-test.true)
-    (found _ _ c.requires.0 c.requires.1 c.args.pages c.loop-k.k c.requires.2 c.requires.3 c.loop-k-test.true
-    ∙ sym (rw add-sub_cancel_left at c.is_soiled.ensures)
-    ∙ c.if-is_soiled.true))
-    ∙ c.loop-k.invariant.1
+    record {
+      lowest =
+          sym (lowest_from_passing_is_here _ _ 0 c.loop-k.k (rw (pages_length c.args.pages) c.loop-k-test.true)
+          (found _ _ c.requires.0 c.requires.1 c.args.pages c.loop-k.k c.requires.2 c.requires.3 c.loop-k-test.true
+          ∙ sym (rw add-sub_cancel_left at c.is_soiled.ensures)
+          ∙ c.if-is_soiled.true))
+          ∙ c.loop-k.invariant;
+      page = c.loop-k-test.true;
+    }
 
 pub loop-k-preserved : goal.loop-k-preserved
-loop-k-preserved c = (
-  omega arith,
-  sym (lowest_from_failing_is_further _ _ 0 c.loop-k.k (rw (pages_length c.args.pages) c.loop-k-test.true)
-      (found _ _ c.requires.0 c.requires.1 c.args.pages c.loop-k.k c.requires.2 c.requires.3 c.loop-k-test.true
-      ∙ sym (rw add-sub_cancel_left at c.is_soiled.ensures)
-      ∙ c.if-is_soiled.false))
-      ∙ c.loop-k.invariant.1,
-)
+loop-k-preserved c =
+    sym (lowest_from_failing_is_further _ _ 0 c.loop-k.k (rw (pages_length c.args.pages) c.loop-k-test.true)
+    (found _ _ c.requires.0 c.requires.1 c.args.pages c.loop-k.k c.requires.2 c.requires.3 c.loop-k-test.true
+    ∙ sym (rw add-sub_cancel_left at c.is_soiled.ensures)
+    ∙ c.if-is_soiled.false))
+    ∙ c.loop-k.invariant
 
 pub returns : goal.returns
 returns c =
+    let last : c.args.pages ≡ c.loop-k.k = omega (arith, c.loop-k.auto.k-end, c.loop-k-test.false) in
     let end = rw (← pages_length c.args.pages) at c.loop-k-test.false in
-    sym (lowest_from_end_is_here _ _ c.loop-k.k end) ∙ c.loop-k.invariant.1
+    record { lowest = last ∙ sym (lowest_from_end_is_here _ _ c.loop-k.k end) ∙ c.loop-k.invariant; page = tt }

@@ -1,4 +1,4 @@
-use Prim.Native.Nat.{◌+◌, ◌-◌, ◌≤◌}
+use Prim.Native.Nat.{◌+◌}
 use mathlib.Core.Path.{◌≡◌}
 use lib.ListN.{drop}
 use Rattle.lists.specs.Place.{lowest}
@@ -9,9 +9,5 @@ use Rattle.page.proofs.search.lowest_soiled.Given as goal
 
 abbrev pub invariant-loop-k : goal.invariant-loop-k
 invariant-loop-k l =
-    (l.k ≤ l.pages)
-    × (l.k + lowest (soiled_at (sectors_in l.set)) (drop l.k (page_numbers l.pages))
-    ≡ lowest (soiled_at (sectors_in l.set)) (page_numbers l.pages))
-
-abbrev pub decreases-loop-k : goal.decreases-loop-k
-decreases-loop-k l = l.pages - l.k
+    l.k + lowest (soiled_at (sectors_in l.set)) (drop l.k (page_numbers l.pages))
+    ≡ lowest (soiled_at (sectors_in l.set)) (page_numbers l.pages)

@@ -13,11 +13,3 @@ shift_units-requires c =
       all_cells = rw c.units_of-cursor.ensures.units (units_are_cells _ _, c.requires.words_lt_most.1, c.requires.words_lt_most.0);
       units_bound = rw c.units_of-cursor.ensures.units (omega (arith, c.requires.intervals_bound.0), omega (arith, c.requires.intervals_bound.1));
     }
-
-pub returns : goal.returns
-returns c =
-    record {
-      pass = rw (← c.units_of-cursor.ensures.units) c.shift_units.ensures.end;
-      cursor = c.units_of-cursor.ensures.cursor;
-      output = rw (← c.units_of-cursor.ensures.units) c.shift_units.ensures.output;
-    }

@@ -1,86 +1,43 @@
 -- Why `look::look_units` sees what a pass does: each block goes through the machine, or is seen to have no gap while
 -- none is open. Rests on no axiom.
-use Rattle.std.proofs.Common.{◌≡◌, ℕ, ◌+◌, ◌≤◌, Bool, true, false, List, ◌++◌, length, sym, ap, ◌∙◌, arith}
+use Rattle.std.proofs.Common.{◌≡◌, ℕ, ◌+◌, ◌<◌, ◌^◌, ◌≤◌, Bool, true, false, List, ◌++◌, length, sym, ap, ◌∙◌, arith}
 use mathlib.Core.Bool.{false≢true}
+use Rattle.symbols.specs.machine.Step.{AllCells}
 use Rattle.symbols.specs.machine.Gaps.{gaps_from}
 use Rattle.symbols.specs.declared.Reading.{Reading}
 use Rattle.shifts.specs.machine.Pass.{pass_from}
 use Rattle.passes.specs.machine.Look.{Sees}
+use Rattle.passes.specs.declared.look.Seen.{Seen}
 use Rattle.passes.proofs.ScanLaws.{sum_range}
 use Rattle.passes.proofs.LookLaws.{sees_through, sees_calm}
 use Rattle.passes.proofs.look.look_units.Goals as goal
 
 -- through the machine
-through_3
-    : (c : goal.After-shift_on-2) (r : Reading) (clear : Bool)
-    → let args = c.args in
-    let m = args.seen.reading in
-    let vs = args.units.now in
-    r ≡ (pass_from args.most args.from m vs).end.reading
-    → (clear ≡ true → (gaps_from m.held vs ≡ false) × (8 ≤ length vs))
-    → (us : List ℕ)
-    → Sees us args.seen
-    → length us ≡ args.from
-    → args.from + length vs ≤ args.most
-    → Sees (us ++ vs) (record { reading = r; clear = clear })
-through_3 c r clear e calm us sees size room =
-    let args = c.args in
-    let small = c.ranges.most.fits in
-    sees_through us args.seen sees (omega (arith, size, room, small)) _ c.requires.all_cells.0
-    (omega (arith, size, room, small)) args.most r clear (omega (arith, size, room)) small
-    (e ∙ ap (λ (k : ℕ). (pass_from args.most k args.seen.reading args.units.now).end.reading) (sym size)) calm
-
--- through the machine
-through_2
-    : (c : goal.After-shift_on-then-tally) (r : Reading) (clear : Bool)
-    → let args = c.args in
-    let m = args.seen.reading in
-    let vs = args.units.now in
-    r ≡ (pass_from args.most args.from m vs).end.reading
-    → (clear ≡ true → (gaps_from m.held vs ≡ false) × (8 ≤ length vs))
-    → (us : List ℕ)
-    → Sees us args.seen
-    → length us ≡ args.from
-    → args.from + length vs ≤ args.most
-    → Sees (us ++ vs) (record { reading = r; clear = clear })
-through_2 c r clear e calm us sees size room =
-    let args = c.args in
-    let small = c.ranges.most.fits in
-    sees_through us args.seen sees (omega (arith, size, room, small)) _ c.requires.all_cells.0
-    (omega (arith, size, room, small)) args.most r clear (omega (arith, size, room)) small
-    (e ∙ ap (λ (k : ℕ). (pass_from args.most k args.seen.reading args.units.now).end.reading) (sym size)) calm
-
--- through the machine
 through
-    : (c : goal.After-shift_on) (r : Reading) (clear : Bool)
-    → let args = c.args in
-    let m = args.seen.reading in
-    let vs = args.units.now in
-    r ≡ (pass_from args.most args.from m vs).end.reading
-    → (clear ≡ true → (gaps_from m.held vs ≡ false) × (8 ≤ length vs))
+    : (seen : Seen) (vs : List ℕ) (from most : ℕ)
+    → AllCells vs
+    → most < 2 ^ 32
+    → (r : Reading) (clear : Bool)
+    → r ≡ (pass_from most from seen.reading vs).end.reading
+    → (clear ≡ true → (gaps_from seen.reading.held vs ≡ false) × (8 ≤ length vs))
     → (us : List ℕ)
-    → Sees us args.seen
-    → length us ≡ args.from
-    → args.from + length vs ≤ args.most
+    → Sees us seen
+    → length us ≡ from
+    → from + length vs ≤ most
     → Sees (us ++ vs) (record { reading = r; clear = clear })
-through c r clear e calm us sees size room =
-    let args = c.args in
-    let small = c.ranges.most.fits in
-    sees_through us args.seen sees (omega (arith, size, room, small)) _ c.requires.all_cells.0
-    (omega (arith, size, room, small)) args.most r clear (omega (arith, size, room)) small
-    (e ∙ ap (λ (k : ℕ). (pass_from args.most k args.seen.reading args.units.now).end.reading) (sym size)) calm
+through seen vs from most cells small r clear e calm us sees size room =
+    sees_through us seen sees (omega (arith, size, room, small)) vs cells (omega (arith, size, room, small))
+    most r clear (omega (arith, size, room)) small
+    (e ∙ ap (λ (k : ℕ). (pass_from most k seen.reading vs).end.reading) (sym size)) calm
 
 pub returns-then-units-lt-BLOCK : goal.returns-then-units-lt-BLOCK
-returns-then-units-lt-BLOCK c = through c _ false c.shift_on.ensures (λ h. absurd (false≢true h))
-
-pub scan-tally-requires : goal.scan-tally-requires
-scan-tally-requires c =
-    let cells = c.requires.all_cells in
-    (omega (arith, c.if-units-lt-BLOCK.false, c.requires.units_len_bound), cells.0, cells.1)
+returns-then-units-lt-BLOCK c =
+    through c.args.seen _ _ _ c.requires.all_cells.0 c.ranges.most.fits _ false c.shift_on.ensures
+    (λ h. absurd (false≢true h))
 
 pub returns-then-tally : goal.returns-then-tally
 returns-then-tally c =
-    through_2 c _ false c.shift_on-then-tally.ensures
+    through c.args.seen _ _ _ c.requires.all_cells.0 c.ranges.most.fits _ false c.shift_on-then-tally.ensures
     (λ h. absurd (false≢true h))
 
 pub move_on-requires : goal.move_on-requires
@@ -102,5 +59,5 @@ pub returns : goal.returns
 returns c =
     let sum = c.scan-tally.ensures.sum in
     let gap = c.scan-tally.ensures.gap in
-    through_3 c _ true c.shift_on-2.ensures
+    through c.args.seen _ _ _ c.requires.all_cells.0 c.ranges.most.fits _ true c.shift_on-2.ensures
     (λ _. (sym gap ∙ c.if-tally.false, omega (arith, c.if-units-lt-BLOCK.false)))

@@ -5,4 +5,4 @@ use Rattle.passes.proofs.look.move_on.Goals as goal
 
 pub returns : goal.returns
 unfolding calmed
-returns c = rw (c.wrapping_add_u32.ensures.value, c.last_bits.ensures) refl
+returns c = rw c.last_bits.ensures refl

@@ -1,14 +1,8 @@
 -- Why `scan::scan` counts all and finds a gap: what is left of the sum and of the gaps stays the same from eight to
 -- eight. Rests on no axiom.
 use Rattle.std.proofs.Common.{arith}
-use Rattle.passes.proofs.ScanLaws.{eight_cells, scans_begin, scans_on, scans_end}
+use Rattle.passes.proofs.ScanLaws.{eight_cells, scans_on, scans_end}
 use Rattle.passes.proofs.scan.scan.Goals as goal
-
-pub loop-i-init : goal.loop-i-init
-loop-i-init c = scans_begin _ _ c.requires.2
-
-pub eight_at-requires : goal.eight_at-requires
-eight_at-requires c = omega (arith, c.loop-i-test.true, c.requires.0)
 
 pub loop-i-preserved : goal.loop-i-preserved
 loop-i-preserved c =

@@ -33,5 +33,5 @@ overflow_add-result-2 c =
 
 pub returns : goal.returns
 returns c =
-    rw (c.lesser.ensures, c.greater.ensures)
+    rw (c.min.ensures, c.max.ensures)
     (sym (no_row_is_empty _ _ c.if-a-eq0.false c.if-b-eq0-2.false))

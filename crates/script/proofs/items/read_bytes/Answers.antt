@@ -29,11 +29,12 @@ slice_bounds-parse_byte-start c = omega (arith, c.find-end.ensures)
 pub slice_bounds-parse_byte-end : goal.slice_bounds-parse_byte-end
 slice_bounds-parse_byte-end c = field_ends_in_line _ _ _ c.loop-at-test.true c.find-end.ensures
 
-pub returns-in-Malformed : goal.returns-in-Malformed
+pub returns-in_err-b : goal.returns-in_err-b
 unfolding everywhere
-returns-in-Malformed c =
-    let no_byte = malformed_is_no_byte _ (sym c.parse_byte.ensures ∙ c.in-Malformed.is) in
-    faulty_read (sym c.loop-at.invariant.2 ∙ rw (fields_next _ _ _ c.loop-at-test.true c.find-end.ensures, no_byte))
+returns-in_err-b c =
+    let no_byte = malformed_is_no_byte _ (sym c.parse_byte.ensures ∙ c.in_err-b.was) in
+    rw c.from_residual.ensures
+    (faulty_read (sym c.loop-at.invariant.2 ∙ rw (fields_next _ _ _ c.loop-at-test.true c.find-end.ensures, no_byte)))
 
 pub put-n-requires : goal.put-n-requires
 put-n-requires c =
@@ -53,7 +54,7 @@ unfolding raised
 loop-at-preserved c =
     let put = c.put-n in
     let next = fields_next _ _ _ c.loop-at-test.true c.find-end.ensures in
-    let byte = value_is_byte _ _ (sym c.parse_byte.ensures ∙ c.in-Value.is) in (
+    let byte = value_is_byte _ _ (sym c.parse_byte.ensures ∙ c.in_ok-b.was) in (
       field_ends_in_line _ _ _ c.loop-at-test.true c.find-end.ensures,
       put.auto.out ∙ c.loop-at.invariant.1,
       sym (everywhere_of_passing is_hex_byte _ _ byte.0) ∙ (rw next at c.loop-at.invariant.2),

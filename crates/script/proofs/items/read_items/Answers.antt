@@ -11,7 +11,7 @@ use lib.ListN.{length, take, drop, length-take, length-drop, drop_of_length-le}
 use Rattle.text.specs.Ascii.{line_feed}
 use Rattle.text.specs.Pieces.{pieces_of, up_to}
 use Rattle.script.specs.Input.{garbled_from, items_of_lines}
-use Rattle.script.specs.machine.Read.{is_read}
+use Rattle.std.specs.Prelude.{is_some}
 use Rattle.script.proofs.BufferLaws.{all_is_left, rest_is_left, nothing_is_left}
 use Rattle.script.proofs.ByteLaws.{few_items}
 use Rattle.script.proofs.InputLaws.{line_ends_in_text, lines_next, no_line_feed, garbled_next, items_next}
@@ -56,16 +56,16 @@ read_item_line-requires c =
     let size = length-take (c.find-end.result - c.loop-at.at) (drop c.loop-at.at text) in
     omega (arith, length-drop c.loop-at.at text, c.loop-at.invariant, c.requires)
 
-pub shape_of-buffer-in-Faulty : goal.shape_of-buffer-in-Faulty
-shape_of-buffer-in-Faulty c = c.read_item_line.auto.buffer ∙ c.loop-at.invariant.1
+pub shape_of-buffer-in-None : goal.shape_of-buffer-in-None
+shape_of-buffer-in-None c = c.read_item_line.auto.buffer ∙ c.loop-at.invariant.1
 
-pub returns-in-Faulty : goal.returns-in-Faulty
-returns-in-Faulty c =
+pub returns-in-None : goal.returns-in-None
+returns-in-None c =
     let found = line_found _ _ _ c.loop-at.invariant.0 c.find-end.ensures c.if-end-text.false in
     let next = lines_next _ _ _ c.loop-at.invariant.0 c.find-end.ensures found in
     let faulty =
     sym c.read_item_line.ensures.verdict
-    ∙ ap is_read c.in-Faulty.is in
+    ∙ ap is_some c.in-None.is in
     lines_refused (sym c.loop-at.invariant.4 ∙ rw (next, garbled_next, faulty))
 
 pub overflow_add-at : goal.overflow_add-at
@@ -83,8 +83,8 @@ loop-at-preserved c =
     let next = lines_next _ _ _ c.loop-at.invariant.0 c.find-end.ensures found in
     let text = drop c.loop-at.at c.args.text.now in
     let size = c.find-end.result - c.loop-at.at in
-    let good = sym c.read_item_line.ensures.verdict ∙ ap is_read c.in-Items.is in
-    let stored = c.read_item_line.ensures.stored _ c.in-Items.is in (
+    let good = sym c.read_item_line.ensures.verdict ∙ ap is_some c.in-Some.is in
+    let stored = c.read_item_line.ensures.stored _ c.in-Some.is in (
       omega (arith, found),
       c.read_item_line.auto.buffer ∙ c.loop-at.invariant.1,
       omega (

@@ -11,7 +11,7 @@ use Rattle.script.proofs.NumberLaws.{number_stored, no_numbers_read, all_numbers
 use Rattle.script.proofs.profile.read_numbers.Goals as goal
 
 -- a place for the number is left
-place_left : (c : goal.In-Number) → c.loop-at.k < length c.loop-at.numbers
+place_left : (c : goal.In-Some) → c.loop-at.k < length c.loop-at.numbers
 place_left c = omega (arith, c.if-k-numbers.false, c.loop-at.invariant.1)
 
 pub loop-at-init : goal.loop-at-init
@@ -32,11 +32,11 @@ slice_bounds-parse_decimal-start c = omega (arith, c.find-end.ensures)
 pub slice_bounds-parse_decimal-end : goal.slice_bounds-parse_decimal-end
 slice_bounds-parse_decimal-end c = field_ends_in_line _ _ _ c.loop-at-test.true c.find-end.ensures
 
-pub returns-in-Malformed : goal.returns-in-Malformed
-returns-in-Malformed c =
+pub returns-in-None : goal.returns-in-None
+returns-in-None c =
     no_numbers_read (sym c.loop-at.invariant.2
     ∙ rw (fields_next _ _ _ c.loop-at-test.true c.find-end.ensures) (fitting_at_malformed _ _ _ _
-    (malformed_is_no_decimal _ (sym c.parse_decimal.ensures ∙ c.in-Malformed.is))))
+    (malformed_is_no_decimal _ (sym c.parse_decimal.ensures ∙ c.in-None.is))))
 
 pub bounds-numbers-k : goal.bounds-numbers-k
 bounds-numbers-k c = place_left c
@@ -49,7 +49,7 @@ loop-at-preserved c =
     let inv = c.loop-at.invariant in
     let next = fields_next _ _ _ c.loop-at-test.true c.find-end.ensures in
     let number =
-    number_is_decimal _ _ (sym c.parse_decimal.ensures ∙ c.in-Number.is) in (
+    number_is_decimal _ _ (sym c.parse_decimal.ensures ∙ c.in-Some.is) in (
       simp length-set inv.0,
       simp length-set (omega (arith, place_left c)),
       sym (fitting_after_number _ _ _ _ number.0) ∙ (rw next at inv.2),

@@ -4,7 +4,7 @@ use mathlib.Core.Path.{sym, ◌∙◌, ap}
 use lib.Seq.{length-take-le}
 use Rattle.timing.specs.Numbers.{from_numbers}
 use Rattle.script.specs.Line.{is_profile_line, profile_of, profile_read}
-use Rattle.script.specs.declared.ProfileLine.TheVariants.{Given}
+use Rattle.std.specs.Prelude.{Some}
 use Rattle.script.proofs.LineLaws.{word_ends_in_line, word_is_a_part, arguments_after_word}
 use Rattle.script.proofs.profile.read_profile.Goals as goal
 
@@ -21,7 +21,7 @@ returns-then-read_numbers c =
       ← arguments_after_word c.args.line.now _ c.find-end.ensures,
       ← c.read_numbers.ensures.verdict,
       c.if-read_numbers.true,
-    ) (ap Given (c.from_numbers.ensures
+    ) (ap Some (c.from_numbers.ensures
     ∙ ap from_numbers (c.read_numbers.ensures.numbers c.if-read_numbers.true)))
 
 pub returns-else-read_numbers : goal.returns-else-read_numbers

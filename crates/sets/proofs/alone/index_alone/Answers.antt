@@ -1,13 +1,14 @@
 -- Why `sets::alone::index_alone` answers `set_rule` and makes the index: the count of the sectors decides, or else the
 -- lowest number that the index marks. Rests on no axiom.
+use Rattle.std.proofs.Common.{rules}
 use Prim.Native.Nat.{ℕ, ◌≤◌}
 use mathlib.Core.Path.{◌≡◌, ◌∙◌}
 use mathlib.Core.List.{List}
-use borrow.Author.Tests.{lt-ltb, le-ltb}
+use borrow.Author.Tests.{lt-ltb}
 use lib.Dec.{ltb}
 use Rattle.lists.specs.Place.{lowest}
 use Rattle.refusal.specs.Answer.{accepted, refuse_if}
-use Rattle.refusal.specs.declared.Refusal.TheVariants.{TooManySectors, SectorsAtOdds}
+use Rattle.refusal.specs.declared.Refusal.TheVariants.{TooManySectors}
 use Rattle.sets.specs.Held.{numbers}
 use Rattle.sets.specs.Alone.{set_rule}
 use Rattle.sets.specs.machine.Index.{Indexed}
@@ -28,39 +29,30 @@ decided set index count low counts few indexed e =
 
 pub returns-then-count-gt32 : goal.returns-then-count-gt32
 returns-then-count-gt32 c =
-    let counts = counted_set c.args.set.now c.in-Count.count (rw c.in-Count.is at c.count_sectors.ensures) in
+    let counts = counted_set c.args.set.now c.in_ok-count.count c.in_ok-count.ensures in
     let refusal = crowd_decides _ _ counts c.if-count-gt32.true in
     record { answer = refusal; index = λ h. absurd (refused_is_not_accepted _ TooManySectors refusal h) }
 
 pub index_set-span-requires : goal.index_set-span-requires
 index_set-span-requires c =
-    let counts = counted_set c.args.set.now c.in-Count.count (rw c.in-Count.is at c.count_sectors.ensures) in
+    let counts = counted_set c.args.set.now c.in_ok-count.count c.in_ok-count.ensures in
     (counts.whole, short_set _ _ counts c.if-count-gt32.false, c.requires)
 
-pub lowest_twice-lowest-requires : goal.lowest_twice-lowest-requires
-lowest_twice-lowest-requires c = c.index_set-span.ensures.spanned
+pub returns-in_err-count-clause-answer : goal.returns-in_err-count-clause-answer
+returns-in_err-count-clause-answer c = search (rules, misfit_decides, refused_is_not_accepted)
 
-pub returns-then-lowest-lt256 : goal.returns-then-lowest-lt256
-returns-then-lowest-lt256 c =
-    let low = c.lowest_twice-lowest.result in
-    let counts = counted_set c.args.set.now c.in-Count.count (rw c.in-Count.is at c.count_sectors.ensures) in
-    let refusal =
-    rw (lt-ltb _ _ c.if-lowest-lt256.true) at
-    (decided _ _ _ low counts c.if-count-gt32.false c.index_set-span.ensures.indexed c.lowest_twice-lowest.ensures) in
-    record { answer = refusal; index = λ h. absurd (refused_is_not_accepted _ (SectorsAtOdds low) refusal h) }
+pub returns-in_err-count-clause-index : goal.returns-in_err-count-clause-index
+returns-in_err-count-clause-index c = search (rules, misfit_decides, refused_is_not_accepted)
 
-pub returns-in-Refused : goal.returns-in-Refused
-returns-in-Refused c =
-    let r = c.in-Refused.refusal in
-    let refusal = misfit_decides _ r (rw c.in-Refused.is at c.count_sectors.ensures) in
-    record { answer = refusal; index = λ h. absurd (refused_is_not_accepted _ r refusal h) }
+pub returns-in-Some-clause-answer : goal.returns-in-Some-clause-answer
+returns-in-Some-clause-answer c =
+    let counts = counted_set c.args.set.now c.in_ok-count.count c.in_ok-count.ensures in
+    let number = c.in-Some.ensures in
+    rw (lt-ltb _ _ number.number) at
+    (decided _ _ _ _ counts c.if-count-gt32.false c.index_set-span.ensures.indexed number.lowest)
 
-pub returns-else-lowest-lt256 : goal.returns-else-lowest-lt256
-returns-else-lowest-lt256 c =
-    let counts = counted_set c.args.set.now c.in-Count.count (rw c.in-Count.is at c.count_sectors.ensures) in
-    record {
-      answer =
-          rw (le-ltb _ _ c.if-lowest-lt256.false) at
-          (decided _ _ _ _ counts c.if-count-gt32.false c.index_set-span.ensures.indexed c.lowest_twice-lowest.ensures);
-      index = λ h. c.index_set-span.ensures.indexed;
-    }
+pub returns-clause-answer : goal.returns-clause-answer
+returns-clause-answer c =
+    let counts = counted_set c.args.set.now c.in_ok-count.count c.in_ok-count.ensures in
+    let none = c.in_default.ensures.lowest in
+    rw (decided _ _ _ 256 counts c.if-count-gt32.false c.index_set-span.ensures.indexed none)

@@ -14,16 +14,23 @@ loop-n-init c = (c.requires.low_ends, lowest_before _ _ _ c.requires c.requires 
 pub returns-then-index-n : goal.returns-then-index-n
 unfolding lowest
 returns-then-index-n c =
-    let inside : c.loop-n.n < 256 = omega arith in
-    omega (arith, rw (numbers_from _ inside, eq-eqb _ 65535 c.if-index-n.true) at c.loop-n.invariant.1)
+    let inside : c.loop-n.n < 256 = omega (arith, c.requires.high_ends) in
+    record {
+      lowest = omega (arith, rw (numbers_from _ inside, eq-eqb _ 65535 c.if-index-n.true) at c.loop-n.invariant.1);
+      number = inside;
+    }
 
 pub loop-n-preserved : goal.loop-n-preserved
 unfolding lowest
 loop-n-preserved c =
-    let inside : c.loop-n.n < 256 = omega arith in
+    let inside : c.loop-n.n < 256 = omega (arith, c.requires.high_ends) in
     (omega arith, omega (arith, rw (numbers_from _ inside, ne_eqb _ 65535 c.if-index-n.false) at c.loop-n.invariant.1))
 
 pub returns : goal.returns
 returns c =
     let pre = c.requires in
-    lowest_after _ _ _ pre pre _ (λ n h e d. rw e) _ c.loop-n-test.false c.loop-n.invariant.0 c.loop-n.invariant.1
+    let test = c.loop-n-test.false in
+    record {
+      lowest = lowest_after _ _ _ pre pre _ (λ n h e d. rw e) _ test c.loop-n.invariant.0 c.loop-n.invariant.1;
+      number = tt;
+    }

@@ -1,4 +1,4 @@
-use Prim.Native.Nat.{◌+◌, ◌-◌, ◌≤◌}
+use Prim.Native.Nat.{◌+◌, ◌≤◌}
 use mathlib.Core.Path.{◌≡◌}
 use lib.ListN.{drop}
 use Rattle.lists.specs.Place.{lowest}
@@ -9,6 +9,3 @@ use Rattle.sets.proofs.alone.lowest_twice.Given as goal
 abbrev pub invariant-loop-n : goal.invariant-loop-n
 invariant-loop-n l =
     (l.n ≤ 256) × (l.n + lowest (marks_twice l.index) (drop l.n numbers) ≡ lowest (marks_twice l.index) numbers)
-
-abbrev pub decreases-loop-n : goal.decreases-loop-n
-decreases-loop-n l = l.span.high - l.n

@@ -1,7 +1,7 @@
 -- Why `sets::index::count_sectors` answers `count_rule`: what was counted and what is left to count stay one answer
 -- from turn to turn. Rests on no axiom.
+use Rattle.std.proofs.Common.{rules}
 use Prim.Native.Nat.{◌≤◌}
-use mathlib.Core.Path.{refl, ◌∙◌}
 use native.Mathlib.Nat.{add-zero}
 use native.Mathlib.Omega.{arith}
 use lib.ListN.{length, drop_of_length-le}
@@ -10,20 +10,14 @@ use Rattle.sets.proofs.PlaceLaws.{misfit_ends_the_count, Whole, count_with_first
 use Rattle.sets.proofs.index.count_sectors.Goals as goal
 
 whole
-    : (c : goal.In-Count)
-    → Whole c.args.set.now c.loop-start.start c.in-Count.end
+    : (c : goal.In_ok-end)
+    → Whole c.args.set.now c.loop-start.start c.in_ok-end.end
 whole c =
-    sector_is_whole _ _ c.loop-start-test.true c.in-Count.end
-    (rw c.in-Count.is at c.sector_end.ensures)
+    sector_is_whole _ _ c.loop-start-test.true c.in_ok-end.end
+    (c.in_ok-end.ensures)
 
-pub loop-start-init : goal.loop-start-init
-loop-start-init c = (omega arith, omega arith, refl)
-
-pub returns-in-Refused : goal.returns-in-Refused
-returns-in-Refused c =
-    misfit_ends_the_count _ _ c.loop-start-test.true c.in-Refused.refusal c.loop-start.count
-    (rw c.in-Refused.is at c.sector_end.ensures)
-    ∙ c.loop-start.invariant.2
+pub returns-in_err-end : goal.returns-in_err-end
+returns-in_err-end c = search (rules, misfit_ends_the_count)
 
 pub loop-start-smaller : goal.loop-start-smaller
 loop-start-smaller c = let w = whole c in omega (arith, w.here)

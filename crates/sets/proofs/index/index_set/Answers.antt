@@ -22,35 +22,12 @@ loop-start-init c =
       rw fresh fresh_spans,
     )
 
-pub overflow_cast-number : goal.overflow_cast-number
-overflow_cast-number c = omega (arith, c.type_inv.set c.loop-start.start)
-
-pub offset_bounds-index-number : goal.offset_bounds-index-number
-offset_bounds-index-number c = omega (arith, c.type_inv.set c.loop-start.start)
-
-pub bounds-index-number : goal.bounds-index-number
-bounds-index-number c = omega (arith, c.type_inv.set c.loop-start.start)
-
-pub overflow_cast-code : goal.overflow_cast-code
-overflow_cast-code c = omega (arith, c.requires.1)
-
-pub offset_bounds-index-number-in-loop-start : goal.offset_bounds-index-number-in-loop-start
-offset_bounds-index-number-in-loop-start c = omega (arith, c.type_inv.set c.loop-start.start)
-
-pub bounds-index-number-in-loop-start : goal.bounds-index-number-in-loop-start
-bounds-index-number-in-loop-start c = omega (arith, c.type_inv.set c.loop-start.start)
-
-pub overflow_add-here : goal.overflow_add-here
-overflow_add-here c = omega (arith, c.type_inv.set c.loop-start.start)
-
 pub bounds-set-code : goal.bounds-set-code
 bounds-set-code c = omega (arith, (whole_here _ _ c.loop-start-test.true c.loop-start.invariant.1).ends)
 
 pub overflow_add-start-in-loop-start : goal.overflow_add-start-in-loop-start
-overflow_add-start-in-loop-start c = omega (arith, (whole_here _ _ c.loop-start-test.true c.loop-start.invariant.1).ends, c.sector_size.ensures)
-
-pub loop-start-smaller : goal.loop-start-smaller
-loop-start-smaller c = omega (arith, (whole_here _ _ c.loop-start-test.true c.loop-start.invariant.1).ends, c.sector_size.ensures)
+overflow_add-start-in-loop-start c =
+    omega (arith, (whole_here _ _ c.loop-start-test.true c.loop-start.invariant.1).ends, c.sector_size.ensures)
 
 pub loop-start-preserved : goal.loop-start-preserved
 loop-start-preserved c =

@@ -56,7 +56,7 @@ shape_of-words c = c.loop-i.invariant.so_far.size ∙ sym c.requires.le_eights.1
 pub returns : goal.returns
 returns c =
     let both = top_ends _ _ _ _ _ _ _ c.loop-i.invariant c.loop-i-test.false c.requires.all_cells
-    c.requires.le_eights.0 _ _ _ c.last_bits.ensures refl c.wrapping_add_u32.ensures.value in
+    c.requires.le_eights.0 _ _ _ c.last_bits.ensures refl refl in
     record {
       reading = both.0;
       words = both.1;

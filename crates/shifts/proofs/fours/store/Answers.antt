@@ -10,35 +10,31 @@ pub returns-then-out-at : goal.returns-then-out-at
 returns-then-out-at c = sym (stored_past_end _ _ _ c.if-out-at.true)
 
 pub loop-k-init : goal.loop-k-init
-loop-k-init c = (omega arith, refl, rw add-zero)
-
-pub bounds-words-k : goal.bounds-words-k
-bounds-words-k c = omega (arith, c.at_most-count.ensures, c.loop-k-test.true)
+loop-k-init c = (refl, rw add-zero)
 
 pub overflow_add-out : goal.overflow_add-out
 overflow_add-out c =
-    let few = c.at_most-count.ensures in
+    let few = c.min-count.ensures in
     record { fits = omega (arith, few, c.loop-k-test.true, c.well_formed) }
 
 pub bounds-out-at : goal.bounds-out-at
 bounds-out-at c =
-    let few = c.at_most-count.ensures in
-    omega (arith, few, c.loop-k-test.true, c.loop-k.invariant.1)
+    let few = c.min-count.ensures in
+    omega (arith, few, c.loop-k-test.true, c.loop-k.invariant.0)
 
 pub loop-k-preserved : goal.loop-k-preserved
 loop-k-preserved c =
     let args = c.args in
     let words = args.words.now in
     let k = c.loop-k.k in
-    let more : k < length words = omega (arith, c.at_most-count.ensures, c.loop-k-test.true) in (
-      omega (arith, c.loop-k-test.true),
-      length-set {A = ℕ} c.loop-k.out _ _ ∙ c.loop-k.invariant.1,
+    let more : k < length words = omega (arith, c.min-count.ensures, c.loop-k-test.true) in (
+      length-set {A = ℕ} c.loop-k.out _ _ ∙ c.loop-k.invariant.0,
       rw (add-one k, ← get_or-map alone words k 0)
-          (stored_rest c.loop-k.out (map alone words) args.at k 0 (rw length-map more) ∙ c.loop-k.invariant.2),
+          (stored_rest c.loop-k.out (map alone words) args.at k 0 (rw length-map more) ∙ c.loop-k.invariant.1),
     )
 
 pub shape_of-out : goal.shape_of-out
-shape_of-out c = c.loop-k.invariant.1
+shape_of-out c = c.loop-k.invariant.0
 
 pub returns : goal.returns
 returns c =
@@ -46,8 +42,8 @@ returns c =
     let words = map alone args.words.now in
     let size = length-map args.words.now alone in
     let k = c.loop-k.k in
-    let (within, same, rest) = c.loop-k.invariant in
-    let few = c.at_most-count.ensures in
+    let (same, rest) = c.loop-k.invariant in
+    let few = c.min-count.ensures in
     elim (dec_lt k (length args.words.now)) [
       | yes h ↦
           sym (stored_past_end _ (args.at + k) (drop k words) (omega (arith, few, same, c.loop-k-test.false))) ∙ rest

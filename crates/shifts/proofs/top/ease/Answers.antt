@@ -16,5 +16,4 @@ overflow_shl-result c = omega (arith, one_at_most c.is_whole.result)
 pub returns : goal.returns
 returns c = λ m top.
     let t = c.args.t in
-    top_eases t m top _ c.is_whole.result (c.is_whole.ensures ∙ top_whole t m top)
-    (omega (arith, c.struct_known-1.given)) c.wrapping_add_u32.ensures.value refl
+    top_eases t m top _ c.is_whole.result (c.is_whole.ensures ∙ top_whole t m top) (omega arith) refl refl

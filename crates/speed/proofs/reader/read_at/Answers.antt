@@ -4,15 +4,29 @@ use Prim.Native.Nat.{ℕ, ◌-◌, ◌≤◌}
 use mathlib.Core.Path.{◌≡◌, sym, ap, ◌∙◌}
 use mathlib.Core.List.{List}
 use native.Mathlib.Omega.{arith}
-use lib.ListN.{take, drop, length-take, length-drop}
+use lib.ListN.{length, take, drop, length-take, length-drop}
+use Rattle.std.specs.Prelude.{Result, Ok, Err}
+use Rattle.std.proofs.Common.{rules}
 use Rattle.refusal.specs.Answer.{verdict_answer}
+use Rattle.refusal.specs.declared.Refusal.{Refusal}
 use Rattle.refusal.proofs.AnswerLaws.{verdict_accepts}
+use Rattle.timing.specs.Profile.{profile_rule}
+use Rattle.timing.specs.declared.Profile.{Profile}
 use Rattle.timing.proofs.ProfileLaws.{kept}
 use Rattle.locks.proofs.LockLaws.{part_to_end}
-use Rattle.pace.specs.machine.Cut.{Measured}
+use Rattle.fields.specs.FieldRule.{field_output}
+use Rattle.fields.specs.declared.reader.Field.{Field}
+use Rattle.clearance.specs.Answers.{clear_field_answer, field_with_clearance}
+use Rattle.clearance.specs.declared.Clear.{Clear}
+use Rattle.pace.specs.Pace.{pace_rule}
+use Rattle.pace.specs.machine.Cut.{slowed, Measured, Able}
+use Rattle.pace.specs.declared.Pace.{Pace}
+use Rattle.pace.proofs.DifferenceLaws.{difference_is_kept}
 use Rattle.speed.specs.Speed.{run_before, speed_rule}
+use Rattle.speed.specs.Reading.{corrected_answer, reading_at, output_at}
 use Rattle.speed.specs.machine.Read.{told_by}
 use Rattle.speed.proofs.ReadLaws.{speed_refuses, pace_is, able, field_is, told_is, output_is}
+use Rattle.speed.proofs.ReadLaws.{told_refusal, told_field}
 use Rattle.speed.proofs.reader.read_at.Goals as goal
 
 -- the 64 before a lock, as they are lent
@@ -21,56 +35,53 @@ unfolding run_before
 run_is ds lock h =
     let count : lock - (lock - 64) ≡ 64 = omega (arith, h) in ap (λ (k : ℕ). take k (drop (lock - 64) ds)) count
 
-measured
-    : (c : goal.After-read_slowed-arg-in-Accepted-1)
-    → let args = c.args in
-    Measured args.p.t1.0 (run_before args.intervals.now args.lock) c.measured-pace.result
-measured c =
-    rw (run_is c.args.intervals.now c.args.lock c.requires.le_lock.0) at c.measured-pace.ensures
+module _
+    (p : Profile) (ds : List ℕ) (lock n : ℕ) (old : List ℕ) (accepts : (profile_rule p).number ≡ 0) (long : 64 ≤ lock)
+    (pace : Pace) (of_run : Measured p.t1.0 (take (lock - (lock - 64)) (drop (lock - 64) ds)) pace)
+    (verdict : Result (Unit {0}) Refusal) (checked : verdict_answer verdict ≡ pace_rule pace.nominal pace.even pace.odd)
+  where
+    measured : Measured p.t1.0 (run_before ds lock) pace
+    measured = rw (run_is ds lock long) at of_run
 
-measured_2
-    : (c : goal.After-told)
-    → let args = c.args in
-    Measured args.p.t1.0 (run_before args.intervals.now args.lock) c.measured-pace.result
-measured_2 c =
-    rw (run_is c.args.intervals.now c.args.lock c.requires.le_lock.0) at c.measured-pace.ensures
+    -- the pace is checked as the rule has it
+    paced : verdict_answer verdict ≡ speed_rule p ds lock
+    paced = checked ∙ pace_is p ds lock n old accepts pace measured
 
-measured_3
-    : (c : goal.After-turn_away)
-    → let args = c.args in
-    Measured args.p.t1.0 (run_before args.intervals.now args.lock) c.measured-pace.result
-measured_3 c =
-    rw (run_is c.args.intervals.now c.args.lock c.requires.le_lock.0) at c.measured-pace.ensures
+    refuses
+        : (r : Refusal)
+        → verdict ≡ Err r
+        → (corrected_answer (Err r) ≡ reading_at p ds lock n (length old)) × (old ≡ output_at p ds lock n old)
+    refuses r is = speed_refuses p ds lock n old r (sym (ap verdict_answer is) ∙ paced)
 
--- the pace is checked as the rule has it
-paced
-    : (c : goal.After-read_slowed-arg-in-Accepted-1)
-    → let args = c.args in
-    verdict_answer c.check.result ≡ speed_rule args.p args.intervals.now args.lock
-paced c =
-    c.check.ensures
-    ∙ pace_is c.args.p c.args.intervals.now c.args.lock c.args.n c.args.out.now
-    c.requires.p_value _ (measured c)
+    module _ (is : verdict ≡ Ok tt) where
+      fair : (speed_rule p ds lock).number ≡ 0
+      fair = verdict_accepts _ _ paced is
 
--- the pace is checked as the rule has it
-paced_2
-    : (c : goal.After-turn_away)
-    → let args = c.args in
-    verdict_answer c.check.result ≡ speed_rule args.p args.intervals.now args.lock
-paced_2 c =
-    c.check.ensures
-    ∙ pace_is c.args.p c.args.intervals.now c.args.lock c.args.n c.args.out.now
-    c.requires.p_value _ (measured_3 c)
+      is_able : Able pace
+      is_able = able p ds lock n old accepts pace measured fair
 
--- the pace is checked as the rule has it
-paced_3
-    : (c : goal.After-told)
-    → let args = c.args in
-    verdict_answer c.check.result ≡ speed_rule args.p args.intervals.now args.lock
-paced_3 c =
-    c.check.ensures
-    ∙ pace_is c.args.p c.args.intervals.now c.args.lock c.args.n c.args.out.now
-    c.requires.p_value _ (measured_2 c)
+      -- what the corrected numbers read as, with the lock's place and the differences
+      told
+          : (read answer : Result (Clear Field) Refusal)
+          → clear_field_answer read
+          ≡ field_with_clearance p (slowed pace (take (length ds - lock) (drop lock ds))) n (length old)
+          → read ≡ answer
+          → told_by pace lock (clear_field_answer answer) ≡ reading_at p ds lock n (length old)
+      told read answer same reads =
+          ap (told_by pace lock)
+          (sym (ap clear_field_answer reads)
+          ∙ (rw (part_to_end ds lock) at same)
+          ∙ (field_is p ds lock n old accepts pace measured fair).0)
+          ∙ told_is p ds lock n old accepts pace measured fair
+
+      stored
+          : (new : List ℕ)
+          → new ≡ field_output p (slowed pace (take (length ds - lock) (drop lock ds))) n old
+          → new ≡ output_at p ds lock n old
+      stored new same =
+          (rw (part_to_end ds lock) at same)
+          ∙ (field_is p ds lock n old accepts pace measured fair).1
+          ∙ output_is p ds lock n old fair
 
 pub measured-pace-requires : goal.measured-pace-requires
 measured-pace-requires c =
@@ -86,43 +97,60 @@ measured-pace-requires c =
 pub check-requires : goal.check-requires
 check-requires c = c.measured-pace.ensures.small
 
-pub read_slowed-field-requires : goal.read_slowed-field-requires
-read_slowed-field-requires c =
-    let fair = verdict_accepts _ _ (paced c) c.in-Accepted.is in
+pub read_slowed-requires : goal.read_slowed-requires
+read_slowed-requires c =
+    let accepts = c.requires.p_value in
+    let measured = c.measured-pace.ensures in
+    let checked = c.check.ensures in
     record {
-      p_value = c.requires.p_value;
-      able = able c.args.p c.args.intervals.now c.args.lock c.args.n c.args.out.now
-          c.requires.p_value _ (measured c) fair;
+      p_value = accepts;
+      able = is_able _ c.args.intervals.now _ c.args.n c.args.out.now accepts c.requires.le_lock.0 _ measured _ checked
+          c.in_ok-check.was;
     }
 
-pub told-requires : goal.told-requires
-told-requires c = c.measured-pace.ensures.small
+pub difference-even-requires : goal.difference-even-requires
+difference-even-requires c = let small = c.measured-pace.ensures.small in (small.nominal, small.even)
 
-pub returns-in-Refused : goal.returns-in-Refused
-returns-in-Refused c =
-    let args = c.args in
-    let refuses =
-    speed_refuses args.p args.intervals.now args.lock args.n args.out.now c.in-Refused.refusal
-    (sym (ap verdict_answer c.in-Refused.is) ∙ paced_2 c) in
-    record { answer = c.turn_away.ensures ∙ refuses.0; output = refuses.1 }
+pub difference-odd-requires : goal.difference-odd-requires
+difference-odd-requires c = let small = c.measured-pace.ensures.small in (small.nominal, small.odd)
 
-pub returns-in-Accepted : goal.returns-in-Accepted
-returns-in-Accepted c =
-    let p = c.args.p in
-    let ds = c.args.intervals.now in
-    let lock = c.args.lock in
-    let n = c.args.n in
-    let old = c.args.out.now in
-    let accepts = c.requires.p_value in
-    let m = measured_2 c in
+pub returns-in_err-check-clause-answer : goal.returns-in_err-check-clause-answer
+returns-in_err-check-clause-answer c =
+    let answer =
+    (refuses _ c.args.intervals.now _ c.args.n c.args.out.now c.requires.p_value c.requires.le_lock.0 _
+    c.measured-pace.ensures _ c.check.ensures _ c.in_err-check.was).0 in
+    search (rules, answer)
+
+pub returns-in_err-check-clause-output : goal.returns-in_err-check-clause-output
+returns-in_err-check-clause-output c =
+    (refuses _ c.args.intervals.now _ c.args.n c.args.out.now c.requires.p_value c.requires.le_lock.0 _
+    c.measured-pace.ensures _ c.check.ensures _ c.in_err-check.was).1
+
+pub returns-in_err-field-clause-answer : goal.returns-in_err-field-clause-answer
+returns-in_err-field-clause-answer c =
+    let answer =
+    told_refusal c.measured-pace.result c.args.lock _
+    ∙ told _ c.args.intervals.now _ c.args.n c.args.out.now c.requires.p_value c.requires.le_lock.0 _
+    c.measured-pace.ensures _ c.check.ensures c.in_ok-check.was _ _ c.read_slowed.ensures.answer c.in_err-field.was in
+    search (rules, answer)
+
+pub returns-in_err-field-clause-output : goal.returns-in_err-field-clause-output
+returns-in_err-field-clause-output c =
+    stored _ c.args.intervals.now _ c.args.n c.args.out.now c.requires.p_value c.requires.le_lock.0 _
+    c.measured-pace.ensures _ c.check.ensures c.in_ok-check.was _ c.read_slowed.ensures.output
+
+pub returns : goal.returns
+returns c =
     let pace = c.measured-pace.result in
-    let fair = verdict_accepts _ _ (paced_3 c) c.in-Accepted.is in
-    let answer = rw (part_to_end ds lock) at c.read_slowed-field.ensures.answer in
-    let output = rw (part_to_end ds lock) at c.read_slowed-field.ensures.output in
-    let same = field_is p ds lock n old accepts pace m fair in
+    let small = c.measured-pace.ensures.small in
+    let full : pace.nominal ≤ 4194240 = omega (arith, small.nominal) in
     record {
-      answer = c.told.ensures
-          ∙ ap (told_by pace lock) (answer ∙ same.0)
-          ∙ told_is p ds lock n old accepts pace m fair;
-      output = output ∙ same.1 ∙ output_is p ds lock n old fair;
+      answer = told_field pace c.args.lock _ _ _
+          (difference_is_kept pace.even pace.nominal small.even full _ c.difference-even.ensures)
+          (difference_is_kept pace.odd pace.nominal small.odd full _ c.difference-odd.ensures)
+          ∙ told _ c.args.intervals.now _ c.args.n c.args.out.now c.requires.p_value c.requires.le_lock.0 _
+          c.measured-pace.ensures _ c.check.ensures c.in_ok-check.was _ _ c.read_slowed.ensures.answer
+          c.in_ok-field.was;
+      output = stored _ c.args.intervals.now _ c.args.n c.args.out.now c.requires.p_value c.requires.le_lock.0 _
+          c.measured-pace.ensures _ c.check.ensures c.in_ok-check.was _ c.read_slowed.ensures.output;
     }

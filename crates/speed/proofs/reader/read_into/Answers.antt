@@ -2,38 +2,39 @@
 -- is delivered, with the clearance that was told. Rests on no axiom.
 use Prim.Native.Nat.{ℕ, ◌≤◌}
 use mathlib.Core.Path.{◌≡◌, sym, ap, ◌∙◌}
+use mathlib.Core.Bool.{Bool}
+use mathlib.Core.List.{List}
 use native.Mathlib.Omega.{arith}
 use lib.ListN.{length, take}
 use lib.Seq.{length-take-le}
+use Rattle.std.specs.Prelude.{Result, Ok}
+use Rattle.std.proofs.Common.{rules}
 use Rattle.refusal.specs.Answer.{counted_answer}
-use Rattle.fields.specs.machine.Gather.{deliver_reading}
+use Rattle.refusal.specs.declared.Refusal.{Refusal}
+use Rattle.timing.specs.declared.Class.{Class}
+use Rattle.fields.specs.FieldRule.{field_answer}
+use Rattle.fields.specs.machine.Gather.{gather_rule, TellsSum, deliver_reading, checked_reading}
+use Rattle.fields.specs.declared.reader.Field.{Field}
 use Rattle.fields.proofs.RuleLaws.{gather_keeps, gather_reads, gather_delivers}
-use Rattle.speed.proofs.ReadLaws.{gather_refuses_cleared, delivered_cleared}
+use Rattle.speed.proofs.ReadLaws.{gather_refuses_cleared, refused_cleared, delivered_cleared}
 use Rattle.speed.proofs.reader.read_into.Goals as goal
 
-room
-    : (c : goal.In-Count)
-    → c.args.n ≤ length c.gather-gathered.new.out
-room c = omega (arith, c.requires.le_n.2, c.gather-gathered.auto.out)
-
-room_2
-    : (c : goal.After-with_clearance-in-Count)
-    → c.args.n ≤ length c.gather-gathered.new.out
-room_2 c = omega (arith, c.requires.le_n.2, c.gather-gathered.auto.out)
-
--- the buffer's front is as long as the field
-front
-    : (c : goal.In-Count)
-    → let n = c.args.n in
-    length (take n c.gather-gathered.new.out) ≡ n
-front c = length-take-le c.args.n _ (room c)
-
--- the buffer's front is as long as the field
-front_2
-    : (c : goal.After-with_clearance-in-Count)
-    → let n = c.args.n in
-    length (take n c.gather-gathered.new.out) ≡ n
-front_2 c = length-take-le c.args.n _ (room_2 c)
+-- what is delivered from the buffer's front is what was gathered
+delivered
+    : (cs : List Class) (n used room : ℕ) (holds : Bool) (buffer : List ℕ) (end : Result ℕ Refusal)
+    (read answer : Result Field Refusal)
+    → n ≤ length buffer
+    → counted_answer end ≡ gather_rule cs n
+    → end ≡ Ok used
+    → TellsSum cs n holds
+    → field_answer read ≡ deliver_reading (length (take n buffer)) used holds room
+    → read ≡ answer
+    → field_answer answer ≡ checked_reading cs n room
+delivered cs n used room holds buffer end read answer long ends is sum same reads =
+    sym (ap field_answer reads)
+    ∙ same
+    ∙ ap (λ (k : ℕ). deliver_reading k used holds room) (length-take-le n buffer long)
+    ∙ gather_reads cs n used holds (sym (ap counted_answer is) ∙ ends) sum room
 
 pub gather-gathered-requires : goal.gather-gathered-requires
 gather-gathered-requires c =
@@ -43,34 +44,46 @@ gather-gathered-requires c =
     record { p_value = accepts; le_n = (range.0, range.1); able = able }
 
 pub slice_bounds-deliver-end : goal.slice_bounds-deliver-end
-slice_bounds-deliver-end c = room c
+slice_bounds-deliver-end c = omega (arith, c.requires.le_n.2, c.gather-gathered.auto.out)
 
-pub slice_bounds-deliver-end-in-Count : goal.slice_bounds-deliver-end-in-Count
-slice_bounds-deliver-end-in-Count c = sym (front c)
+pub returns-in_err-used-clause-answer : goal.returns-in_err-used-clause-answer
+returns-in_err-used-clause-answer c =
+    let e = sym (ap counted_answer c.in_err-used.was) ∙ c.gather-gathered.ensures.answer in
+    let refuses = gather_refuses_cleared _ _ _ (length c.args.out.now) _ e in
+    search (rules, refuses)
 
-pub returns-in-Refused : goal.returns-in-Refused
-returns-in-Refused c =
-    let out = c.args.out.now in
-    let e = sym (ap counted_answer c.in-Refused.is) ∙ c.gather-gathered.ensures.answer in
+pub returns-in_err-used-clause-output : goal.returns-in_err-used-clause-output
+returns-in_err-used-clause-output c =
+    gather_keeps _ _ _ (sym (ap counted_answer c.in_err-used.was) ∙ c.gather-gathered.ensures.answer) _
+
+pub returns-in_err-read-clause-answer : goal.returns-in_err-read-clause-answer
+returns-in_err-read-clause-answer c =
+    let gathered = c.gather-gathered.ensures in
+    let long : c.args.n ≤ length c.gather-gathered.new.out =
+    omega (arith, c.requires.le_n.2, c.gather-gathered.auto.out) in
+    let read = delivered _ _ _ _ _ _ _ _ _ long gathered.answer c.in_ok-used.was gathered.sum c.deliver.ensures.answer
+    c.in_err-read.was in
+    let refuses = refused_cleared _ c.gather-gathered.result.clearance
+    ∙ delivered_cleared _ _ _ (length c.args.out.now) _ _ read gathered.least in
+    search (rules, refuses)
+
+pub returns-in_err-read-clause-output : goal.returns-in_err-read-clause-output
+returns-in_err-read-clause-output c =
+    let e = sym (ap counted_answer c.in_ok-used.was) ∙ c.gather-gathered.ensures.answer in
+    c.deliver.ensures.output
+    ∙ gather_delivers _ _ _ _ e c.gather-gathered.ensures.sum c.args.buffer.now _ c.args.out.now c.requires.le_n.2
+    c.gather-gathered.ensures.fill
+
+pub returns : goal.returns
+returns c =
+    let gathered = c.gather-gathered.ensures in
+    let long : c.args.n ≤ length c.gather-gathered.new.out =
+    omega (arith, c.requires.le_n.2, c.gather-gathered.auto.out) in
+    let read = delivered _ _ _ _ _ _ _ _ _ long gathered.answer c.in_ok-used.was gathered.sum c.deliver.ensures.answer
+    c.in_ok-read.was in
+    let e = sym (ap counted_answer c.in_ok-used.was) ∙ gathered.answer in
     record {
-      answer = c.with_clearance.ensures ∙ gather_refuses_cleared _ _ _ (length out) c.in-Refused.refusal e;
-      output = gather_keeps _ _ c.in-Refused.refusal e out;
-    }
-
-pub returns-in-Count : goal.returns-in-Count
-returns-in-Count c =
-    let out = c.args.out.now in
-    let answer = c.gather-gathered.ensures.answer in
-    let sum = c.gather-gathered.ensures.sum in
-    let least = c.gather-gathered.ensures.least in
-    let items = c.gather-gathered.ensures.fill in
-    let e = sym (ap counted_answer c.in-Count.is) ∙ answer in
-    let read = c.deliver-read.ensures.answer in
-    let stored = c.deliver-read.ensures.output in
-    record {
-      answer = c.with_clearance-in-Count.ensures
-          ∙ delivered_cleared _ _ _ (length out) _ _ (read
-          ∙ ap (λ (k : ℕ). deliver_reading k c.in-Count.used c.gather-gathered.result.holds (length out)) (front_2 c)
-          ∙ gather_reads _ _ _ _ e sum (length out)) least;
-      output = stored ∙ gather_delivers _ _ _ _ e sum c.args.buffer.now _ out c.requires.le_n.2 items;
+      answer = delivered_cleared _ _ _ (length c.args.out.now) _ _ read gathered.least;
+      output = c.deliver.ensures.output
+          ∙ gather_delivers _ _ _ _ e gathered.sum c.args.buffer.now _ c.args.out.now c.requires.le_n.2 gathered.fill;
     }

@@ -8,7 +8,7 @@ use Rattle.speed.proofs.reader.read_slowed.Goals as goal
 pub returns-then-n : goal.returns-then-n
 returns-then-n c =
     let refuses = count_refuses_cleared _ _ _ c.args.out.now c.requires.p_value c.if-n.true in
-    record { answer = c.with_clearance.ensures ∙ refuses.0; output = refuses.1 }
+    record { answer = refuses.0; output = refuses.1 }
 
 pub read_checked-requires : goal.read_checked-requires
 read_checked-requires c =

@@ -12,7 +12,7 @@ use Rattle.strip.proofs.OutputLaws.{cells_stored_next}
 use Rattle.strip.proofs.output.append_cells.Goals as goal
 
 pub loop-place-init : goal.loop-place-init
-loop-place-init c = (omega arith, refl, refl, refl)
+loop-place-init c = (refl, refl, refl)
 
 pub append_cell-end-requires : goal.append_cell-end-requires
 append_cell-end-requires c =
@@ -32,15 +32,14 @@ loop-place-preserved c =
     let next = ap (λ (r : Classed). r.next) c.step-classed.ensures in
     let long = cells_length_next l.cursor stream l.place c.loop-place-test.true in
     rw (next, add-one l.place) (
-      c.loop-place-test.true,
       cc,
       omega (arith, ap length cell),
       rw (call.out_after, cell)
-          (cells_stored_next _ _ _ c.loop-place-test.true l.out l.end _ (rw cell at call.value) ∙ l.invariant.3),
+          (cells_stored_next _ _ _ c.loop-place-test.true l.out l.end _ (rw cell at call.value) ∙ l.invariant.2),
     )
 
 pub shape_of-out : goal.shape_of-out
-shape_of-out c = c.loop-place.invariant.1
+shape_of-out c = c.loop-place.invariant.0
 
 pub returns : goal.returns
 returns c =
@@ -49,5 +48,5 @@ returns c =
     let none = no_cells_left c.loop-place.cursor stream c.loop-place.place c.loop-place-test.false in
     record {
       value = rw (← all) (omega (arith, ap length none));
-      out_after = rw (← all) (sym (stored_none _ _) ∙ rw none at c.loop-place.invariant.3);
+      out_after = rw (← all) (sym (stored_none _ _) ∙ rw none at c.loop-place.invariant.2);
     }

@@ -8,11 +8,7 @@ use Rattle.symbols.proofs.Reading.close.Goals as goal
 pub returns-then-gaps-eq0 : goal.returns-then-gaps-eq0
 unfolding misfits surplus word_of closed
 returns-then-gaps-eq0 c =
-    rw (
-      ← c.missing-gaps.ensures,
-      eq-eqb _ _ c.if-gaps-eq0.true,
-      c.wrapping_add_u32.ensures.value,
-    )
+    rw (← c.missing-gaps.ensures, eq-eqb _ _ c.if-gaps-eq0.true)
 
 pub returns-then-is_mark : goal.returns-then-is_mark
 unfolding misfits surplus word_of closed
@@ -21,7 +17,6 @@ returns-then-is_mark c =
       ← c.missing-gaps.ensures,
       ne_eqb _ _ c.if-gaps-eq0.false,
       sym c.is_mark.ensures ∙ c.if-is_mark.true,
-      c.wrapping_add_u32.ensures.value,
     )
 
 pub returns-then-self : goal.returns-then-self
@@ -32,7 +27,6 @@ returns-then-self c =
       ne_eqb _ _ c.if-gaps-eq0.false,
       sym c.is_mark.ensures ∙ c.if-is_mark.false,
       c.if-self.true,
-      c.wrapping_add_u32.ensures.value,
     )
 
 pub returns : goal.returns
@@ -45,5 +39,4 @@ returns c =
       c.if-self.false,
       ← c.cells_since.ensures,
       ← c.first_of_cells.ensures,
-      c.wrapping_add_u32.ensures.value,
     )

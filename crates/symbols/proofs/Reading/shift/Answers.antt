@@ -1,7 +1,8 @@
 -- Why `Reading::shift` gives `shifted`: both shift, set the lowest bit and count.
+use Rattle.std.proofs.Common.{refl}
 use Rattle.symbols.specs.machine.Step.{shifted}
 use Rattle.symbols.proofs.Reading.shift.Goals as goal
 
 pub returns : goal.returns
 unfolding shifted
-returns c = rw c.wrapping_add_u32.ensures.value
+returns c = refl

@@ -20,29 +20,28 @@ turn
     → digits_after n (get_or s i 0 ∷ drop (suc i) s) ≡ digits_read s
 turn n i s h e = rw (drop-cons s i 0 h) at e
 
-pub loop-i-init : goal.loop-i-init
-loop-i-init c = (omega arith, omega arith, digits_after_none _)
+pub loop-d-init : goal.loop-d-init
+loop-d-init c = (omega arith, digits_after_none _)
 
 pub returns-then-d-lt48 : goal.returns-then-d-lt48
-returns-then-d-lt48 c = sym (digits_below _ _ _ c.if-d-lt48.true) ∙ turn _ _ _ c.loop-i-test.true c.loop-i.invariant.2
+returns-then-d-lt48 c = sym (digits_below _ _ _ c.if-d-lt48.true) ∙ turn _ _ _ c.loop-d-test.true c.loop-d.invariant.1
 
 pub returns-then-d-gt57 : goal.returns-then-d-gt57
-returns-then-d-gt57 c = sym (digits_above _ _ _ c.if-d-gt57.true) ∙ turn _ _ _ c.loop-i-test.true c.loop-i.invariant.2
+returns-then-d-gt57 c = sym (digits_above _ _ _ c.if-d-gt57.true) ∙ turn _ _ _ c.loop-d-test.true c.loop-d.invariant.1
 
 pub returns-then-value-gt65535 : goal.returns-then-value-gt65535
 returns-then-value-gt65535 c =
     sym (digits_too_large _ _ c.if-value-gt65535.true)
     ∙ sym (digits_at_digit _ _ _ c.if-d-lt48.false c.if-d-gt57.false)
-    ∙ turn _ _ _ c.loop-i-test.true c.loop-i.invariant.2
+    ∙ turn _ _ _ c.loop-d-test.true c.loop-d.invariant.1
 
-pub loop-i-preserved : goal.loop-i-preserved
-loop-i-preserved c = (
-  omega arith,
+pub loop-d-preserved : goal.loop-d-preserved
+loop-d-preserved c = (
   c.if-value-gt65535.false,
   rw add-one
       (sym (digits_at_digit _ _ _ c.if-d-lt48.false c.if-d-gt57.false)
-      ∙ turn _ _ _ c.loop-i-test.true c.loop-i.invariant.2),
+      ∙ turn _ _ _ c.loop-d-test.true c.loop-d.invariant.1),
 )
 
 pub returns : goal.returns
-returns c = cc (drop_of_length-le _ c.loop-i-test.false, digits_at_the_end _ c.loop-i.invariant.1)
+returns c = cc (drop_of_length-le _ c.loop-d-test.false, digits_at_the_end _ c.loop-d.invariant.0)

@@ -8,12 +8,6 @@ pub overflow_add-result : goal.overflow_add-result
 unfolding swing
 overflow_add-result c = omega (arith, c)
 
-pub is_true_short-requires : goal.is_true_short-requires
-is_true_short-requires c = c.requires
-
-pub is_true_long-requires : goal.is_true_long-requires
-is_true_long-requires c = c.requires
-
 pub overflow_add-result-2 : goal.overflow_add-result-2
 unfolding swing
 overflow_add-result-2 c = omega (arith, c)

@@ -16,8 +16,8 @@ use Rattle.track.proofs.GatherLaws.{profile_refuses, nothing_gathered, gathered_
 use Rattle.track.proofs.GatherLaws.{gathered_entry, all_gathered, crowded}
 use Rattle.track.proofs.InsertionLaws.{slides, stays, stays_in_front}
 use Rattle.track.proofs.index.index_track.Goals.{else-slide-test, then-slide-test+else-goes_before}
-use Rattle.track.proofs.index.index_track.Goals.{in-Refused, in-Accepted+in-End}
-use Rattle.track.proofs.index.index_track.Goals.{in-Accepted+in-Begins+then-count-eq32}
+use Rattle.track.proofs.index.index_track.Goals.{in-Err, in-Ok+in-End}
+use Rattle.track.proofs.index.index_track.Goals.{in-Ok+in-Begins+then-count-eq32}
 use Rattle.track.proofs.index.index_track.Goals as goal
 
 -- a search that adds nothing
@@ -44,7 +44,7 @@ room c =
 
 slid
     : (c : goal.Left-slide)
-    → let new = c.converted-new.result in
+    → let new = c.from-new.result in
     let turn = c.search in
     set c.slide.entries c.slide.at new ≡ slid_in turn.entries turn.count new
 slid c =
@@ -57,23 +57,23 @@ slid c =
 
 -- how the search ended: the profile is refused, no lock is left, or a 33rd entry begins
 ended
-    : (c : goal.After-count)
+    : (c : goal.After-from-told)
     → let args = c.args in
     (counted_answer c.match-check.found ≡ index_rule args.p args.intervals.now)
     × (c.match-check.entries ≡ map index_entry_of (index_entries args.p args.intervals.now))
 ended c =
     elim c.match-check.branch [
-      | in-Refused w ↦
-          let index = profile_refuses _ _ _ _ c.check.ensures w.in-Refused.is in
+      | in-Err w ↦
+          let index = profile_refuses _ _ _ _ c.check.ensures w.in-Err.is in
           (ap counted_answer w.found-is ∙ index.0, w.entries-is ∙ ap (map index_entry_of) index.1)
-      | in-Accepted+in-End w ↦
+      | in-Ok+in-End w ↦
           let so_far = w.search.invariant in
           let none = end_means _ _ _ (sym w.in-End.is ∙ w.find_entry.ensures) in
           let index = all_gathered so_far.gathered so_far.fair none in (
             ap counted_answer w.found-is ∙ index.0,
             w.entries-is ∙ so_far.handed ∙ ap (map index_entry_of) index.1,
           )
-      | in-Accepted+in-Begins+then-count-eq32 w ↦
+      | in-Ok+in-Begins+then-count-eq32 w ↦
           let so_far = w.search.invariant in
           let begun = begins_means _ _ _ _ _ (sym w.in-Begins.is ∙ w.find_entry.ensures) in
           let index = crowded so_far.gathered so_far.fair w.if-count-eq32.true begun in
@@ -83,7 +83,7 @@ ended c =
 pub search-init : goal.search-init
 search-init c =
     record {
-      fair = verdict_accepts _ _ c.check.ensures c.in-Accepted.is;
+      fair = verdict_accepts _ _ c.check.ensures c.in-Ok.is;
       found = replicate 32 _;
       gathered = nothing_gathered _ _;
       handed = refl;
@@ -138,10 +138,11 @@ search-preserved c =
       gathered = gathered_entry so_far.gathered free begun;
       handed =
           slid c
-          ∙ rw (so_far.handed, c.converted-new.ensures) (entry_slides_in so_far.gathered free begun);
+          ∙ rw (so_far.handed, c.from-new.ensures) (entry_slides_in so_far.gathered free begun);
     }
 
 pub returns : goal.returns
 returns c =
     let ended_so = ended c in
-    rw (c.count.ensures, c.place.ensures, c.number.ensures, ended_so.0, ended_so.1)
+    let told = c.from-told.ensures in
+    rw (told.2, told.1, told.0, ended_so.0, ended_so.1)

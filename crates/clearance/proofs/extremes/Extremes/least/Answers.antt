@@ -7,4 +7,4 @@ pub returns : goal.returns
 unfolding least_met
 returns c =
     let ends = rw (c.turned-2.ensures, c.turned.ensures) at c.room-outer.ensures in
-    c.lesser.ensures ∙ ap₂ min ends c.room.ensures
+    c.min.ensures ∙ ap₂ min ends c.room.ensures

@@ -18,42 +18,42 @@ pub loop-from-init : goal.loop-from-init
 loop-from-init c = (omega arith, c.requires, refl)
 
 pub overflow_add-from : goal.overflow_add-from
-overflow_add-from c = record { fits = omega (arith, c.at_most-n.ensures, c.well_formed) }
+overflow_add-from c = record { fits = omega (arith, c.min-n.ensures, c.well_formed) }
 
 pub slice_bounds-block-end : goal.slice_bounds-block-end
-slice_bounds-block-end c = omega (arith, c.at_most-n.ensures, c.loop-from.invariant.0)
+slice_bounds-block-end c = omega (arith, c.min-n.ensures, c.loop-from.invariant.0)
 
 pub block-seen-requires : goal.block-seen-requires
 block-seen-requires c =
     let ds = c.args.intervals.now in
     let from = c.loop-from.from in
-    let n = c.at_most-n.result in
+    let n = c.min-n.result in
     let left = length-drop from ds in
     let count : length (take (from + n - from) (drop from ds)) ≡ n =
-    length-take-le (from + n - from) (drop from ds) (omega (arith, left, c.at_most-n.ensures)) ∙ omega arith in
+    length-take-le (from + n - from) (drop from ds) (omega (arith, left, c.min-n.ensures)) ∙ omega arith in
     record {
       ascending = c.loop-from.invariant.1;
       in_bounds = (
-        rw count (omega (arith, c.at_most-n.ensures, c.loop-from-test.true)),
-        rw count (omega (arith, c.at_most-n.ensures)),
+        rw count (omega (arith, c.min-n.ensures, c.loop-from-test.true)),
+        rw count (omega (arith, c.min-n.ensures)),
       );
     }
 
 pub overflow_add-from-in-loop-from : goal.overflow_add-from-in-loop-from
-overflow_add-from-in-loop-from c = record { fits = omega (arith, c.at_most-n.ensures, c.well_formed) }
+overflow_add-from-in-loop-from c = record { fits = omega (arith, c.min-n.ensures, c.well_formed) }
 
 pub loop-from-smaller : goal.loop-from-smaller
-loop-from-smaller c = omega (arith, c.at_most-n.ensures, c.loop-from-test.true)
+loop-from-smaller c = omega (arith, c.min-n.ensures, c.loop-from-test.true)
 
 pub loop-from-preserved : goal.loop-from-preserved
 loop-from-preserved c =
     let ds = c.args.intervals.now in
     let from = c.loop-from.from in
-    let n = c.at_most-n.result in
+    let n = c.min-n.result in
     let count : from + n - from ≡ n = omega arith in
     let here = rw count at c.block-seen.ensures in
     rw (here) (
-      omega (arith, c.at_most-n.ensures, c.loop-from.invariant.0),
+      omega (arith, c.min-n.ensures, c.loop-from.invariant.0),
       rw (cursor_seen c.loop-from.seen (take n (drop from ds))) (ascending_after _ c.loop-from.invariant.1),
       in_parts c.loop-from.seen ds from n ∙ c.loop-from.invariant.2,
     )

@@ -1,6 +1,6 @@
 -- Why `Progress::pass_on` reaches the end of its part and stores its words: what is left to read and to store stays the
 -- same from block to block. Rests on no axiom.
-use Rattle.std.proofs.Common.{◌≡◌, ◌≤◌, min, ℕ, ◌+◌, ◌-◌, ◌<◌, List, length, take, drop, sym, refl, ap, ◌∙◌, arith, length-drop, drop_of_length-le, length-take, length-take-le, take-add, drop_at}
+use Rattle.std.proofs.Common.{◌≡◌, ◌≤◌, min, ℕ, ◌+◌, ◌-◌, ◌<◌, List, length, take, drop, sym, ap, ◌∙◌, arith, length-drop, drop_of_length-le, length-take, length-take-le, take-add, drop_at}
 use Rattle.lists.proofs.StoreLaws.{stored_none, stored_next, stored_length}
 use Rattle.timing.proofs.ClassLaws.{cursor_after_none}
 use Rattle.passes.specs.machine.Blocks.{rest_from, words_of}
@@ -26,38 +26,11 @@ up_to_lem ds from count cut within cuts =
           ∙ take_taken count (drop from ds),
     )
 
-pub overflow_add-end : goal.overflow_add-end
-overflow_add-end c = record { fits = omega (arith, c.at_most.ensures, c.requires.0, c.well_formed) }
-
-pub loop-done-init : goal.loop-done-init
-loop-done-init c =
-    let words = c.args.self.pass.reading.words in
-    let none : words - words ≡ 0 = omega arith in
-    let long = (up_to_lem c.args.intervals.now c.args.self.pass.used c.args.count c.at_most.result c.requires.0 c.at_most.ensures).0 in
-    (record { within = omega arith; room = c.requires.1 }, omega arith, refl, refl, rw none refl, λ _. refl)
-
-pub overflow_sub-done : goal.overflow_sub-done
-overflow_sub-done c = omega (arith, c.loop-done.invariant.1)
-
-pub slice_bounds-next_block-end : goal.slice_bounds-next_block-end
-slice_bounds-next_block-end c =
-    sym
-    (up_to_lem c.args.intervals.now c.args.self.pass.used c.args.count c.at_most.result c.requires.0 c.at_most.ensures).0
-
-pub next_block-at-requires : goal.next_block-at-requires
-next_block-at-requires c =
-    let cut = up_to_lem c.args.intervals.now c.args.self.pass.used c.args.count c.at_most.result c.requires.0 c.at_most.ensures in
-    let (left, wanted) =
-    rest_wants _ (up_to c.args.intervals.now c.args.self.pass.used c.at_most.result) c.loop-done.at
-    (rw cut.0 (sym c.goes_on.ensures ∙ c.loop-done-test.true)) in
-    let fair = c.loop-done.invariant.0 in
-    record { used_in_bounds = (fair.within, fair.room); words_lt_most = (wanted, omega (arith, c.ranges.most.fits)) }
-
 pub loop-done-smaller : goal.loop-done-smaller
 loop-done-smaller c =
-    let cut = up_to_lem c.args.intervals.now c.args.self.pass.used c.args.count c.at_most.result c.requires.0 c.at_most.ensures in
+    let cut = up_to_lem c.args.intervals.now c.args.self.pass.used c.args.count c.min.result c.requires.0 c.min.ensures in
     let (left, wanted) =
-    rest_wants _ (up_to c.args.intervals.now c.args.self.pass.used c.at_most.result) c.loop-done.at
+    rest_wants _ (up_to c.args.intervals.now c.args.self.pass.used c.min.result) c.loop-done.at
     (rw cut.0 (sym c.goes_on.ensures ∙ c.loop-done-test.true)) in
     let some : 0 < 128 = omega arith in
     rw cut.0 at
@@ -86,9 +59,9 @@ pub returns : goal.returns
 unfolding words_of rest_from
 returns c =
     let at = c.loop-done.at in
-    let part = up_to c.args.intervals.now c.args.self.pass.used c.at_most.result in
+    let part = up_to c.args.intervals.now c.args.self.pass.used c.min.result in
     let (long, same) =
-    up_to_lem c.args.intervals.now c.args.self.pass.used c.args.count c.at_most.result c.requires.0 c.at_most.ensures in
+    up_to_lem c.args.intervals.now c.args.self.pass.used c.args.count c.min.result c.requires.0 c.min.ensures in
     let left = rw (← long) at (sym c.goes_on.ensures ∙ c.loop-done-test.false) in
     let stops = rest_stops _ part at left in
     let (fair, low, kept, end, stored, cursor) = c.loop-done.invariant in

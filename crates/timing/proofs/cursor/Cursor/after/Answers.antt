@@ -2,6 +2,10 @@
 use Rattle.timing.specs.Class.{cursor_of}
 use Rattle.timing.proofs.cursor.Cursor.after.Goals as goal
 
-pub returns : goal.returns
+pub returns-then-two : goal.returns-then-two
 unfolding cursor_of
-returns c = rw c.chosen.ensures
+returns-then-two c = rw c.if-two.true
+
+pub returns-else-two : goal.returns-else-two
+unfolding cursor_of
+returns-else-two c = rw c.if-two.false

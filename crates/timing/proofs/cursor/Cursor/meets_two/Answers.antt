@@ -4,4 +4,4 @@ use Rattle.timing.proofs.EdgeLaws.{two_by_difference}
 use Rattle.timing.proofs.cursor.Cursor.meets_two.Goals as goal
 
 pub returns : goal.returns
-returns c = two_by_difference _ _ _ c.requires c.wrapping_sub_u16.ensures.value (omega arith) (omega arith)
+returns c = two_by_difference _ _ _ c.requires (omega arith) (omega arith) (omega arith)

@@ -1,5 +1,0 @@
--- A refusal has its own place, and a count 0. Rests on no axiom.
-use Rattle.refusal.proofs.Counted.place.Goals as goal
-
-pub returns-in-Refused : goal.returns-in-Refused
-returns-in-Refused c = rw c.in-Refused.is c.place.ensures
