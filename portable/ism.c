@@ -132,6 +132,15 @@ struct slice_u16_mut {
     uint64_t len;
 };
 
+/* core::option::Option<u64>, of the kit's library */
+enum { Option_u64_None, Option_u64_Some };
+struct Option_u64 {
+    uint8_t tag;
+    union {
+        uint64_t Some;
+    } u;
+};
+
 struct slice_u16 {
     const uint16_t *at;
     uint64_t len;
@@ -307,15 +316,6 @@ struct fifo_steps_Fault {
     uint8_t tag;
 };
 
-/* core::option::Option<Fault>, of the kit's library */
-enum { Option_Fault_None, Option_Fault_Some };
-struct Option_Fault {
-    uint8_t tag;
-    union {
-        struct fifo_steps_Fault Some;
-    } u;
-};
-
 /* symbols::Reading, crates/symbols/src/lib.rt */
 struct symbols_Reading {
     uint32_t bits;
@@ -337,15 +337,6 @@ struct images_count_Tally {
 
 struct array_u16_128 {
     uint16_t a[128];
-};
-
-/* core::option::Option<u64>, of the kit's library */
-enum { Option_u64_None, Option_u64_Some };
-struct Option_u64 {
-    uint8_t tag;
-    union {
-        uint64_t Some;
-    } u;
 };
 
 struct array_u16_10 {
@@ -1019,6 +1010,12 @@ static void core_slice_edits_slice_T_fill_u16(struct slice_u16_mut p1, uint16_t 
         t5++;
     }
     p1.at[t4 - 1] = p2;
+}
+
+/* core::option::Option::unwrap_or<u64>, of the kit's library */
+static uint64_t core_option_Option_unwrap_or_u64(struct Option_u64 p1, uint64_t p2) {
+    if (p1.tag == Option_u64_Some) return p1.u.Some;
+    return p2;
 }
 
 /* core::convert::others::U8FromBool::from, of the kit's library */
@@ -1777,6 +1774,15 @@ static ism_fifo fifo_Fifo_new(uint16_t mode) {
     return (ism_fifo){.mode = mode, .held = 0, .first = 0, .second = 0, .error = 0};
 }
 
+/* fifo::steps::U16FromFault::from, crates/fifo/src/steps.rt */
+static uint16_t fifo_steps_U16FromFault_from(struct fifo_steps_Fault fault) {
+    switch (fault.tag) {
+    case fifo_steps_Fault_Chip: return 1;
+    case fifo_steps_Fault_Mark: return 2;
+    default: return 4; /* fifo_steps_Fault_Processor */
+    }
+}
+
 /* fifo::steps::with_items, crates/fifo/src/steps.rt */
 static ism_fifo fifo_steps_with_items(ism_fifo fifo, uint16_t held, uint16_t first, uint16_t second) {
     return (ism_fifo){.mode = fifo.mode, .held = held, .first = first, .second = second, .error = fifo.error};
@@ -1787,31 +1793,15 @@ static ism_fifo_answer fifo_steps_given(uint16_t item, ism_fifo next) {
     return (ism_fifo_answer){.number = 0, .place = 0, .item = item, .next = next};
 }
 
-/* fifo::steps::U16FromFault::from, crates/fifo/src/steps.rt */
-static uint16_t fifo_steps_U16FromFault_from(struct fifo_steps_Fault fault) {
-    switch (fault.tag) {
-    case fifo_steps_Fault_Chip: return 1;
-    case fifo_steps_Fault_Mark: return 2;
-    default: return 4; /* fifo_steps_Fault_Processor */
-    }
-}
-
-/* fifo::steps::bit_if_any, crates/fifo/src/steps.rt: No fault sets no bit. */
-static uint16_t fifo_steps_bit_if_any(struct Option_Fault fault) {
-    if (fault.tag == Option_Fault_Some) return fifo_steps_U16FromFault_from(fault.u.Some);
-    return 0;
-}
-
-/* fifo::steps::with_fault, crates/fifo/src/steps.rt: A bit is set only while none is. */
-static ism_fifo fifo_steps_with_fault(ism_fifo fifo, struct Option_Fault fault) {
-    uint16_t bit = fifo_steps_bit_if_any(fault);
-    uint16_t t12;
+/* fifo::steps::with_fault, crates/fifo/src/steps.rt: A bit is set only while none is; a bit of 0 is no fault. */
+static ism_fifo fifo_steps_with_fault(ism_fifo fifo, uint16_t bit) {
+    uint16_t t10;
     if (fifo.error == 0) {
-        t12 = bit;
+        t10 = bit;
     } else {
-        t12 = fifo.error;
+        t10 = fifo.error;
     }
-    return (ism_fifo){.mode = fifo.mode, .held = fifo.held, .first = fifo.first, .second = fifo.second, .error = t12};
+    return (ism_fifo){.mode = fifo.mode, .held = fifo.held, .first = fifo.first, .second = fifo.second, .error = t10};
 }
 
 /* fifo::steps::not_an_item, crates/fifo/src/steps.rt */
@@ -1821,13 +1811,17 @@ static ism_fifo_answer fifo_steps_not_an_item(ism_fifo next) {
     return (ism_fifo_answer){.number = t3, .place = refusal_Refusal_place(why), .item = 0, .next = next};
 }
 
-/* fifo::steps::append, crates/fifo/src/steps.rt: An item comes last; where there is no room, that is the fault. */
-static ism_fifo_answer fifo_steps_append(ism_fifo fifo, uint16_t item, struct fifo_steps_Fault fault) {
+/*
+ * fifo::steps::append, crates/fifo/src/steps.rt
+ * An item comes last; where there is no room, `fault` is the bit. Here and in `shift` the bit is handed over and not
+ * the `Fault`: with `Option<Fault>` for the mark's, `ism_fifo_take_data` in C took 1,638 bytes of code for 176 on a
+ * Cortex-M4, and 136 of stack for 80.
+ */
+static ism_fifo_answer fifo_steps_append(ism_fifo fifo, uint16_t item, uint16_t fault) {
     if (items_is_item(item)) {
         if (fifo.held == 0) return fifo_steps_given(0, fifo_steps_with_items(fifo, 1, item, 0));
         if (fifo.held == 1) return fifo_steps_given(0, fifo_steps_with_items(fifo, 2, fifo.first, item));
-        ism_fifo t12 = fifo_steps_with_fault(fifo, (struct Option_Fault){.tag = Option_Fault_Some, .u.Some = fault});
-        return fifo_steps_given(0, t12);
+        return fifo_steps_given(0, fifo_steps_with_fault(fifo, fault));
     }
     return fifo_steps_not_an_item(fifo);
 }
@@ -1835,7 +1829,8 @@ static ism_fifo_answer fifo_steps_append(ism_fifo fifo, uint16_t item, struct fi
 /* fifo::Fifo::put, crates/fifo/src/lib.rt: The processor puts an item. */
 static ism_fifo_answer fifo_Fifo_put(ism_fifo self, uint16_t item) {
     if (self.mode == 0) {
-        return fifo_steps_append(self, item, (struct fifo_steps_Fault){.tag = fifo_steps_Fault_Processor});
+        uint16_t t5 = fifo_steps_U16FromFault_from((struct fifo_steps_Fault){.tag = fifo_steps_Fault_Processor});
+        return fifo_steps_append(self, item, t5);
     }
     return fifo_steps_given(0, self);
 }
@@ -1843,7 +1838,8 @@ static ism_fifo_answer fifo_Fifo_put(ism_fifo self, uint16_t item) {
 /* fifo::Fifo::chip_put, crates/fifo/src/lib.rt: The chip puts an item. */
 static ism_fifo_answer fifo_Fifo_chip_put(ism_fifo self, uint16_t item) {
     if (self.mode == 0) return fifo_steps_given(0, self);
-    return fifo_steps_append(self, item, (struct fifo_steps_Fault){.tag = fifo_steps_Fault_Chip});
+    uint16_t t5 = fifo_steps_U16FromFault_from((struct fifo_steps_Fault){.tag = fifo_steps_Fault_Chip});
+    return fifo_steps_append(self, item, t5);
 }
 
 /* fifo::steps::without_first, crates/fifo/src/steps.rt: The first item leaves. */
@@ -1854,13 +1850,10 @@ static ism_fifo fifo_steps_without_first(ism_fifo fifo) {
 
 /*
  * fifo::steps::shift, crates/fifo/src/steps.rt
- * The first item leaves; where there is none, that is the fault; where it is a mark, `mark` is.
+ * The first item leaves; where there is none, `fault` is the bit; where it is a mark, `mark`.
  */
-static ism_fifo_answer fifo_steps_shift(ism_fifo fifo, struct fifo_steps_Fault fault, struct Option_Fault mark) {
-    if (fifo.held == 0) {
-        ism_fifo t6 = fifo_steps_with_fault(fifo, (struct Option_Fault){.tag = Option_Fault_Some, .u.Some = fault});
-        return fifo_steps_given(0, t6);
-    }
+static ism_fifo_answer fifo_steps_shift(ism_fifo fifo, uint16_t fault, uint16_t mark) {
+    if (fifo.held == 0) return fifo_steps_given(0, fifo_steps_with_fault(fifo, fault));
     if (items_is_mark(fifo.first)) {
         return fifo_steps_given(fifo.first, fifo_steps_with_fault(fifo_steps_without_first(fifo), mark));
     }
@@ -1873,22 +1866,23 @@ static ism_fifo_answer fifo_steps_shift(ism_fifo fifo, struct fifo_steps_Fault f
  */
 static ism_fifo_answer fifo_Fifo_take_data(ism_fifo self) {
     if (self.mode == 0) return fifo_steps_given(0, self);
-    struct Option_Fault t6 = {.tag = Option_Fault_Some, .u.Some = {.tag = fifo_steps_Fault_Mark}};
-    return fifo_steps_shift(self, (struct fifo_steps_Fault){.tag = fifo_steps_Fault_Processor}, t6);
+    uint16_t t4 = fifo_steps_U16FromFault_from((struct fifo_steps_Fault){.tag = fifo_steps_Fault_Processor});
+    uint16_t t6 = fifo_steps_U16FromFault_from((struct fifo_steps_Fault){.tag = fifo_steps_Fault_Mark});
+    return fifo_steps_shift(self, t4, t6);
 }
 
 /* fifo::Fifo::take_mark, crates/fifo/src/lib.rt: The processor takes an item at the mark location. */
 static ism_fifo_answer fifo_Fifo_take_mark(ism_fifo self) {
     if (self.mode == 0) return fifo_steps_given(0, self);
-    struct Option_Fault t5 = {.tag = Option_Fault_None};
-    return fifo_steps_shift(self, (struct fifo_steps_Fault){.tag = fifo_steps_Fault_Processor}, t5);
+    uint16_t t4 = fifo_steps_U16FromFault_from((struct fifo_steps_Fault){.tag = fifo_steps_Fault_Processor});
+    return fifo_steps_shift(self, t4, 0);
 }
 
 /* fifo::Fifo::chip_take, crates/fifo/src/lib.rt: The chip takes an item. */
 static ism_fifo_answer fifo_Fifo_chip_take(ism_fifo self) {
     if (self.mode == 0) {
-        struct Option_Fault t5 = {.tag = Option_Fault_None};
-        return fifo_steps_shift(self, (struct fifo_steps_Fault){.tag = fifo_steps_Fault_Chip}, t5);
+        uint16_t t4 = fifo_steps_U16FromFault_from((struct fifo_steps_Fault){.tag = fifo_steps_Fault_Chip});
+        return fifo_steps_shift(self, t4, 0);
     }
     return fifo_steps_given(0, self);
 }
@@ -2066,12 +2060,17 @@ static uint16_t words_spread_word(uint16_t previous, uint16_t byte) {
  * words::made_word, crates/words/src/lib.rt
  * The same without the table, which is slow to copy where few words are asked for and large where all are. A mark's
  * word is chosen after the other is made: with no jump, so that the words of many bytes are made in vector
- * instructions.
+ * instructions; and in two steps, as one `if` of three ends makes each C compiler slower, on marks or on few bytes.
  */
 static uint16_t words_made_word(uint16_t previous, uint16_t w) {
-    uint16_t word = words_spread_word(previous % 2, w % 256);
+    uint16_t data = words_spread_word(previous % 2, w % 256);
+    uint16_t word;
+    if (w == 450) {
+        word = 21028;
+    } else {
+        word = data;
+    }
     if (w == 417) return 17545;
-    if (w == 450) return 21028;
     return word;
 }
 
@@ -2325,12 +2324,9 @@ static struct Result_unit_Refusal images_read_check_words(struct slice_u16 words
         return (struct Result_unit_Refusal){.tag = Result_unit_Refusal_Err, .u.Err = {.tag = refusal_Refusal_TooLong}};
     }
     if (images_read_all_ruly(words)) return (struct Result_unit_Refusal){.tag = Result_unit_Refusal_Ok};
-    struct Option_u64 t7 = images_read_find_unruly(words);
-    if (t7.tag == Option_u64_Some) {
-        return (struct Result_unit_Refusal){.tag = Result_unit_Refusal_Err,
-                .u.Err = {.tag = refusal_Refusal_UnrulyWord, .u.UnrulyWord = (uint32_t)t7.u.Some}};
-    }
-    return (struct Result_unit_Refusal){.tag = Result_unit_Refusal_Ok};
+    uint64_t k = core_option_Option_unwrap_or_u64(images_read_find_unruly(words), words.len);
+    return (struct Result_unit_Refusal){.tag = Result_unit_Refusal_Err,
+            .u.Err = {.tag = refusal_Refusal_UnrulyWord, .u.UnrulyWord = (uint32_t)k}};
 }
 
 /*
@@ -2428,12 +2424,9 @@ static struct Result_u64_Refusal lengths_margin(struct timing_Profile p) {
 
 /* lengths::table::point, crates/lengths/src/table.rt: The compare point of a transition between two symbols. */
 static struct timing_Clocks lengths_table_point(struct timing_Profile p, bool before, bool after) {
-    if (before) {
-        if (after) return p.normal;
-        return p.early;
-    }
-    if (after) return p.late;
-    return p.normal;
+    if (before == after) return p.normal;
+    if (before) return p.early;
+    return p.late;
 }
 
 /*
@@ -5588,11 +5581,11 @@ static struct timing_Profile best_trial_trial(struct best_Writing w) {
 
 /* best::trial::lowest_unset, crates/best/src/trial.rt: Which of the five is the first out of range, from 1. */
 static struct Option_u32 best_trial_lowest_unset(struct best_Writing w) {
-    struct Result_unit_Refusal t4 = timing_rule_check(best_trial_trial(w));
-    if (t4.tag == Result_unit_Refusal_Ok) return (struct Option_u32){.tag = Option_u32_None};
-    struct refusal_Refusal refusal = t4.u.Err;
-    if (refusal.tag == refusal_Refusal_ProfileOutOfRange) {
-        return (struct Option_u32){.tag = Option_u32_Some, .u.Some = refusal.u.ProfileOutOfRange};
+    struct Result_unit_Refusal t3 = timing_rule_check(best_trial_trial(w));
+    if (t3.tag == Result_unit_Refusal_Ok) return (struct Option_u32){.tag = Option_u32_None};
+    struct refusal_Refusal refusal = t3.u.Err;
+    if (refusal_Refusal_number(refusal) == 1) {
+        return (struct Option_u32){.tag = Option_u32_Some, .u.Some = refusal_Refusal_place(refusal)};
     }
     return (struct Option_u32){.tag = Option_u32_None};
 }

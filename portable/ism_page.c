@@ -55,11 +55,6 @@ struct slice_u8_mut {
     uint64_t len;
 };
 
-struct slice_u8 {
-    const uint8_t *at;
-    uint64_t len;
-};
-
 /* refusal::Refusal, crates/refusal/src/lib.rt */
 enum { refusal_Refusal_ProfileOutOfRange, refusal_Refusal_ProfileInconsistent, refusal_Refusal_NotAnItem,
         refusal_Refusal_TooLong, refusal_Refusal_IntervalTooShort, refusal_Refusal_IntervalTooLong,
@@ -115,6 +110,11 @@ struct refusal_Told {
     uint32_t number;
     uint32_t place;
     uint64_t count;
+};
+
+struct slice_u8 {
+    const uint8_t *at;
+    uint64_t len;
 };
 
 /* sets::span::Span, crates/sets/src/span.rt */
@@ -210,21 +210,6 @@ static void core_slice_edits_slice_T_fill_u8(struct slice_u8_mut p1, uint8_t p2)
         t5++;
     }
     p1.at[t4 - 1] = p2;
-}
-
-/* The crate lists */
-
-/* lists::store<u8>, crates/lists/src/lib.rt: Values from a place on, as many as there is room for. */
-static void lists_store_u8(struct slice_u8 values, uint64_t at, struct slice_u8_mut out) {
-    if (out.len <= at) return;
-    uint64_t count = core_int_usize_min(values.len, out.len - at);
-    struct slice_u8 value_items = slice_u8(values.at, count);
-    uint64_t k = 0;
-    uint64_t t14 = value_items.len;
-    while (k < t14) {
-        out.at[at + k] = value_items.at[k];
-        k++;
-    }
 }
 
 /* The crate refusal */
@@ -500,6 +485,20 @@ static struct Option_u64 page_search_lowest_soiled(struct slice_u8 set, const st
     return (struct Option_u64){.tag = Option_u64_None};
 }
 
+/*
+ * page::copying::copy, crates/page/src/copying.rt
+ * Bytes from a place on. Not `lists::store`: that all have room the compiler knows here, and copies a page in half the
+ * instructions, 143 for 288 a page made.
+ */
+static void page_copying_copy(struct slice_u8 bytes, uint64_t at, struct slice_u8_mut out) {
+    uint64_t k = 0;
+    uint64_t t6 = bytes.len;
+    while (k < t6) {
+        out.at[at + k] = bytes.at[k];
+        k++;
+    }
+}
+
 /* page::dots::halves, crates/page/src/dots.rt: Ones of pairs of bits, then of four. */
 static uint8_t page_dots_halves(uint8_t cell) {
     uint8_t pairs = cell - ((cell >> 1) & 0x55);
@@ -574,7 +573,7 @@ static void page_reading_put_pages(struct slice_u8 set, const struct array_u16_2
     while (k < pages) {
         uint64_t start = (uint64_t)index->a[k + 1] + 2;
         uint64_t end = start + 1000;
-        lists_store_u8(slice_u8(set.at + start, end - start), 1000 * k, cells);
+        page_copying_copy(slice_u8(set.at + start, end - start), 1000 * k, cells);
         dots->a[k] = page_dots_count_dots(slice_u8(set.at + start, end - start));
         k++;
     }
@@ -646,7 +645,7 @@ static void page_making_put_sector(uint8_t number, struct slice_u8 page, struct 
     set.at[start] = number;
     set.at[start + 1] = 3;
     set.at[start + 2] = 1;
-    lists_store_u8(page, start + 3, set);
+    page_copying_copy(page, start + 3, set);
     uint64_t behind = start + 1003;
     uint64_t end = behind + 24;
     core_slice_edits_slice_T_fill_u8(slice_u8_mut(set.at + behind, end - behind), 0);

@@ -5,6 +5,7 @@ ghost use Rattle.std.specs.Prelude.{◌≡◌};
 ghost use Rattle.refusal.specs.Table.{number_of, place_of};
 ghost use Rattle.refusal.specs.Answer.{refused, counted_answer};
 ghost use Rattle.merge.specs.Rule.{merged_answer};
+ghost use Rattle.fields.specs.FieldRule.{field_answer};
 ghost use Rattle.clearance.specs.Answers.{clear_answer, clear_field_answer};
 ghost use Rattle.answers.specs.Answers.{profile_of, answer_of, clear_answer_of, clear_field_answer_of, given_merge};
 
@@ -137,6 +138,45 @@ impl From<Result<Clear<Field>, Refusal>> for IsmAnswer {
             },
             Err(refusal) => IsmAnswer::refused(refusal),
         }
+    }
+}
+
+// A class or a strip, or its refusal, each with the clearance that stands beside it.
+pub fn clear_answer(given: Clear<Result<usize, Refusal>>) -> IsmAnswer
+    ensures { result ≡ clear_answer_of (record { answer = counted_answer given.read; clearance = given.clearance }) }
+{
+    let told = IsmAnswer::from(given.read);
+    IsmAnswer {
+        clearance: u32::from(given.clearance),
+        ..told
+    }
+}
+
+// A field, or its refusal, the same.
+pub fn field_answer(field: Clear<Result<Field, Refusal>>) -> IsmAnswer
+    ensures { result
+        ≡ clear_field_answer_of (record { reading = field_answer field.read; clearance = field.clearance }) }
+{
+    let beside = IsmAnswer {
+        number: 0,
+        place: 0,
+        count: 0,
+        used: 0,
+        holds: 0,
+        clearance: u32::from(field.clearance),
+    };
+    match field.read {
+        Ok(Field { count, used, holds }) => IsmAnswer {
+            count: count as u64,
+            used: used as u64,
+            holds: u32::from(holds),
+            ..beside
+        },
+        Err(refusal) => IsmAnswer {
+            number: refusal.number(),
+            place: refusal.place(),
+            ..beside
+        },
     }
 }
 

@@ -1,9 +1,11 @@
 // A field that is read by the speed of the drive.
 ghost use Rattle.std.specs.Prelude.{◌≡◌};
+ghost use Rattle.fields.specs.FieldRule.{field_answer};
 ghost use Rattle.speed.specs.Reading.{corrected_answer};
 ghost use Rattle.answers.specs.Slow.{corrected_answer_of};
 
 use clearance::Clear;
+use fields::reader::Field;
 use refusal::Refusal;
 use speed::reader::Corrected;
 
@@ -57,5 +59,46 @@ impl From<Result<Corrected, Refusal>> for IsmCorrected {
                 odd: 0,
             },
         }
+    }
+}
+
+// A field or its refusal, with what stands beside either: the clearance, the lock's place and the two differences.
+pub fn corrected_answer(
+    field: Clear<Result<Field, Refusal>>,
+    place: usize,
+    even: i32,
+    odd: i32,
+) -> IsmCorrected
+    ensures { result
+        ≡ corrected_answer_of (record {
+          field = record { reading = field_answer field.read; clearance = field.clearance };
+          lock = place;
+          even = even;
+          odd = odd;
+        }) }
+{
+    let beside = IsmCorrected {
+        number: 0,
+        place: 0,
+        lock: place as u64,
+        count: 0,
+        used: 0,
+        holds: 0,
+        clearance: u32::from(field.clearance),
+        even,
+        odd,
+    };
+    match field.read {
+        Ok(Field { count, used, holds }) => IsmCorrected {
+            count: count as u64,
+            used: used as u64,
+            holds: u32::from(holds),
+            ..beside
+        },
+        Err(refusal) => IsmCorrected {
+            number: refusal.number(),
+            place: refusal.place(),
+            ..beside
+        },
     }
 }

@@ -1,6 +1,6 @@
 -- Why the trial profile tells about the five numbers: its windows are in range, so that what is out of range is one of
 -- the five, at the same place, and its distances are theirs. Rests on no axiom.
-use Rattle.std.specs.Prelude.{Option, Some, None, is_some}
+use Rattle.std.specs.Prelude.{Option, Some, None, is_some, unwrap_or}
 use Prim.Native.Nat.{ℕ, suc, ◌≤◌}
 use mathlib.Core.Path.{◌≡◌, refl, ap, ◌∙◌}
 use mathlib.Core.Bool.{Bool, true, false, cond, not, true≢false}
@@ -9,7 +9,7 @@ use native.Mathlib.Omega.{arith}
 use Rattle.lists.specs.Place.{anywhere, lowest, passed}
 use Rattle.refusal.specs.Answer.{Answer, accepted, refused, refuse_if}
 use Rattle.timing.specs.Numbers.{ranges}
-use Rattle.timing.specs.Profile.{unset, swing, advance, delay, is_true, profile_rule, InRange}
+use Rattle.timing.specs.Profile.{unset, swing, advance, delay, is_true, profile_rule, lowest_unset, unset_place, InRange}
 use Rattle.timing.proofs.RangeLaws.{none_outside_all_inside}
 use Rattle.best.specs.Best.{writing_numbers, unset_of, InRangeOf, swing_of, advance_of, delay_of}
 use Rattle.best.specs.machine.Trial.{trial_of, lowest_unset_of}
@@ -67,12 +67,20 @@ lowest_of_five false false false true e = refl
 lowest_of_five false false false false true = refl
 lowest_of_five false false false false false = refl
 
-lowest_of_trial
-    : (w : Writing)
-    → cond (anywhere passed (unset (trial_of w))) (Some (suc (lowest passed (unset (trial_of w))))) None
-    ≡ lowest_unset_of w
-unfolding unset lowest_unset_of unset_of
-lowest_of_trial w = lowest_of_five _ _ _ _ _
+-- the trial profile's lowest number out of range is that of the five
+pub unset_of_trial : (w : Writing) → unset_place (trial_of w) ≡ lowest_unset_of w
+unfolding unset_place unset lowest_unset_of unset_of
+unset_of_trial w = lowest_of_five _ _ _ _ _
+
+place_or_none : (any : Bool) (place : ℕ) → cond any (suc place) 0 ≡ unwrap_or (cond any (Some (suc place)) None) 0
+place_or_none true place = refl
+place_or_none false place = refl
+
+-- the same with 0 for none
+pub lowest_of_trial : (w : Writing) → lowest_unset (trial_of w) ≡ unwrap_or (lowest_unset_of w) 0
+unfolding lowest_unset unset_place
+lowest_of_trial w =
+    place_or_none _ _ ∙ ap (λ (o : Option ℕ). unwrap_or o 0) (unset_of_trial w)
 
 some_is_not_none : {n : ℕ} → ◌≡◌ {A = Option ℕ} (Some n) None → ⊥
 some_is_not_none e = true≢false (ap is_some e)
@@ -112,10 +120,10 @@ pub place_of_unset
     : (w : Writing) (n k : ℕ)
     → refused n k ≡ profile_rule (trial_of w)
     → (n ≡ 1 → Some k ≡ lowest_unset_of w) × ((n ≡ 1 → ⊥) → None ≡ lowest_unset_of w)
-unfolding profile_rule
+unfolding profile_rule unset_place
 place_of_unset w n k e =
     let told = by_number (anywhere passed (unset (trial_of w))) (is_true (trial_of w)) _ n k e in
-    (λ one. told.0 one ∙ lowest_of_trial w, λ other. told.1 other ∙ lowest_of_trial w)
+    (λ one. told.0 one ∙ unset_of_trial w, λ other. told.1 other ∙ unset_of_trial w)
 
 by_acceptance
     : (any true_one : Bool) (place : ℕ)
@@ -125,6 +133,6 @@ by_acceptance true true_one place e = absurd (let q : ◌≡◌ {A = ℕ} 0 1 = 
 by_acceptance false true_one place e = refl
 
 pub no_place_if_accepted : (w : Writing) → accepted 0 ≡ profile_rule (trial_of w) → None ≡ lowest_unset_of w
-unfolding profile_rule
+unfolding profile_rule unset_place
 no_place_if_accepted w e =
-    by_acceptance (anywhere passed (unset (trial_of w))) (is_true (trial_of w)) _ e ∙ lowest_of_trial w
+    by_acceptance (anywhere passed (unset (trial_of w))) (is_true (trial_of w)) _ e ∙ unset_of_trial w

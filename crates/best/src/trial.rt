@@ -3,7 +3,6 @@ ghost use Rattle.std.specs.Prelude.{◌≡◌};
 ghost use Rattle.best.specs.machine.Trial.{trial_of, lowest_unset_of};
 
 use crate::Writing;
-use refusal::Refusal;
 use timing::{Bounds, Clocks, HalfClocks, Profile};
 
 // The five numbers with windows that are in range, so that `timing` can be asked about the five.
@@ -35,9 +34,11 @@ pub fn lowest_unset(w: Writing) -> Option<u32>
 {
     match timing::check(trial(w)) {
         Ok(()) => None,
-        Err(refusal) => match refusal {
-            Refusal::ProfileOutOfRange(which) => Some(which),
-            _ => None,
-        },
+        Err(refusal) => {
+            if refusal.number() == 1 {
+                return Some(refusal.place());
+            }
+            None
+        }
     }
 }

@@ -1,5 +1,5 @@
 -- Document 01, "FIFO and error register": the bit of each fault that the code names. No lemmas here.
-use Rattle.std.specs.Prelude.{ℕ, Option, Some, None}
+use Rattle.std.specs.Prelude.{ℕ}
 use Rattle.fifo.specs.Sides as sides
 use Rattle.fifo.specs.declared.steps.Fault.{Fault}
 use Rattle.fifo.specs.declared.steps.Fault.TheVariants.{Chip, Mark, Processor}
@@ -8,8 +8,3 @@ abbrev pub bit_of : Fault → ℕ
 bit_of Chip = sides.fault_bit sides.Chip
 bit_of Mark = sides.mark_bit
 bit_of Processor = sides.fault_bit sides.Processor
-
--- the bit of what may be no fault
-abbrev pub bit_if_any : Option Fault → ℕ
-bit_if_any (Some fault) = bit_of fault
-bit_if_any None = sides.no_bit

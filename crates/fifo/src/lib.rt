@@ -8,7 +8,7 @@ ghost use Rattle.fifo.specs.Rules.{Put, TakeData, TakeMark, ChipPut, ChipTake, R
 
 mod steps;
 
-use steps::Fault;
+use steps::{Fault, NO_FAULT};
 
 // Every value is a state, and the promises speak of states: what `first` or `second` holds while no item stands there
 // has no effect, before or after an operation. No `PartialEq` for that reason: values of one state may differ.
@@ -56,7 +56,7 @@ impl Fifo {
         ensures outcome { outcome_of result ≡ rule_of (Put item) (state_of self) }
     {
         if self.mode == 0 {
-            steps::append(self, item, Fault::Processor)
+            steps::append(self, item, u16::from(Fault::Processor))
         } else {
             steps::given(0, self)
         }
@@ -69,7 +69,7 @@ impl Fifo {
         if self.mode == 0 {
             steps::given(0, self)
         } else {
-            steps::shift(self, Fault::Processor, Some(Fault::Mark))
+            steps::shift(self, u16::from(Fault::Processor), u16::from(Fault::Mark))
         }
     }
 
@@ -80,7 +80,7 @@ impl Fifo {
         if self.mode == 0 {
             steps::given(0, self)
         } else {
-            steps::shift(self, Fault::Processor, None)
+            steps::shift(self, u16::from(Fault::Processor), NO_FAULT)
         }
     }
 
@@ -91,7 +91,7 @@ impl Fifo {
         if self.mode == 0 {
             steps::given(0, self)
         } else {
-            steps::append(self, item, Fault::Chip)
+            steps::append(self, item, u16::from(Fault::Chip))
         }
     }
 
@@ -100,7 +100,7 @@ impl Fifo {
         ensures outcome { outcome_of result ≡ rule_of ChipTake (state_of self) }
     {
         if self.mode == 0 {
-            steps::shift(self, Fault::Chip, None)
+            steps::shift(self, u16::from(Fault::Chip), NO_FAULT)
         } else {
             steps::given(0, self)
         }

@@ -70,10 +70,8 @@ fn check_words(words: &[u16]) -> Result<(), Refusal>
     if all_ruly(words) {
         return Ok(());
     }
-    match find_unruly(words) {
-        Some(k) => Err(Refusal::UnrulyWord(k as u32)),
-        None => Ok(()),
-    }
+    let k = find_unruly(words).unwrap_or(words.len());
+    Err(Refusal::UnrulyWord(k as u32))
 }
 
 // The candidates of words, from the front of the output on.

@@ -12,12 +12,12 @@ use timing::{Clocks, HalfClocks, Profile};
 fn point(p: Profile, before: bool, after: bool) -> Clocks
     ensures { result.0 ≡ Lengths.point p before after }
 {
-    if before {
-        if after { p.normal } else { p.early }
-    } else if after {
-        p.late
-    } else {
+    if before == after {
         p.normal
+    } else if before {
+        p.early
+    } else {
+        p.late
     }
 }
 

@@ -5,6 +5,7 @@
 pub use making::make_pages;
 pub use reading::{Pages, read_pages};
 
+mod copying;
 mod dots;
 mod making;
 mod reading;

@@ -4,7 +4,7 @@ ghost use Rattle.lists.specs.Filled.{stored_at};
 ghost use Rattle.sets.specs.Set.{sector_bytes};
 ghost use Rattle.page.specs.Making.{sector_of_page, made_set, make_answer, make_output, made_answer};
 
-use lists::store;
+use crate::copying::copy;
 use refusal::Refusal;
 use sets::SetSize;
 
@@ -16,7 +16,7 @@ fn put_sector(number: u8, page: &[u8], set: &mut [u8], start: usize)
     set[start] = number;
     set[start + 1] = 3;
     set[start + 2] = 1;
-    store(page, start + 3, set);
+    copy(page, start + 3, set);
     let behind = start + 1003;
     let end = behind + 24;
     set[behind..end].fill(0x00);

@@ -11,9 +11,9 @@ ghost use Rattle.page.specs.Page.{page_numbers};
 ghost use Rattle.page.specs.Reading.{lost_at, pages_in, dots_in, pages_rule, read_rule, read_answer, read_output};
 ghost use Rattle.page.specs.Reading.{handed_back};
 
+use crate::copying::copy;
 use crate::dots::count_dots;
 use crate::search::{lowest_lost, lowest_soiled};
-use lists::store;
 use refusal::{Refusal, Told};
 
 // Number and place of a refusal, 0 where there is none; how many pages were read and how many cells were stored; and
@@ -41,7 +41,7 @@ fn put_pages(set: &[u8], index: &[u16; 256], pages: usize, cells: &mut [u8], dot
     for k in 0..pages {
         let start = index[k + 1] as usize + 2;
         let end = start + 1000;
-        store(&set[start..end], 1000 * k, cells);
+        copy(&set[start..end], 1000 * k, cells);
         dots[k] = count_dots(&set[start..end]);
     }
 }

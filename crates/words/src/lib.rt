@@ -38,16 +38,11 @@ fn spread_word(previous: u16, byte: u16) -> u16
 
 // The same without the table, which is slow to copy where few words are asked for and large where all are. A mark's
 // word is chosen after the other is made: with no jump, so that the words of many bytes are made in vector
-// instructions.
+// instructions; and in two steps, as one `if` of three ends makes each C compiler slower, on marks or on few bytes.
 pub fn made_word(previous: u16, w: u16) -> u16
     ensures { result ≡ word_of (last_bit previous) w }
 {
-    let word = spread_word(previous % 2, w % 256);
-    if w == MARK_A1 {
-        WORD_A1
-    } else if w == MARK_C2 {
-        WORD_C2
-    } else {
-        word
-    }
+    let data = spread_word(previous % 2, w % 256);
+    let word = if w == MARK_C2 { WORD_C2 } else { data };
+    if w == MARK_A1 { WORD_A1 } else { word }
 }

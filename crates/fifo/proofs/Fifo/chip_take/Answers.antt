@@ -7,7 +7,7 @@ use Rattle.fifo.proofs.Fifo.chip_take.Goals as goal
 
 pub returns-then-self-eq0 : goal.returns-then-self-eq0
 unfolding take_rule mode_of
-returns-then-self-eq0 c = record { outcome = c.shift.ensures ∙ rw (eq-eqb _ 0 c.if-self-eq0.true) }
+returns-then-self-eq0 c = record { outcome = c.shift.ensures ∙ rw (c.from.ensures, eq-eqb _ 0 c.if-self-eq0.true) }
 
 pub returns-else-self-eq0 : goal.returns-else-self-eq0
 unfolding take_rule mode_of

@@ -7,7 +7,7 @@ use Rattle.fifo.proofs.Fifo.put.Goals as goal
 
 pub returns-then-self-eq0 : goal.returns-then-self-eq0
 unfolding put_rule mode_of
-returns-then-self-eq0 c = record { outcome = c.append.ensures ∙ rw (eq-eqb _ 0 c.if-self-eq0.true) }
+returns-then-self-eq0 c = record { outcome = c.append.ensures ∙ rw (c.from.ensures, eq-eqb _ 0 c.if-self-eq0.true) }
 
 pub returns-else-self-eq0 : goal.returns-else-self-eq0
 unfolding put_rule mode_of

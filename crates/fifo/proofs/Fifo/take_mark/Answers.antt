@@ -11,4 +11,4 @@ returns-then-self-eq0 c = record { outcome = c.given.ensures ∙ rw (eq-eqb _ 0 
 
 pub returns-else-self-eq0 : goal.returns-else-self-eq0
 unfolding take_rule mode_of
-returns-else-self-eq0 c = record { outcome = c.shift.ensures ∙ rw (ne_eqb _ 0 c.if-self-eq0.false) }
+returns-else-self-eq0 c = record { outcome = c.shift.ensures ∙ rw (c.from.ensures, ne_eqb _ 0 c.if-self-eq0.false) }

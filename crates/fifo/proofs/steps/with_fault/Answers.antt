@@ -5,7 +5,7 @@ use Rattle.fifo.proofs.steps.with_fault.Goals as goal
 
 pub returns-then-fifo-eq0 : goal.returns-then-fifo-eq0
 unfolding first_bit
-returns-then-fifo-eq0 c = rw (c.bit_if_any-bit.ensures, eq-eqb _ _ c.if-fifo-eq0.true)
+returns-then-fifo-eq0 c = rw (eq-eqb _ _ c.if-fifo-eq0.true)
 
 pub returns-else-fifo-eq0 : goal.returns-else-fifo-eq0
 unfolding first_bit

@@ -5,6 +5,7 @@ use mathlib.Core.Path.{refl, sym, ap, ◌∙◌}
 use native.Mathlib.Nat.{add-sub_cancel_left}
 use native.Mathlib.Numerals.{add-one}
 use native.Mathlib.Omega.{arith}
+use lib.ListN.{length-take, length-drop}
 use Rattle.lists.specs.Filled.{stored_at}
 use Rattle.lists.proofs.StoreLaws.{stored_none, stored_next}
 use Rattle.sets.specs.Set.{sectors_in}
@@ -24,11 +25,18 @@ loop-k-init c =
       ap (stored_at args.dots.now 0) (all_dots ss args.pages),
     )
 
-pub slice_bounds-store-end : goal.slice_bounds-store-end
-slice_bounds-store-end c =
+pub slice_bounds-copy-end : goal.slice_bounds-copy-end
+slice_bounds-copy-end c =
     let (byte, there) =
     stands_in_turn _ _ c.requires.0 c.requires.1 c.args.pages c.loop-k.k c.requires.2 c.requires.3 c.loop-k-test.true in
     omega (arith, there.ends)
+
+pub copy-requires : goal.copy-requires
+copy-requires c =
+    let (byte, there) =
+    stands_in_turn _ _ c.requires.0 c.requires.1 c.args.pages c.loop-k.k c.requires.2 c.requires.3 c.loop-k-test.true in
+    rw (add-sub_cancel_left, length-take, length-drop)
+    (omega (arith, c.requires.4, c.loop-k.invariant.0, c.loop-k-test.true, there.ends))
 
 pub loop-k-preserved : goal.loop-k-preserved
 loop-k-preserved c =
@@ -43,11 +51,11 @@ loop-k-preserved c =
     let page = cells_there _ _ c.requires.0 c.requires.1 (k + 1) byte in_sector in
     let size = rw add-one at (cells_count _ _ c.requires.0 c.requires.1 (k + 1) byte in_sector) in
     let copied =
-    rw (add-sub_cancel_left, ← page) at c.store.ensures
+    rw (add-sub_cancel_left, ← page) at c.copy.ensures
     ∙ ap (λ (n : ℕ). stored_at turn.cells (1000 * k) (page_at ss n)) (add-one k) in
     let counted =
     rw (add-sub_cancel_left, ← page) at c.count_dots.ensures ∙ ap (λ (n : ℕ). dots_of (page_at ss n)) (add-one k) in (
-      c.store.auto.out ∙ turn.invariant.0,
+      c.copy.auto.out ∙ turn.invariant.0,
       rw add-one (stored_next (page_at ss (suc k)) (cells_after ss pages (suc k)) _ _ _ _ copied (omega (arith, size))
           ∙ sym (ap (stored_at turn.cells (1000 * k)) (cells_here ss pages k inside))
           ∙ turn.invariant.1),
